@@ -1,0 +1,38 @@
+-- An answer's number and place as the paper has them, and the order of rows: the first refusal met is the answer.
+use Prim.Native.Nat.{ℕ, _+_, _*_}
+use mathlib.Core.Bool.{Bool, true, false}
+use Rattle.answer.specs.declared.Answer.{Answer}
+use Rattle.answer.specs.declared.Answer.the-variants.{Good, Refused}
+
+infixl 20 _>>=_
+-- what follows, if nothing is refused before it
+unfoldable pub _>>=_ : Answer → (ℕ → Answer) → Answer
+Good n >>= k = k n
+Refused n p >>= k = Refused n p
+
+-- a row of the refusal table: its test, number and place
+unfoldable pub refuse : Bool → ℕ → ℕ → Answer
+refuse true n p = Refused n p
+refuse false n p = Good 0
+
+unfoldable pub isRefused : Answer → Bool
+isRefused (Good n) = false
+isRefused (Refused n p) = true
+
+unfoldable pub valueOf : Answer → ℕ
+valueOf (Good n) = n
+valueOf (Refused n p) = 0
+
+-- the number that a call returns: 0 is success
+unfoldable pub number : Answer → ℕ
+number (Good n) = 0
+number (Refused n p) = n
+
+-- the place that a call returns
+unfoldable pub place : Answer → ℕ
+place (Good n) = n
+place (Refused n p) = p
+
+-- the two as C has them: number times 2^48, plus place
+unfoldable pub packed : Answer → ℕ
+packed a = number a * 281474976710656 + place a

@@ -1,0 +1,4 @@
+-- The answer of a job, how rows of the refusal table follow each other, and laws of both.
+pub mod Answer
+pub mod Laws
+pub mod Walk

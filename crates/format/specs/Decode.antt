@@ -1,0 +1,49 @@
+-- What a book of good form holds, as values: its transitions in file order. Decoding is total, and means something where looking over is good.
+use Prim.Native.Nat.{ℕ, zero, suc, _+_, _*_}
+use mathlib.Core.List.{List, [], _∷_, _++_}
+use Rattle.input.specs.Bytes.{byteAt, two}
+use Rattle.terms.specs.declared.Sections.{Sections}
+use Rattle.terms.specs.declared.Fact.{Fact}
+use Rattle.terms.specs.declared.Step.{Step}
+use Rattle.terms.specs.Facts.{factAt}
+use Rattle.terms.specs.Steps.{stepAt}
+use Rattle.format.specs.Limits.{headSize, factSize, stepSize}
+use Rattle.format.specs.Records.{objectsIn, stepsIn, lengthIn}
+
+unfoldable pub factsAt : List ℕ → ℕ → ℕ → List Fact
+factsAt s zero at = []
+factsAt s (suc n) at = factAt s at ∷ factsAt s n (at + factSize)
+
+-- what a state's bytes read as, and where they end
+unfoldable pub stateAt : List ℕ → ℕ → List Fact
+stateAt s at = factsAt s (two s at) (at + 2)
+
+unfoldable pub stateEnd : List ℕ → ℕ → ℕ
+stateEnd s at = at + 2 + factSize * two s at
+
+-- a step as filed: its offset, and the facts that hold before and after it
+pub record Filed : Type 0 where
+  pub place : ℕ
+  pub step : Step
+  pub pre : List Fact
+  pub post : List Fact
+
+-- a number of steps behind the state at an offset
+unfoldable pub filedAt : List ℕ → ℕ → ℕ → List Filed
+filedAt s zero at = []
+filedAt s (suc n) at =
+    let place = stateEnd s at in
+    let next = place + stepSize in
+    record { place = place; step = stepAt s place; pre = stateAt s at; post = stateAt s next } ∷ filedAt s n next
+
+-- the steps of one record (trajectory)
+unfoldable pub recordFiled : List ℕ → ℕ → List Filed
+recordFiled s at = filedAt s (stepsIn s at) (at + headSize + objectsIn s at)
+
+unfoldable pub recordsFiled : List ℕ → ℕ → ℕ → List Filed
+recordsFiled s zero at = []
+recordsFiled s (suc n) at = recordFiled s at ++ recordsFiled s n (at + lengthIn s at)
+
+-- all steps of a book
+unfoldable pub filed : Sections → List ℕ → List Filed
+filed h s = recordsFiled s (h .records .count) (h .records .at)

@@ -1,0 +1,73 @@
+-- Rows 1 to 5: the length, the header, the relations and the moves of a book.
+use Prim.Native.Nat.{ℕ, _+_, _*_}
+use mathlib.Core.Bool.{Bool, _&&_, _||_, not}
+use mathlib.Core.List.{List}
+use lib.ListN.{length}
+use lib.Dec.{eqb, ltb, leb}
+use Rattle.answer.specs.declared.Answer.{Answer}
+use Rattle.answer.specs.declared.Answer.the-variants.{Good}
+use Rattle.answer.specs.Answer.{_>>=_, refuse}
+use Rattle.answer.specs.Walk.{walk}
+use Rattle.input.specs.Bytes.{byteAt}
+use Rattle.terms.specs.declared.Sections.{Sections}
+use Rattle.terms.specs.Schema.{numberBad}
+use Rattle.format.specs.Limits.{headerSize, maxLength, maxKinds, maxRelations, maxMoves, maxRecords, relationSize, moveSize, maxPlaces, maxParams}
+
+unfoldable pub lengthBad : List ℕ → Bool
+lengthBad s = ltb (length s) headerSize || ltb maxLength (length s)
+
+unfoldable pub countsBad : Sections → Bool
+countsBad h =
+    ltb maxKinds (h .kinds)
+    || ltb maxRelations (h .relations .count)
+    || ltb maxMoves (h .moves .count)
+    || ltb maxRecords (h .records .count)
+
+-- the sections touch, the end is the length, and the records begin at or before it
+unfoldable pub offsetsBad : Sections → ℕ → Bool
+offsetsBad h size =
+    not (eqb (h .relations .at) headerSize)
+    || not (eqb (h .moves .at) (h .relations .at + relationSize * h .relations .count))
+    || not (eqb (h .records .at) (h .moves .at + moveSize * h .moves .count))
+    || not (eqb (h .end) size)
+    || ltb (h .end) (h .records .at)
+
+-- a kind byte of a relation or a move: a kind where it is used, 0 where it is not
+unfoldable pub kindBad : List ℕ → ℕ → ℕ → Bool → Bool
+kindBad s kinds i used = used && numberBad kinds (byteAt s i) || not used && not (eqb (byteAt s i) 0)
+
+unfoldable pub relationBad : List ℕ → ℕ → ℕ → Bool
+relationBad s kinds at =
+    ltb maxPlaces (byteAt s at)
+    || kindBad s kinds (at + 1) (leb 1 (byteAt s at))
+    || kindBad s kinds (at + 2) (leb 2 (byteAt s at))
+    || not (eqb (byteAt s (at + 3)) 0)
+
+unfoldable pub moveBad : List ℕ → ℕ → ℕ → Bool
+moveBad s kinds at =
+    ltb maxParams (byteAt s at)
+    || kindBad s kinds (at + 1) (leb 1 (byteAt s at))
+    || kindBad s kinds (at + 2) (leb 2 (byteAt s at))
+    || kindBad s kinds (at + 3) (leb 3 (byteAt s at))
+    || kindBad s kinds (at + 4) (leb 4 (byteAt s at))
+    || not (eqb (byteAt s (at + 5)) 0)
+
+-- one relation, one move: where the next one starts
+unfoldable pub relation : List ℕ → ℕ → ℕ → Answer
+relation s kinds at = do
+  _ ← refuse (relationBad s kinds at) 4 at
+  Good (at + relationSize)
+
+unfoldable pub move : List ℕ → ℕ → ℕ → Answer
+move s kinds at = do
+  _ ← refuse (moveBad s kinds at) 5 at
+  Good (at + moveSize)
+
+-- rows 1 to 5
+unfoldable pub sections : Sections → List ℕ → Answer
+sections h s = do
+  _ ← refuse (lengthBad s) 1 0
+  _ ← refuse (countsBad h) 2 0
+  _ ← refuse (offsetsBad h (length s)) 3 0
+  _ ← walk (relation s (h .kinds)) (h .relations .count) (h .relations .at)
+  walk (move s (h .kinds)) (h .moves .count) (h .moves .at)

@@ -1,0 +1,28 @@
+-- Looking over a book: rows 1 to 10, and the count of all steps.
+use Prim.Native.Nat.{ℕ, zero, suc, _+_}
+use mathlib.Core.List.{List}
+use lib.ListN.{length}
+use lib.Dec.{ltb}
+use Rattle.answer.specs.declared.Answer.{Answer}
+use Rattle.answer.specs.declared.Answer.the-variants.{Good}
+use Rattle.answer.specs.Answer.{_>>=_, refuse}
+use Rattle.answer.specs.Walk.{walk}
+use Rattle.terms.specs.declared.Sections.{Sections}
+use Rattle.terms.specs.Sections.{sectionsOf}
+use Rattle.format.specs.Header.{sections}
+use Rattle.format.specs.Records.{stepsIn, lengthIn, recordAt}
+
+-- the sum of the step counts filed in a number of records from an offset
+unfoldable pub stepTotal : List ℕ → ℕ → ℕ → ℕ
+stepTotal s zero at = 0
+stepTotal s (suc n) at = stepsIn s at + stepTotal s n (at + lengthIn s at)
+
+unfoldable pub lookOverBy : Sections → List ℕ → Answer
+lookOverBy h s = do
+  _ ← sections h s
+  last ← walk (recordAt h s) (h .records .count) (h .records .at)
+  _ ← refuse (ltb last (length s)) 6 last
+  Good (stepTotal s (h .records .count) (h .records .at))
+
+unfoldable pub lookOver : List ℕ → Answer
+lookOver s = lookOverBy (sectionsOf s) s

@@ -1,0 +1,111 @@
+-- Rows 14 to 18: an order, and what a good one holds. `h` and `s` are the book's.
+use Prim.Native.Nat.{ℕ, zero, suc, _+_, _*_}
+use mathlib.Core.Bool.{Bool, _||_, not}
+use mathlib.Core.List.{List, [], _∷_}
+use lib.ListN.{length}
+use lib.Dec.{eqb, ltb}
+use Rattle.answer.specs.declared.Answer.{Answer}
+use Rattle.answer.specs.declared.Answer.the-variants.{Good}
+use Rattle.answer.specs.Answer.{_>>=_, refuse}
+use Rattle.answer.specs.Walk.{walk}
+use Rattle.input.specs.Bytes.{byteAt, two}
+use Rattle.terms.specs.declared.Sections.{Sections}
+use Rattle.terms.specs.declared.Objects.{Objects}
+use Rattle.terms.specs.declared.Fact.{Fact}
+use Rattle.terms.specs.declared.Step.{Step}
+use Rattle.terms.specs.Schema.{Schema, Hall, schema, hall, numberBad}
+use Rattle.terms.specs.Facts.{factAt, factBad, precedes, noFact}
+use Rattle.terms.specs.Steps.{stepAt, stepBad, repeats}
+use Rattle.format.specs.Limits.{headerSize, maxObjects, maxFacts, maxEntries, maxSteps, factSize, entrySize, stepSize}
+use Rattle.format.specs.States.{facts}
+use Rattle.format.specs.Decode.{factsAt}
+
+-- the header: counts and offsets of objects, start facts, goal entries, steps
+unfoldable pub objectCount : List ℕ → ℕ
+objectCount o = two o 0
+
+unfoldable pub startCount : List ℕ → ℕ
+startCount o = two o 2
+
+unfoldable pub goalCount : List ℕ → ℕ
+goalCount o = two o 4
+
+unfoldable pub stepCount : List ℕ → ℕ
+stepCount o = two o 6
+
+unfoldable pub startAt : List ℕ → ℕ
+startAt o = headerSize + objectCount o
+
+unfoldable pub goalAt : List ℕ → ℕ
+goalAt o = startAt o + factSize * startCount o
+
+unfoldable pub stepsAt : List ℕ → ℕ
+stepsAt o = goalAt o + entrySize * goalCount o
+
+unfoldable pub orderCountsBad : List ℕ → Bool
+orderCountsBad o =
+    ltb maxObjects (objectCount o) || ltb maxFacts (startCount o) || ltb maxEntries (goalCount o) || ltb maxSteps (stepCount o)
+
+unfoldable pub orderOffsetsBad : List ℕ → Bool
+orderOffsetsBad o =
+    not (eqb (two o 8) headerSize)
+    || not (eqb (two o 10) (startAt o))
+    || not (eqb (two o 12) (goalAt o))
+    || not (eqb (two o 14) (stepsAt o))
+    || not (eqb (length o) (stepsAt o + stepSize * stepCount o))
+
+unfoldable pub orderObjects : List ℕ → Objects
+orderObjects o = record { count = objectCount o; at = headerSize }
+
+-- row 15
+unfoldable pub orderObject : ℕ → List ℕ → ℕ → Answer
+orderObject kinds o at = do
+  _ ← refuse (numberBad kinds (byteAt o at)) 15 at
+  Good (at + 1)
+
+-- row 17: a byte 1 or 0, then a fact behind the one of the entry before
+unfoldable pub entryBad : Schema → Hall → List ℕ → Fact → ℕ → Bool
+entryBad sch hl o last at = ltb 1 (byteAt o at) || factBad sch hl (factAt o (at + 1)) || not (precedes last (factAt o (at + 1)))
+
+unfoldable pub entries : Schema → Hall → List ℕ → ℕ → Fact → ℕ → Answer
+entries sch hl o zero last at = Good at
+entries sch hl o (suc n) last at = do
+  _ ← refuse (entryBad sch hl o last at) 17 at
+  entries sch hl o n (factAt o (at + 1)) (at + entrySize)
+
+-- row 18
+unfoldable pub planStep : Schema → Hall → List ℕ → ℕ → Answer
+planStep sch hl o at = do
+  _ ← refuse (stepBad sch hl (stepAt o at) || repeats (stepAt o at)) 18 at
+  Good (at + stepSize)
+
+-- rows 14 to 18; the end of the order is good
+unfoldable pub orderForm : Schema → List ℕ → Answer
+orderForm sch o = do
+  _ ← refuse (ltb (length o) headerSize || orderCountsBad o || orderOffsetsBad o) 14 0
+  _ ← walk (orderObject (sch .kinds) o) (objectCount o) headerSize
+  _ ← facts 16 sch (hall (orderObjects o) o) o (length o) (startCount o) noFact (startAt o)
+  _ ← entries sch (hall (orderObjects o) o) o (goalCount o) noFact (goalAt o)
+  walk (planStep sch (hall (orderObjects o) o) o) (stepCount o) (stepsAt o)
+
+-- what a good order holds: the start facts, the goal entries, the plan
+unfoldable pub startFacts : List ℕ → List Fact
+startFacts o = factsAt o (startCount o) (startAt o)
+
+pub record GoalEntry : Type 0 where
+  pub wanted : Bool
+  pub fact : Fact
+
+unfoldable pub goalFrom : List ℕ → ℕ → ℕ → List GoalEntry
+goalFrom o zero at = []
+goalFrom o (suc n) at = record { wanted = eqb (byteAt o at) 1; fact = factAt o (at + 1) } ∷ goalFrom o n (at + entrySize)
+
+unfoldable pub goal : List ℕ → List GoalEntry
+goal o = goalFrom o (goalCount o) (goalAt o)
+
+unfoldable pub planFrom : List ℕ → ℕ → ℕ → List Step
+planFrom o zero at = []
+planFrom o (suc n) at = stepAt o at ∷ planFrom o n (at + stepSize)
+
+unfoldable pub plan : List ℕ → List Step
+plan o = planFrom o (stepCount o) (stepsAt o)

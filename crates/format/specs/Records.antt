@@ -1,0 +1,72 @@
+-- Rows 6 to 10: the records of a book, in file order, each to its end.
+use Prim.Native.Nat.{ℕ, zero, suc, _+_}
+use mathlib.Core.Bool.{Bool, _||_}
+use mathlib.Core.List.{List}
+use lib.ListN.{length}
+use lib.Dec.{ltb}
+use Rattle.answer.specs.declared.Answer.{Answer}
+use Rattle.answer.specs.declared.Answer.the-variants.{Good}
+use Rattle.answer.specs.Answer.{_>>=_, refuse}
+use Rattle.answer.specs.Walk.{walk}
+use Rattle.input.specs.Bytes.{byteAt, two}
+use Rattle.terms.specs.declared.Sections.{Sections}
+use Rattle.terms.specs.declared.Objects.{Objects}
+use Rattle.terms.specs.Schema.{Schema, Hall, schema, hall, numberBad}
+use Rattle.terms.specs.Steps.{stepAt, stepBad, repeats}
+use Rattle.format.specs.Limits.{headSize, maxObjects, maxSteps, stepSize}
+use Rattle.format.specs.States.{cut, state}
+
+-- a record's head: object count, step count, length
+unfoldable pub objectsIn : List ℕ → ℕ → ℕ
+objectsIn s at = byteAt s at
+
+unfoldable pub stepsIn : List ℕ → ℕ → ℕ
+stepsIn s at = byteAt s (at + 1)
+
+unfoldable pub lengthIn : List ℕ → ℕ → ℕ
+lengthIn s at = two s (at + 2)
+
+unfoldable pub headBad : List ℕ → ℕ → Bool
+headBad s at =
+    cut (length s) at headSize
+    || ltb maxObjects (objectsIn s at)
+    || ltb maxSteps (stepsIn s at)
+    || ltb (lengthIn s at) headSize
+    || cut (length s) at (lengthIn s at)
+
+-- row 7
+unfoldable pub object : ℕ → List ℕ → ℕ → ℕ → Answer
+object kinds s end at = do
+  _ ← refuse (cut end at 1 || numberBad kinds (byteAt s at)) 7 at
+  Good (at + 1)
+
+-- rows 9 and 10, then row 8 for the state after the step
+unfoldable pub step : Schema → Hall → List ℕ → ℕ → ℕ → Answer
+step sch hl s end at = do
+  _ ← refuse (cut end at stepSize || stepBad sch hl (stepAt s at)) 9 at
+  _ ← refuse (repeats (stepAt s at)) 10 at
+  state sch hl s end (at + stepSize)
+
+-- the objects of the record at an offset
+unfoldable pub objectsOf : List ℕ → ℕ → Objects
+objectsOf s at = record { count = objectsIn s at; at = at + headSize }
+
+-- the part of a record behind its objects: a state, then steps each with the state after it
+unfoldable pub trajectory : Schema → Hall → List ℕ → ℕ → ℕ → ℕ → Answer
+trajectory sch hl s end n at = do
+  next ← state sch hl s end at
+  walk (step sch hl s end) n next
+
+-- a record whose head is right: its objects, its trajectory, and no bytes left
+unfoldable pub body : Sections → List ℕ → ℕ → ℕ → Answer
+body h s at end = do
+  first ← walk (object (h .kinds) s end) (objectsIn s at) (at + headSize)
+  last ← trajectory (schema h s) (hall (objectsOf s at) s) s end (stepsIn s at) first
+  _ ← refuse (ltb last end) 6 at
+  Good end
+
+-- one record: where the next one starts
+unfoldable pub recordAt : Sections → List ℕ → ℕ → Answer
+recordAt h s at = do
+  _ ← refuse (headBad s at) 6 at
+  body h s at (at + lengthIn s at)

@@ -1,0 +1,5 @@
+-- What the bytes of a book and an order say, item by item: sections, typed numbers, facts, steps, and whether each is right.
+pub mod Sections
+pub mod Schema
+pub mod Facts
+pub mod Steps

@@ -1,0 +1,63 @@
+-- The relations and moves of a book as a planning schema: which kinds their places and parameters have, and what suits them.
+use Prim.Native.Nat.{ℕ, _+_, _-_, _*_}
+use mathlib.Core.Bool.{Bool, _&&_, _||_, not}
+use mathlib.Core.List.{List}
+use lib.Dec.{eqb, ltb}
+use Rattle.input.specs.Bytes.{byteAt}
+use Rattle.terms.specs.declared.Param.{Param}
+use Rattle.terms.specs.declared.Object.{Object}
+use Rattle.terms.specs.declared.Relation.{Relation}
+use Rattle.terms.specs.declared.Move.{Move}
+use Rattle.terms.specs.declared.Sections.{Sections}
+use Rattle.terms.specs.declared.Objects.{Objects}
+
+-- a number that counts from 1, over its count
+unfoldable pub numberBad : ℕ → ℕ → Bool
+numberBad count n = ltb n 1 || ltb count n
+
+-- kinds (types of objects), relations (predicates) with the kinds of their places, moves (action schemas) with the kinds of their parameters
+pub record Schema : Type 0 where
+  pub kinds : ℕ
+  pub relations : ℕ
+  pub moves : ℕ
+  pub places : Relation → ℕ
+  pub placeKind : Relation → ℕ → ℕ
+  pub params : Move → ℕ
+  pub paramKind : Move → Param → ℕ
+
+-- where a relation and a move stand
+unfoldable pub relationAt : Sections → Relation → ℕ
+relationAt h r = h .relations .at + 4 * (r .0 - 1)
+
+unfoldable pub moveAt : Sections → Move → ℕ
+moveAt h m = h .moves .at + 6 * (m .0 - 1)
+
+-- places count from 1
+unfoldable pub schema : Sections → List ℕ → Schema
+schema h s =
+    record {
+      kinds = h .kinds;
+      relations = h .relations .count;
+      moves = h .moves .count;
+      places = λ r. byteAt s (relationAt h r);
+      placeKind = λ r i. byteAt s (relationAt h r + i);
+      params = λ m. byteAt s (moveAt h m);
+      paramKind = λ m p. byteAt s (moveAt h m + p .0);
+    }
+
+-- the objects of a record or an order, with their kinds
+pub record Hall : Type 0 where
+  pub count : ℕ
+  pub kind : Object → ℕ
+
+unfoldable pub hall : Objects → List ℕ → Hall
+hall o s = record { count = o .count; kind = λ x. byteAt s (o .at + (x .0 - 1)) }
+
+-- whether a kind suits a place or a parameter of the kind named
+unfoldable pub kindSuits : Schema → ℕ → ℕ → Bool
+kindSuits sch named kind = eqb kind named
+
+-- what stands where an object of the kind named belongs is wrong: a used place has an object's number, of a kind that suits; an unused one has 0
+unfoldable pub objectBad : Schema → Hall → Bool → ℕ → Object → Bool
+objectBad sch hl used named x =
+    used && (numberBad (hl .count) (x .0) || not (kindSuits sch named (hl .kind x))) || not used && not (eqb (x .0) 0)
