@@ -1,0 +1,37 @@
+-- Adding a record to a book, and what the lent output holds afterwards.
+use Prim.Native.Nat.{ℕ, _+_, _/_, _%_}
+use mathlib.Core.List.{List, [], _∷_, _++_}
+use lib.ListN.{length, take, drop}
+use lib.Dec.{ltb}
+use Rattle.answer.specs.declared.Answer.{Answer}
+use Rattle.answer.specs.declared.Answer.the-variants.{Good}
+use Rattle.answer.specs.Answer.{_>>=_, refuse}
+use Rattle.terms.specs.Sections.{sectionsOf}
+use Rattle.format.specs.Limits.{maxLength}
+use Rattle.format.specs.LookOver.{lookOver}
+use Rattle.jobs.specs.Learn.{kept}
+
+-- a two-byte number, high byte first
+unfoldable pub twoBytes : ℕ → List ℕ
+twoBytes n = n / 256 % 256 ∷ n % 256 ∷ []
+
+-- the old book with the record's bytes behind it, record count (bytes 6 and 7) and end (14 and 15) renewed
+unfoldable pub added : List ℕ → List ℕ → List ℕ
+added s r =
+    take 6 s
+    ++ twoBytes (sectionsOf s .records .count + 1)
+    ++ take 6 (drop 8 s)
+    ++ twoBytes (length s + length r)
+    ++ drop 16 s
+    ++ r
+
+unfoldable pub add : List ℕ → List ℕ → ℕ → Answer
+add s r size = do
+  _ ← lookOver s
+  _ ← refuse (ltb maxLength (length s + length r)) 1 0
+  _ ← lookOver (added s r)
+  _ ← refuse (ltb size (length s + length r)) 13 0
+  Good (length s + length r)
+
+unfoldable pub addBytes : List ℕ → List ℕ → List ℕ → List ℕ
+addBytes s r out = kept (add s r (length out)) (added s r ++ drop (length s + length r) out) out

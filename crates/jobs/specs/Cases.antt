@@ -1,0 +1,209 @@
+-- The marked cases M1 to M10 of the paper and its limits, as one list of what the definitions give and what the paper says,
+-- covered by one theorem that the checker computes. What no single list of bytes of manageable size shows is a law below it.
+use Prim.Native.Nat.{ℕ, zero, suc, _+_, _*_, _/_, _%_, _≤_, _<_}
+use mathlib.Core.Path.{_≡_, refl}
+use mathlib.Core.Bool.{Bool, true, false, cond, _||_, or-true}
+use mathlib.Core.List.{List, [], _∷_, _++_, map}
+use lib.ListN.{length, take, replicate}
+use lib.Dec.{eqb}
+use borrow.Author.Tests.{le-ltb, lt-ltb}
+use Rattle.answer.specs.declared.Answer.{Answer}
+use Rattle.answer.specs.declared.Answer.the-variants.{Refused}
+use Rattle.answer.specs.Answer.{_>>=_, refuse, number, place}
+use Rattle.answer.specs.Walk.{walk}
+use Rattle.input.specs.Bytes.{byteAt, two}
+use Rattle.terms.specs.Sections.{sectionsOf}
+use Rattle.terms.specs.Schema.{numberBad, relationAt, moveAt, schema, hall, kindSuits, objectBad}
+use Rattle.terms.specs.Facts.{factAt, factBad, precedes, noFact, factNumber}
+use Rattle.terms.specs.Steps.{objectOf, stepAt, argumentBad, stepBad, samePair, repeats, atomRelation, atomFirst, atomSecond, parameterFills, isAtom, placed, ground}
+use Rattle.format.specs.Header.{lengthBad, countsBad, offsetsBad, kindBad, relationBad, moveBad, relation, move, sections}
+use Rattle.format.specs.States.{cut, countBad, factRefused, facts, state}
+use Rattle.format.specs.Records.{objectsIn, stepsIn, lengthIn, headBad, object, step, objectsOf, trajectory, body, recordAt}
+use Rattle.format.specs.LookOver.{stepTotal, lookOverBy, lookOver}
+use Rattle.format.specs.Decode.{factsAt, stateAt, stateEnd, filedAt, recordFiled, recordsFiled, filed}
+use Rattle.format.specs.Order.{objectCount, startCount, goalCount, stepCount, startAt, goalAt, stepsAt, orderCountsBad, orderOffsetsBad, orderObjects, orderObject, entryBad, entries, planStep, orderForm, startFacts, goalFrom, goal, planFrom, plan}
+use Rattle.mask.specs.Sets.{maskOf}
+use Rattle.model.specs.Quantify.{same, below, any, has, later, first, least}
+use Rattle.model.specs.Model.{image, stuck, next, run}
+use Rattle.model.specs.Judge.{wrong}
+use Rattle.model.specs.Learned.{saw, before, after, turned, learned, stray, torn}
+use Rattle.jobs.specs.Planning.{domain, holding, groundAction, transition, goalEntry, schemaOf, filedIn, transitionsOf, startState, planOf, goalOf}
+use Rattle.jobs.specs.Learn.{strays, tornAnswer, tornMove, learnable, ruleRow, ruleRows, learnedFrom, ruleSheet, learn, kept, learnBytes}
+use Rattle.jobs.specs.Check.{planRun, goalAnswer, runAnswer, check, endSheet, checkBytes}
+use Rattle.jobs.specs.Add.{twoBytes, added, add, addBytes}
+use Rattle.jobs.specs.Listing.{digits, decimal, refusedLine, needLetter, effectLetter, shown, atomLine, atomLines, moveLines, rulesLines, rulesPrinted, planLine, planPrinted}
+use Rattle.model.specs.Model.{Run, stopped, ended}
+
+-- the small hall
+abbrev book : List ℕ
+book =
+    0x00 ∷ 0x02 ∷ 0x00 ∷ 0x02 ∷ 0x00 ∷ 0x01 ∷ 0x00 ∷ 0x01 ∷ 0x00 ∷ 0x10 ∷ 0x00 ∷ 0x18
+    ∷ 0x00 ∷ 0x1e ∷ 0x00 ∷ 0x3a ∷ 0x02 ∷ 0x01 ∷ 0x02 ∷ 0x00 ∷ 0x01 ∷ 0x02 ∷ 0x00 ∷ 0x00
+    ∷ 0x03 ∷ 0x01 ∷ 0x02 ∷ 0x02 ∷ 0x00 ∷ 0x00 ∷ 0x03 ∷ 0x01 ∷ 0x00 ∷ 0x1c ∷ 0x01 ∷ 0x02
+    ∷ 0x02 ∷ 0x00 ∷ 0x02 ∷ 0x01 ∷ 0x01 ∷ 0x02 ∷ 0x02 ∷ 0x03 ∷ 0x00 ∷ 0x01 ∷ 0x01 ∷ 0x02
+    ∷ 0x03 ∷ 0x00 ∷ 0x00 ∷ 0x02 ∷ 0x01 ∷ 0x01 ∷ 0x03 ∷ 0x02 ∷ 0x02 ∷ 0x00 ∷ []
+
+-- M6: record count 0 and end 30, the record left out
+abbrev book6 : List ℕ
+book6 =
+    0x00 ∷ 0x02 ∷ 0x00 ∷ 0x02 ∷ 0x00 ∷ 0x01 ∷ 0x00 ∷ 0x00 ∷ 0x00 ∷ 0x10 ∷ 0x00 ∷ 0x18
+    ∷ 0x00 ∷ 0x1e ∷ 0x00 ∷ 0x1e ∷ 0x02 ∷ 0x01 ∷ 0x02 ∷ 0x00 ∷ 0x01 ∷ 0x02 ∷ 0x00 ∷ 0x00
+    ∷ 0x03 ∷ 0x01 ∷ 0x02 ∷ 0x02 ∷ 0x00 ∷ 0x00 ∷ []
+
+-- M7: no relations, one move of no parameters, no records
+abbrev book7 : List ℕ
+book7 =
+    0x00 ∷ 0x00 ∷ 0x00 ∷ 0x00 ∷ 0x00 ∷ 0x01 ∷ 0x00 ∷ 0x00 ∷ 0x00 ∷ 0x10 ∷ 0x00 ∷ 0x10
+    ∷ 0x00 ∷ 0x16 ∷ 0x00 ∷ 0x16 ∷ 0x00 ∷ 0x00 ∷ 0x00 ∷ 0x00 ∷ 0x00 ∷ 0x00 ∷ []
+
+-- M9: a second record, the same as the first but for an empty last state
+abbrev book9 : List ℕ
+book9 =
+    0x00 ∷ 0x02 ∷ 0x00 ∷ 0x02 ∷ 0x00 ∷ 0x01 ∷ 0x00 ∷ 0x02 ∷ 0x00 ∷ 0x10 ∷ 0x00 ∷ 0x18
+    ∷ 0x00 ∷ 0x1e ∷ 0x00 ∷ 0x50 ∷ 0x02 ∷ 0x01 ∷ 0x02 ∷ 0x00 ∷ 0x01 ∷ 0x02 ∷ 0x00 ∷ 0x00
+    ∷ 0x03 ∷ 0x01 ∷ 0x02 ∷ 0x02 ∷ 0x00 ∷ 0x00 ∷ 0x03 ∷ 0x01 ∷ 0x00 ∷ 0x1c ∷ 0x01 ∷ 0x02
+    ∷ 0x02 ∷ 0x00 ∷ 0x02 ∷ 0x01 ∷ 0x01 ∷ 0x02 ∷ 0x02 ∷ 0x03 ∷ 0x00 ∷ 0x01 ∷ 0x01 ∷ 0x02
+    ∷ 0x03 ∷ 0x00 ∷ 0x00 ∷ 0x02 ∷ 0x01 ∷ 0x01 ∷ 0x03 ∷ 0x02 ∷ 0x02 ∷ 0x00 ∷ 0x03 ∷ 0x01
+    ∷ 0x00 ∷ 0x16 ∷ 0x01 ∷ 0x02 ∷ 0x02 ∷ 0x00 ∷ 0x02 ∷ 0x01 ∷ 0x01 ∷ 0x02 ∷ 0x02 ∷ 0x03
+    ∷ 0x00 ∷ 0x01 ∷ 0x01 ∷ 0x02 ∷ 0x03 ∷ 0x00 ∷ 0x00 ∷ 0x00 ∷ []
+
+-- The orders have bank 1 and spots 2, 3, 4, the bank at 2, spots 3 and 4 clear, if not said otherwise.
+
+-- roll 1 2 3, roll 1 3 4; goal bank at 4
+abbrev order2 : List ℕ
+order2 =
+    0x00 ∷ 0x04 ∷ 0x00 ∷ 0x03 ∷ 0x00 ∷ 0x01 ∷ 0x00 ∷ 0x02 ∷ 0x00 ∷ 0x10 ∷ 0x00 ∷ 0x14
+    ∷ 0x00 ∷ 0x1d ∷ 0x00 ∷ 0x21 ∷ 0x01 ∷ 0x02 ∷ 0x02 ∷ 0x02 ∷ 0x01 ∷ 0x01 ∷ 0x02 ∷ 0x02
+    ∷ 0x03 ∷ 0x00 ∷ 0x02 ∷ 0x04 ∷ 0x00 ∷ 0x01 ∷ 0x01 ∷ 0x01 ∷ 0x04 ∷ 0x01 ∷ 0x01 ∷ 0x02
+    ∷ 0x03 ∷ 0x00 ∷ 0x01 ∷ 0x01 ∷ 0x03 ∷ 0x04 ∷ 0x00 ∷ []
+
+-- the same, with spot 2 also clear at the start
+abbrev order3 : List ℕ
+order3 =
+    0x00 ∷ 0x04 ∷ 0x00 ∷ 0x04 ∷ 0x00 ∷ 0x01 ∷ 0x00 ∷ 0x02 ∷ 0x00 ∷ 0x10 ∷ 0x00 ∷ 0x14
+    ∷ 0x00 ∷ 0x20 ∷ 0x00 ∷ 0x24 ∷ 0x01 ∷ 0x02 ∷ 0x02 ∷ 0x02 ∷ 0x01 ∷ 0x01 ∷ 0x02 ∷ 0x02
+    ∷ 0x02 ∷ 0x00 ∷ 0x02 ∷ 0x03 ∷ 0x00 ∷ 0x02 ∷ 0x04 ∷ 0x00 ∷ 0x01 ∷ 0x01 ∷ 0x01 ∷ 0x04
+    ∷ 0x01 ∷ 0x01 ∷ 0x02 ∷ 0x03 ∷ 0x00 ∷ 0x01 ∷ 0x01 ∷ 0x03 ∷ 0x04 ∷ 0x00 ∷ []
+
+-- no steps; goal bank at 2
+abbrev order4 : List ℕ
+order4 =
+    0x00 ∷ 0x04 ∷ 0x00 ∷ 0x03 ∷ 0x00 ∷ 0x01 ∷ 0x00 ∷ 0x00 ∷ 0x00 ∷ 0x10 ∷ 0x00 ∷ 0x14
+    ∷ 0x00 ∷ 0x1d ∷ 0x00 ∷ 0x21 ∷ 0x01 ∷ 0x02 ∷ 0x02 ∷ 0x02 ∷ 0x01 ∷ 0x01 ∷ 0x02 ∷ 0x02
+    ∷ 0x03 ∷ 0x00 ∷ 0x02 ∷ 0x04 ∷ 0x00 ∷ 0x01 ∷ 0x01 ∷ 0x01 ∷ 0x02 ∷ []
+
+-- no steps; goal bank at 4
+abbrev order5 : List ℕ
+order5 =
+    0x00 ∷ 0x04 ∷ 0x00 ∷ 0x03 ∷ 0x00 ∷ 0x01 ∷ 0x00 ∷ 0x00 ∷ 0x00 ∷ 0x10 ∷ 0x00 ∷ 0x14
+    ∷ 0x00 ∷ 0x1d ∷ 0x00 ∷ 0x21 ∷ 0x01 ∷ 0x02 ∷ 0x02 ∷ 0x02 ∷ 0x01 ∷ 0x01 ∷ 0x02 ∷ 0x02
+    ∷ 0x03 ∷ 0x00 ∷ 0x02 ∷ 0x04 ∷ 0x00 ∷ 0x01 ∷ 0x01 ∷ 0x01 ∷ 0x04 ∷ []
+
+-- roll 1 2 3; no goal
+abbrev order6 : List ℕ
+order6 =
+    0x00 ∷ 0x04 ∷ 0x00 ∷ 0x03 ∷ 0x00 ∷ 0x00 ∷ 0x00 ∷ 0x01 ∷ 0x00 ∷ 0x10 ∷ 0x00 ∷ 0x14
+    ∷ 0x00 ∷ 0x1d ∷ 0x00 ∷ 0x1d ∷ 0x01 ∷ 0x02 ∷ 0x02 ∷ 0x02 ∷ 0x01 ∷ 0x01 ∷ 0x02 ∷ 0x02
+    ∷ 0x03 ∷ 0x00 ∷ 0x02 ∷ 0x04 ∷ 0x00 ∷ 0x01 ∷ 0x01 ∷ 0x02 ∷ 0x03 ∷ 0x00 ∷ []
+
+-- no objects; the move of no parameters
+abbrev order7 : List ℕ
+order7 =
+    0x00 ∷ 0x00 ∷ 0x00 ∷ 0x00 ∷ 0x00 ∷ 0x00 ∷ 0x00 ∷ 0x01 ∷ 0x00 ∷ 0x10 ∷ 0x00 ∷ 0x10
+    ∷ 0x00 ∷ 0x10 ∷ 0x00 ∷ 0x10 ∷ 0x01 ∷ 0x00 ∷ 0x00 ∷ 0x00 ∷ 0x00 ∷ []
+
+-- roll 1 2 2
+abbrev order8 : List ℕ
+order8 =
+    0x00 ∷ 0x04 ∷ 0x00 ∷ 0x03 ∷ 0x00 ∷ 0x00 ∷ 0x00 ∷ 0x01 ∷ 0x00 ∷ 0x10 ∷ 0x00 ∷ 0x14
+    ∷ 0x00 ∷ 0x1d ∷ 0x00 ∷ 0x1d ∷ 0x01 ∷ 0x02 ∷ 0x02 ∷ 0x02 ∷ 0x01 ∷ 0x01 ∷ 0x02 ∷ 0x02
+    ∷ 0x03 ∷ 0x00 ∷ 0x02 ∷ 0x04 ∷ 0x00 ∷ 0x01 ∷ 0x01 ∷ 0x02 ∷ 0x02 ∷ 0x00 ∷ []
+
+-- M1: what the program prints
+abbrev printed : List ℕ
+printed =
+    0x6d ∷ 0x6f ∷ 0x76 ∷ 0x65 ∷ 0x73 ∷ 0x20 ∷ 0x31 ∷ 0x20 ∷ 0x72 ∷ 0x65 ∷ 0x63 ∷ 0x6f ∷ 0x72 ∷ 0x64 ∷ 0x73 ∷ 0x20
+    ∷ 0x31 ∷ 0x20 ∷ 0x73 ∷ 0x74 ∷ 0x65 ∷ 0x70 ∷ 0x73 ∷ 0x20 ∷ 0x31 ∷ 0x0a ∷ 0x31 ∷ 0x20 ∷ 0x31 ∷ 0x20 ∷ 0x31 ∷ 0x20
+    ∷ 0x32 ∷ 0x20 ∷ 0x48 ∷ 0x20 ∷ 0x52 ∷ 0x0a ∷ 0x31 ∷ 0x20 ∷ 0x31 ∷ 0x20 ∷ 0x31 ∷ 0x20 ∷ 0x33 ∷ 0x20 ∷ 0x4e ∷ 0x20
+    ∷ 0x41 ∷ 0x0a ∷ 0x31 ∷ 0x20 ∷ 0x32 ∷ 0x20 ∷ 0x32 ∷ 0x20 ∷ 0x30 ∷ 0x20 ∷ 0x4e ∷ 0x20 ∷ 0x41 ∷ 0x0a ∷ 0x31 ∷ 0x20
+    ∷ 0x32 ∷ 0x20 ∷ 0x33 ∷ 0x20 ∷ 0x30 ∷ 0x20 ∷ 0x48 ∷ 0x20 ∷ 0x52 ∷ 0x0a ∷ []
+
+-- what a case gives, and what the paper says
+pub record Case : Type 0 where
+  pub gives : List ℕ
+  pub wanted : List ℕ
+
+-- number and place of an answer
+abbrev said : Answer → List ℕ
+said a = number a ∷ place a ∷ []
+
+-- whether each of the facts holds where the run ends: 1 or 0. (All 4,096 of M2 at once would take too long to compute.)
+abbrev heldAt : Run → List ℕ → List ℕ
+heldAt (stopped k) fs = []
+heldAt (ended end) fs = map (λ f. cond (end f) 1 0) fs
+
+-- an output lent for an end sheet
+abbrev lent : List ℕ
+lent = replicate 512 0xff
+
+-- a book of one relation over two places and 16 objects, with one record of one state of so many facts: a pair for each n from `from` on
+abbrev pairs : ℕ → ℕ → List ℕ
+pairs zero from = []
+pairs (suc left) from = 1 ∷ (from / 16 + 1) ∷ (from % 16 + 1) ∷ pairs left (suc from)
+
+abbrev dense : List ℕ
+dense =
+    (0 ∷ 1 ∷ 0 ∷ 1 ∷ 0 ∷ 0 ∷ 0 ∷ 1 ∷ 0 ∷ 16 ∷ 0 ∷ 20 ∷ 0 ∷ 20 ∷ 0x03 ∷ 0x2a ∷ [])
+    ++ (2 ∷ 1 ∷ 1 ∷ 0 ∷ [])
+    ++ (16 ∷ 0 ∷ 0x03 ∷ 0x16 ∷ [])
+    ++ replicate 16 1
+    ++ (1 ∷ 0 ∷ [])
+    ++ pairs 256 0
+
+-- the same with a relation of no places more, and with its fact as the 257th
+abbrev denser : List ℕ
+denser =
+    (0 ∷ 1 ∷ 0 ∷ 2 ∷ 0 ∷ 0 ∷ 0 ∷ 1 ∷ 0 ∷ 16 ∷ 0 ∷ 24 ∷ 0 ∷ 24 ∷ 0x03 ∷ 0x31 ∷ [])
+    ++ (2 ∷ 1 ∷ 1 ∷ 0 ∷ 0 ∷ 0 ∷ 0 ∷ 0 ∷ [])
+    ++ (16 ∷ 0 ∷ 0x03 ∷ 0x19 ∷ [])
+    ++ replicate 16 1
+    ++ (1 ∷ 1 ∷ [])
+    ++ pairs 256 0
+    ++ (2 ∷ 0 ∷ 0 ∷ [])
+
+abbrev pub cases : List Case
+cases =
+    record { gives = rulesPrinted book; wanted = printed }
+    ∷ record { gives = said (check book order2 512); wanted = 0 ∷ 2 ∷ [] }
+    ∷ record { gives = heldAt (planRun book order2) (1 ∷ 2 ∷ 3 ∷ 272 ∷ 288 ∷ 304 ∷ []); wanted = 0 ∷ 0 ∷ 1 ∷ 1 ∷ 1 ∷ 0 ∷ [] }
+    ∷ record { gives = said (check book order3 512); wanted = 19 ∷ 1 ∷ [] }
+    ∷ record { gives = checkBytes book order3 lent; wanted = lent }
+    ∷ record { gives = said (check book order4 512); wanted = 0 ∷ 0 ∷ [] }
+    ∷ record { gives = said (check book order5 512); wanted = 20 ∷ 1 ∷ [] }
+    ∷ record { gives = said (check book6 order6 512); wanted = 19 ∷ 1 ∷ [] }
+    ∷ record { gives = said (check book7 order7 512); wanted = 0 ∷ 1 ∷ [] }
+    ∷ record { gives = checkBytes book7 order7 lent; wanted = replicate 512 0 }
+    ∷ record { gives = said (check book order8 512); wanted = 18 ∷ 29 ∷ [] }
+    ∷ record { gives = said (learn book9 128); wanted = 12 ∷ 1 ∷ [] }
+    ∷ record { gives = said (lookOver (take 15 book)); wanted = 1 ∷ 0 ∷ [] }
+    ∷ record { gives = said (lookOver dense); wanted = 0 ∷ 0 ∷ [] }
+    ∷ record { gives = said (lookOver denser); wanted = 8 ∷ 44 ∷ [] }
+    ∷ []
+
+abbrev pub AllRight : List Case → Type 0
+AllRight [] = Unit {0}
+AllRight (c ∷ cs) = (c .gives ≡ c .wanted) × AllRight cs
+
+-- every marked case is as the paper says
+pub cases-right : AllRight cases
+unfolding _>>=_ refuse number place walk byteAt two sectionsOf numberBad relationAt moveAt schema hall kindSuits objectBad factAt factBad precedes noFact factNumber objectOf stepAt argumentBad stepBad samePair repeats atomRelation atomFirst atomSecond parameterFills isAtom placed ground lengthBad countsBad offsetsBad kindBad relationBad moveBad relation move sections cut countBad factRefused facts state objectsIn stepsIn lengthIn headBad object step objectsOf trajectory body recordAt stepTotal lookOverBy lookOver factsAt stateAt stateEnd filedAt recordFiled recordsFiled filed objectCount startCount goalCount stepCount startAt goalAt stepsAt orderCountsBad orderOffsetsBad orderObjects orderObject entryBad entries planStep orderForm startFacts goalFrom goal planFrom plan maskOf same below any has later first least image stuck next run wrong saw before after turned learned stray torn domain holding groundAction transition goalEntry schemaOf filedIn transitionsOf startState planOf goalOf strays tornAnswer tornMove learnable ruleRow ruleRows learnedFrom ruleSheet learn kept learnBytes planRun goalAnswer runAnswer check endSheet checkBytes twoBytes added add addBytes digits decimal refusedLine needLetter effectLetter shown atomLine atomLines moveLines rulesLines rulesPrinted planLine planPrinted
+cases-right = (refl, (refl, (refl, (refl, (refl, (refl, (refl, (refl, (refl, (refl, (refl, (refl, (refl, (refl, (refl, tt)))))))))))))))
+
+-- The limit of 60,000 bytes for any bytes: a book so long is too slow to compute whole.
+pub too-long : (s : List ℕ) → 60000 < length s → lookOver s ≡ Refused 1 0
+unfolding lookOver lookOverBy sections lengthBad refuse _>>=_
+too-long s h = rw (lt-ltb 60000 (length s) h, or-true)
+
+pub not-too-long : (s : List ℕ) → 16 ≤ length s → length s ≤ 60000 → lengthBad s ≡ false
+unfolding lengthBad
+not-too-long s h k = rw (le-ltb (length s) 16 h, le-ltb 60000 (length s) k)

@@ -1,0 +1,48 @@
+-- Checking a plan: rows 13 to 20, and what the lent end sheet holds afterwards.
+use Prim.Native.Nat.{ℕ, zero, suc}
+use mathlib.Core.Bool.{not}
+use mathlib.Core.List.{List, []}
+use lib.ListN.{length}
+use lib.Dec.{eqb}
+use Rattle.answer.specs.declared.Answer.{Answer}
+use Rattle.answer.specs.declared.Answer.the-variants.{Good, Refused}
+use Rattle.answer.specs.Answer.{_>>=_, refuse}
+use Rattle.mask.specs.Sets.{maskOf}
+use Rattle.format.specs.Order.{stepCount, orderForm}
+use Rattle.model.specs.Quantify.{first}
+use Rattle.model.specs.Domain.{State, Entry}
+use Rattle.model.specs.Model.{Run, stopped, ended, run}
+use Rattle.model.specs.Judge.{wrong}
+use Rattle.jobs.specs.Planning.{domain, schemaOf, startState, planOf, goalOf}
+use Rattle.jobs.specs.Learn.{learnable, learnedFrom, kept}
+
+abbrev pub endSize : ℕ
+endSize = 512
+
+-- the plan under the learned model
+unfoldable pub planRun : List ℕ → List ℕ → Run
+planRun s o = run (domain (schemaOf s)) (learnedFrom s) (planOf (schemaOf s) o) (startState o) 1
+
+-- rows 19 and 20; success is the plan's step count
+unfoldable pub goalAnswer : ℕ → ℕ → Answer
+goalAnswer steps zero = Good steps
+goalAnswer steps (suc i) = Refused 20 (suc i)
+
+unfoldable pub runAnswer : ℕ → List Entry → Run → Answer
+runAnswer steps goal (stopped k) = Refused 19 k
+runAnswer steps goal (ended end) = goalAnswer steps (first (wrong end) goal)
+
+unfoldable pub check : List ℕ → List ℕ → ℕ → Answer
+check s o size = do
+  _ ← learnable s
+  _ ← refuse (not (eqb size endSize)) 13 0
+  _ ← orderForm (schemaOf s) o
+  runAnswer (stepCount o) (goalOf o) (planRun s o)
+
+-- the end sheet of a run that ends
+unfoldable pub endSheet : Run → List ℕ
+endSheet (stopped k) = []
+endSheet (ended end) = maskOf endSize end
+
+unfoldable pub checkBytes : List ℕ → List ℕ → List ℕ → List ℕ
+checkBytes s o end = kept (check s o (length end)) (endSheet (planRun s o)) end

@@ -1,0 +1,8 @@
+-- Document 01 from decoded bytes on: learning, the rule sheet, the check of a plan, adding, the printed listing, and the judge over a book.
+pub mod Planning
+pub mod Learn
+pub mod Check
+pub mod Add
+pub mod Judge
+pub mod Listing
+pub mod Cases

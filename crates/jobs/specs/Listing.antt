@@ -1,0 +1,113 @@
+-- What the two programs print, as bytes (ASCII): the listing of a book's rules, the outcome of a check, and the refused line.
+use Prim.Native.Nat.{ℕ, zero, suc, _+_, _*_, _/_, _%_}
+use mathlib.Core.Bool.{Bool, true, false, cond}
+use mathlib.Core.List.{List, [], _∷_, _++_}
+use lib.Dec.{leb}
+use Rattle.answer.specs.declared.Answer.{Answer}
+use Rattle.answer.specs.declared.Answer.the-variants.{Good, Refused}
+use Rattle.terms.specs.declared.Relation.{Relation}
+use Rattle.terms.specs.Sections.{sectionsOf}
+use Rattle.terms.specs.Schema.{Schema}
+use Rattle.terms.specs.Steps.{atomRelation, atomFirst, atomSecond, isAtom}
+use Rattle.model.specs.Model.{Model}
+use Rattle.jobs.specs.Planning.{schemaOf}
+use Rattle.jobs.specs.Learn.{learnable, learnedFrom}
+use Rattle.jobs.specs.Check.{check, endSize}
+
+-- decimal digits of a number before what follows, the fuel being more than there are
+unfoldable pub digits : ℕ → ℕ → List ℕ → List ℕ
+digits zero n rest = rest
+digits (suc fuel) n rest = elim (n / 10) [ zero ↦ (48 + n) ∷ rest | suc m ↦ digits fuel (suc m) ((48 + n % 10) ∷ rest) ]
+
+unfoldable pub decimal : ℕ → List ℕ
+decimal n = digits 20 n []
+
+abbrev pub space : List ℕ
+space = 32 ∷ []
+
+abbrev pub newline : List ℕ
+newline = 10 ∷ []
+
+-- `moves `, ` records `, ` steps `, `passes `, `refused `
+abbrev pub movesWord : List ℕ
+movesWord = 109 ∷ 111 ∷ 118 ∷ 101 ∷ 115 ∷ 32 ∷ []
+
+abbrev pub recordsWord : List ℕ
+recordsWord = 32 ∷ 114 ∷ 101 ∷ 99 ∷ 111 ∷ 114 ∷ 100 ∷ 115 ∷ 32 ∷ []
+
+abbrev pub stepsWord : List ℕ
+stepsWord = 32 ∷ 115 ∷ 116 ∷ 101 ∷ 112 ∷ 115 ∷ 32 ∷ []
+
+abbrev pub passesWord : List ℕ
+passesWord = 112 ∷ 97 ∷ 115 ∷ 115 ∷ 101 ∷ 115 ∷ 32 ∷ []
+
+abbrev pub refusedWord : List ℕ
+refusedWord = 114 ∷ 101 ∷ 102 ∷ 117 ∷ 115 ∷ 101 ∷ 100 ∷ 32 ∷ []
+
+unfoldable pub refusedLine : ℕ → ℕ → List ℕ
+refusedLine num at = refusedWord ++ decimal num ++ space ++ decimal at ++ newline
+
+-- H hold, N not hold, B both, F neither
+unfoldable pub needLetter : Bool → Bool → ℕ
+needLetter true true = 66
+needLetter true false = 72
+needLetter false true = 78
+needLetter false false = 70
+
+-- A added, R removed, K none
+unfoldable pub effectLetter : Bool → Bool → ℕ
+effectLetter true removed = 65
+effectLetter false true = 82
+effectLetter false false = 75
+
+-- a parameter's number, 0 in an unused place
+unfoldable pub shown : Schema → Relation → ℕ → ℕ → ℕ
+shown sch r i p = cond (leb i (sch .places r)) p 0
+
+unfoldable pub atomLine : Schema → Model → ℕ → ℕ → List ℕ
+atomLine sch M a n =
+    decimal a
+    ++ space
+    ++ decimal (atomRelation n .0)
+    ++ space
+    ++ decimal (shown sch (atomRelation n) 1 (atomFirst n .0))
+    ++ space
+    ++ decimal (shown sch (atomRelation n) 2 (atomSecond n .0))
+    ++ space
+    ++ (needLetter (M .precondition true a n) (M .precondition false a n) ∷ [])
+    ++ space
+    ++ (effectLetter (M .effect true a n) (M .effect false a n) ∷ [])
+    ++ newline
+
+-- the lines of a move's bound facts, `left` numbers from n on
+unfoldable pub atomLines : Schema → Model → ℕ → ℕ → ℕ → List ℕ
+atomLines sch M a zero n = []
+atomLines sch M a (suc left) n = elim (isAtom sch a n) [ true ↦ atomLine sch M a n | false ↦ [] ] ++ atomLines sch M a left (suc n)
+
+unfoldable pub moveLines : Schema → Model → ℕ → ℕ → List ℕ
+moveLines sch M zero a = []
+moveLines sch M (suc left) a = atomLines sch M a (16 * sch .relations) 0 ++ moveLines sch M left (suc a)
+
+unfoldable pub rulesLines : List ℕ → Answer → List ℕ
+rulesLines s (Refused num at) = refusedLine num at
+rulesLines s (Good total) =
+    movesWord
+    ++ decimal (schemaOf s .moves)
+    ++ recordsWord
+    ++ decimal (sectionsOf s .records .count)
+    ++ stepsWord
+    ++ decimal total
+    ++ newline
+    ++ moveLines (schemaOf s) (learnedFrom s) (schemaOf s .moves) 1
+
+-- what the program `rules` prints of a book
+unfoldable pub rulesPrinted : List ℕ → List ℕ
+rulesPrinted s = rulesLines s (learnable s)
+
+unfoldable pub planLine : Answer → List ℕ
+planLine (Refused num at) = refusedLine num at
+planLine (Good steps) = passesWord ++ decimal steps ++ newline
+
+-- what the program `plan` prints of a book and an order
+unfoldable pub planPrinted : List ℕ → List ℕ → List ℕ
+planPrinted s o = planLine (check s o endSize)

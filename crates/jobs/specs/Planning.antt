@@ -1,0 +1,52 @@
+-- From the values of a book or an order to the planning domain of `model`: its atoms, transitions, states, plans and goals.
+use Prim.Native.Nat.{ℕ, _*_}
+use mathlib.Core.Bool.{Bool}
+use mathlib.Core.List.{List, map}
+use lib.Dec.{eqb}
+use Rattle.terms.specs.declared.Fact.{Fact}
+use Rattle.terms.specs.declared.Step.{Step}
+use Rattle.terms.specs.Sections.{sectionsOf}
+use Rattle.terms.specs.Schema.{Schema, schema}
+use Rattle.terms.specs.Facts.{factNumber}
+use Rattle.terms.specs.Steps.{isAtom, ground}
+use Rattle.format.specs.Decode.{Filed, filed}
+use Rattle.format.specs.Order.{GoalEntry, startFacts, goal, plan}
+use Rattle.model.specs.Quantify.{any}
+use Rattle.model.specs.Domain.{Domain, State, Step as GroundAction, Transition, Entry}
+
+-- bound facts are numbered 16 to a relation, facts 256 to a relation
+unfoldable pub domain : Schema → Domain
+domain sch =
+    record { atom = isAtom sch; atoms = 16 * sch .relations; facts = 256 * sch .relations; actions = sch .moves }
+
+unfoldable pub holding : List Fact → State
+holding fs n = any (λ f. eqb (factNumber f) n) fs
+
+unfoldable pub groundAction : Schema → Step → GroundAction
+groundAction sch st = record { action = st .action .0; ground = ground sch (st .binding) }
+
+unfoldable pub transition : Schema → Filed → Transition
+transition sch f = record { step = groundAction sch (f .step); pre = holding (f .pre); post = holding (f .post) }
+
+unfoldable pub goalEntry : GoalEntry → Entry
+goalEntry e = record { wanted = e .wanted; fact = factNumber (e .fact) }
+
+-- what a book says: its schema, and its steps as filed and as transitions
+unfoldable pub schemaOf : List ℕ → Schema
+schemaOf s = schema (sectionsOf s) s
+
+unfoldable pub filedIn : List ℕ → List Filed
+filedIn s = filed (sectionsOf s) s
+
+unfoldable pub transitionsOf : List ℕ → List Transition
+transitionsOf s = map (transition (schemaOf s)) (filedIn s)
+
+-- what an order says, for the schema of a book
+unfoldable pub startState : List ℕ → State
+startState o = holding (startFacts o)
+
+unfoldable pub planOf : Schema → List ℕ → List GroundAction
+planOf sch o = map (groundAction sch) (plan o)
+
+unfoldable pub goalOf : List ℕ → List Entry
+goalOf o = map goalEntry (goal o)

@@ -1,0 +1,65 @@
+-- The small hall with its bytes taken away: the marked cases that concern learning and plans, computed.
+-- A bank rolls between spots 2, 3 and 4. Facts 0, 1, 2: the bank is at spot 2, 3, 4; facts 3, 4, 5: the spot is clear.
+-- Atoms 0 and 1 of action 1, the roll: the bank is at the first, at the second spot; atoms 2 and 3: it is clear. Action 2 has no atom.
+use Prim.Native.Nat.{ℕ}
+use mathlib.Core.Path.{_≡_, refl}
+use mathlib.Core.Bool.{Bool, true, false, _&&_}
+use mathlib.Core.List.{List, [], _∷_}
+use lib.Dec.{eqb, ltb}
+use lib.ListN.{getD}
+use Rattle.model.specs.Quantify.{same, below, any, later, first}
+use Rattle.model.specs.Domain.{Domain, State, Step, Transition, Entry}
+use Rattle.model.specs.Model.{image, stuck, next, run}
+use Rattle.model.specs.Judge.{Verdict, impossible, stops, misses, passes, wrong}
+use Rattle.model.specs.Learned.{saw, before, after, turned, learned, stray, torn}
+use Rattle.model.specs.Check.{reached, judgedRun, planVerdict, conflict, checked}
+
+abbrev hall : Domain
+hall = record { atom = λ a n. eqb a 1 && ltb n 4; atoms = 4; facts = 6; actions = 2 }
+
+abbrev state : List ℕ → State
+state fs f = any (eqb f) fs
+
+abbrev roll : List ℕ → Step
+roll facts = record { action = 1; ground = λ n. getD facts n 0 }
+
+abbrev roll23 : Step
+roll23 = roll (0 ∷ 1 ∷ 3 ∷ 4 ∷ [])
+
+abbrev roll34 : Step
+roll34 = roll (1 ∷ 2 ∷ 4 ∷ 5 ∷ [])
+
+abbrev seen : List ℕ → List ℕ → Transition
+seen pre post = record { step = roll23; pre = state pre; post = state post }
+
+abbrev filed : Transition
+filed = seen (0 ∷ 4 ∷ []) (1 ∷ 3 ∷ [])
+
+abbrev at4 : List Entry
+at4 = record { wanted = true; fact = 2 } ∷ []
+
+-- the facts of the end state, where the plan passes
+abbrev ends : Verdict → List Bool
+ends impossible = []
+ends (stops k) = []
+ends (misses i) = []
+ends (passes e) = e 0 ∷ e 1 ∷ e 2 ∷ e 3 ∷ e 4 ∷ e 5 ∷ []
+
+tried : List Transition → List Step → List ℕ → Verdict
+tried ts plan start = checked hall ts plan (state start) at4
+
+-- M2, M3, M5, M6, M7 and M9; then a stop at step 2, row 12 by a fact that was once removed and once left, row 11 by spot 4,
+-- and that a fact which held before and after is no effect
+cases-right :
+    (ends (tried (filed ∷ []) (roll23 ∷ roll34 ∷ []) (0 ∷ 4 ∷ 5 ∷ [])) ≡ false ∷ false ∷ true ∷ true ∷ true ∷ false ∷ [])
+    × (tried (filed ∷ []) (roll23 ∷ roll34 ∷ []) (0 ∷ 3 ∷ 4 ∷ 5 ∷ []) ≡ stops 1)
+    × (tried (filed ∷ []) [] (0 ∷ 4 ∷ 5 ∷ []) ≡ misses 1)
+    × (tried [] (roll23 ∷ []) (0 ∷ 4 ∷ 5 ∷ []) ≡ stops 1)
+    × (ends (tried [] (record { action = 2; ground = λ n. 0 } ∷ []) (2 ∷ [])) ≡ false ∷ false ∷ true ∷ false ∷ false ∷ false ∷ [])
+    × (tried (filed ∷ seen (0 ∷ 4 ∷ []) [] ∷ []) [] [] ≡ impossible)
+    × (tried (filed ∷ []) (roll23 ∷ roll23 ∷ []) (0 ∷ 4 ∷ 5 ∷ []) ≡ stops 2)
+    × (tried (filed ∷ seen (0 ∷ 4 ∷ []) (0 ∷ 1 ∷ 3 ∷ []) ∷ []) [] [] ≡ impossible)
+    × (tried (seen (0 ∷ 4 ∷ []) (1 ∷ 3 ∷ 5 ∷ []) ∷ []) [] [] ≡ impossible)
+    × (learned hall (seen (0 ∷ 3 ∷ 4 ∷ []) (1 ∷ 3 ∷ []) ∷ []) .effect true 1 2 ≡ false)
+unfolding tried same below any later first image stuck next run wrong saw before after turned learned stray torn reached judgedRun planVerdict conflict checked
+cases-right = (refl, refl, refl, refl, refl, refl, refl, refl, refl, refl)

@@ -1,0 +1,73 @@
+-- Running under a stricter model: what it carries, the other carries alike; where the other stops, it has stopped before or there.
+-- Nothing here mentions transitions.
+use Prim.Native.Nat.{ℕ, suc, _≤_}
+use native.Mathlib.Omega.{arith}
+use mathlib.Core.Path.{_≡_, refl, sym, _∙_}
+use mathlib.Core.Logic.{_⊎_, inl, inr}
+use mathlib.Core.Bool.{true, false, not}
+use mathlib.Core.List.{List, [], _∷_}
+use Rattle.model.specs.Quantify.{here, there}
+use Rattle.model.specs.Domain.{Domain, State, Step}
+use Rattle.model.specs.Model.{Model, Valid, Run, stopped, ended, image, stuck, next, run}
+use Rattle.model.specs.Formed.{Proper, Grounded}
+use Rattle.model.specs.Stricter.{Stricter}
+use Rattle.model.proofs.Truth.{clash, decide, is-false}
+use Rattle.model.proofs.Next.{each-fact, next-at, next-off, stuck-in, stuck-out}
+
+module _ (D : Domain) (M : Model) (s : Step) (plan : List Step) (st : State) (k : ℕ) where
+  pub run-stop : stuck D M s st ≡ true → run D M (s ∷ plan) st k ≡ stopped k
+  unfolding run
+  run-stop e = rw (e, run)
+
+  pub run-go : stuck D M s st ≡ false → run D M (s ∷ plan) st k ≡ run D M plan (next D M s st) (suc k)
+  unfolding run
+  run-go e = rw (e, run)
+
+-- a run stops no earlier than at its first number
+pub run-from : (D : Domain) (M : Model) (plan : List Step) (st : State) (k j : ℕ) → run D M plan st k ≡ stopped j → k ≤ j
+unfolding run
+run-from D M [] st k j e = absurd (let z : _≡_ {A = ℕ} 0 1 = cc in omega arith)
+run-from D M (s ∷ plan) st k j e = go (decide (stuck D M s st)) (run-from D M plan (next D M s st) (suc k) j)
+  where
+    go : (stuck D M s st ≡ true) ⊎ (stuck D M s st ≡ false) → (run D M plan (next D M s st) (suc k) ≡ stopped j → suc k ≤ j) → k ≤ j
+    go (inl h) rest = let z : k ≡ j = cc (run-stop D M s plan st k h) in omega arith
+    go (inr h) rest = let z : suc k ≤ j = rest (sym (run-go D M s plan st k h) ∙ e) in omega arith
+
+-- what the run under a stricter model says of another
+abbrev pub Ahead : Run → Run → Type 0
+Ahead (stopped k) r = (j : ℕ) → r ≡ stopped j → k ≤ j
+Ahead (ended end) r = r ≡ ended end
+
+module _ (D : Domain) (L M : Model) (strict : Stricter D L M) where
+  -- A step that is applicable under the stricter model is applicable under the other.
+  pub goes-too : (s : Step) (st : State) → stuck D L s st ≡ false → stuck D M s st ≡ false
+  goes-too s st goes =
+      is-false
+      _
+      (λ e. let (n, h, p) = stuck-out D s M st e in clash _ (stuck-in D s L st n h (strict .needs _ _ n p)) goes)
+
+  module _ (valid : Valid D L) (valid′ : Valid D M) where
+    -- And it yields the same state under both.
+    pub same-next : (s : Step) (st : State) → Proper D s → stuck D L s st ≡ false → next D M s st ≡ next D L s st
+    same-next s st proper goes = λ i f. each-fact D s (λ g. next D M s st g ≡ next D L s st g) on off f i
+      where
+        met : (n : ℕ) → D .atom (s .action) n ≡ true → L .precondition (not (st (s .ground n))) (s .action) n ≡ false
+        met n atom = is-false _ (λ e. clash _ (stuck-in D s L st n (proper .ranged n atom) e) goes)
+
+        on : (n : ℕ) → D .atom (s .action) n ≡ true → next D M s st (s .ground n) ≡ next D L s st (s .ground n)
+        on n atom = next-at D s M valid′ st proper n atom ∙ strict .alike _ _ n atom (met n atom) ∙ sym (next-at D s L valid st proper n atom)
+
+        off : (f : ℕ) → image D (D .atom (s .action)) s f ≡ false → next D M s st f ≡ next D L s st f
+        off f e = next-off D s M valid′ st f e ∙ sym (next-off D s L valid st f e)
+
+    -- Where the stricter run ends, the other ends in the same state; where it stops, the other does not stop earlier.
+    pub lockstep : (plan : List Step) → Grounded D plan → (st : State) (k : ℕ) → Ahead (run D L plan st k) (run D M plan st k)
+    unfolding run
+    lockstep [] grounded st k = refl
+    lockstep (s ∷ plan) grounded st k = go (decide (stuck D L s st)) (lockstep plan (λ r m. grounded r (there m)) (next D L s st) (suc k))
+      where
+        go : (stuck D L s st ≡ true) ⊎ (stuck D L s st ≡ false) → Ahead (run D L plan (next D L s st) (suc k)) (run D M plan (next D L s st) (suc k))
+            → Ahead (run D L (s ∷ plan) st k) (run D M (s ∷ plan) st k)
+        go (inl e) rest = rw (run-stop D L s plan st k e) (λ j. run-from D M (s ∷ plan) st k j)
+        go (inr e) rest =
+            rw (run-go D L s plan st k e, run-go D M s plan st k (goes-too s st e), same-next s st (grounded s here) e) rest

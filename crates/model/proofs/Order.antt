@@ -1,0 +1,51 @@
+-- The sequence of the transitions does not matter, nor how often one is there.
+use Prim.Native.Nat.{ℕ, suc}
+use mathlib.Core.Path.{_≡_}
+use mathlib.Core.Logic.{_↔_}
+use mathlib.Core.Bool.{true, false}
+use mathlib.Core.List.{List}
+use Rattle.model.specs.Quantify.{any}
+use Rattle.model.specs.Domain.{Domain, State, Step, Transition, Entry}
+use Rattle.model.specs.Model.{Model, Consistent, run}
+use Rattle.model.specs.Judge.{Verdict, impossible}
+use Rattle.model.specs.Learned.{learned, stray, torn}
+use Rattle.model.specs.Check.{judgedRun, planVerdict, conflict, checked}
+use Rattle.model.specs.Alike.{SameRow, SameMembers}
+use Rattle.model.proofs.Quantify.{any-alike, below-same}
+use Rattle.model.proofs.Row.{row-of-members, precondition-same, effect-same, torn-same}
+
+module _ (D : Domain) (ts us : List Transition) (same : SameMembers ts us) where
+  row : (a : ℕ) → SameRow D a ts us
+  row a = row-of-members D a ts us (λ t e. same t)
+
+  -- Lists with the same members have the same consistent models,
+  pub consistent-alike : (M : Model) → Consistent D ts M ↔ Consistent D us M
+  consistent-alike M =
+      (λ c. record { valid = c .valid; fits = λ t m. c .fits t (same t .1 m) }, λ c. record { valid = c .valid; fits = λ t m. c .fits t (same t .0 m) })
+
+  -- teach the same model,
+  pub learned-alike : learned D ts ≡ learned D us
+  learned-alike =
+      λ i.
+      record {
+        precondition = λ b a n. precondition-same D a ts us (row a) b n i;
+        effect = λ b a n. effect-same D a ts us (row a) b n i;
+      }
+
+  -- meet row 12 for the same actions,
+  pub torn-alike : (a : ℕ) → torn D ts a ≡ torn D us a
+  torn-alike a = torn-same D a ts us (row a)
+
+  -- meet row 11 together,
+  pub stray-alike : any (stray D) ts ≡ any (stray D) us
+  stray-alike = any-alike (stray D) ts us same
+
+  pub conflict-alike : conflict D ts ≡ conflict D us
+  unfolding conflict
+  conflict-alike = rw (stray-alike, below-same (D .actions) (λ a. torn D ts (suc a)) (λ a. torn D us (suc a)) (λ a. torn-alike (suc a)))
+
+  -- and check every plan alike.
+  pub checked-alike : (plan : List Step) (st : State) (goal : List Entry) → checked D ts plan st goal ≡ checked D us plan st goal
+  unfolding checked planVerdict
+  checked-alike plan st goal =
+      λ i. elim (conflict-alike i) as (λ c. Verdict) [ true ↦ impossible | false ↦ judgedRun goal (run D (learned-alike i) plan st 1) ]

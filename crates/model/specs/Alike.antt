@@ -1,0 +1,32 @@
+-- When two lists of transitions show the same of an action: the words in which "the sequence does not matter",
+-- "only its own steps count" and "renumbered objects change nothing" are said.
+use Prim.Native.Nat.{ℕ}
+use mathlib.Core.Path.{_≡_}
+use mathlib.Core.Logic.{_↔_}
+use mathlib.Core.Bool.{true}
+use mathlib.Core.List.{List, [], _∷_}
+use Rattle.model.specs.Quantify.{Mem}
+use Rattle.model.specs.Domain.{Domain, Transition}
+
+-- the same action, and at each of its atoms, each under its own binding, the same values before and after
+pub record Alike (D : Domain) (t u : Transition) : Type 0 where
+  pub action : t .step .action ≡ u .step .action
+  pub was : (n : ℕ) → D .atom (t .step .action) n ≡ true → t .pre (t .step .ground n) ≡ u .pre (u .step .ground n)
+  pub got : (n : ℕ) → D .atom (t .step .action) n ≡ true → t .post (t .step .ground n) ≡ u .post (u .step .ground n)
+
+-- each transition of the action in the one list has one alike in the other, however often and wherever
+abbrev pub Shown : Domain → ℕ → List Transition → List Transition → Type 0
+Shown D a ts us = (t : Transition) → Mem t ts → t .step .action ≡ a → (u : Transition) × Mem u us × Alike D t u
+
+pub record SameRow (D : Domain) (a : ℕ) (ts us : List Transition) : Type 0 where
+  pub forth : Shown D a ts us
+  pub back : Shown D a us ts
+
+-- the same transitions, in whatever sequence and number
+abbrev pub SameMembers : List Transition → List Transition → Type 0
+SameMembers ts us = (t : Transition) → Mem t ts ↔ Mem t us
+
+-- one by one alike: what a list becomes when the objects of its records are renumbered
+pub data Renumbered (D : Domain) : List Transition → List Transition → Type 0 where
+  none : Renumbered D [] []
+  more : {t u : Transition} {ts us : List Transition} → Alike D t u → Renumbered D ts us → Renumbered D (t ∷ ts) (u ∷ us)

@@ -1,0 +1,31 @@
+-- The check of a plan by the learned model, as a verdict.
+use Prim.Native.Nat.{ℕ, zero, suc}
+use mathlib.Core.Bool.{Bool, true, false, _||_}
+use mathlib.Core.List.{List}
+use Rattle.model.specs.Quantify.{any, below, first}
+use Rattle.model.specs.Domain.{Domain, State, Step, Transition, Entry}
+use Rattle.model.specs.Model.{Model, Run, stopped, ended, run}
+use Rattle.model.specs.Judge.{Verdict, impossible, stops, misses, passes, wrong}
+use Rattle.model.specs.Learned.{learned, stray, torn}
+
+-- the goal at the end state
+unfoldable pub reached : State → ℕ → Verdict
+reached end zero = passes end
+reached end (suc i) = misses (suc i)
+
+-- what a run comes to, with the goal
+unfoldable pub judgedRun : List Entry → Run → Verdict
+judgedRun goal (stopped k) = stops k
+judgedRun goal (ended end) = reached end (first (wrong end) goal)
+
+-- the plan under the learned model
+unfoldable pub planVerdict : Domain → List Transition → List Step → State → List Entry → Verdict
+planVerdict D ts plan st goal = judgedRun goal (run D (learned D ts) plan st 1)
+
+-- rows 11 and 12
+unfoldable pub conflict : Domain → List Transition → Bool
+conflict D ts = any (stray D) ts || below (D .actions) (λ a. torn D ts (suc a))
+
+-- the whole check: impossible by row 11 or 12, else the plan under the learned model
+unfoldable pub checked : Domain → List Transition → List Step → State → List Entry → Verdict
+checked D ts plan st goal = elim (conflict D ts) [ true ↦ impossible | false ↦ planVerdict D ts plan st goal ]

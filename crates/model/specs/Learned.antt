@@ -1,0 +1,35 @@
+-- What is learned from transitions: the safe action model (document 001, formulas 1 and 2, over lifted atoms), and when there is none.
+use Prim.Native.Nat.{ℕ}
+use mathlib.Core.Bool.{Bool, true, false, _&&_, _||_, not}
+use mathlib.Core.List.{List}
+use lib.Dec.{eqb}
+use Rattle.model.specs.Quantify.{same, below, any}
+use Rattle.model.specs.Domain.{Domain, State, Step, Transition}
+use Rattle.model.specs.Model.{Model, image}
+
+-- some transition of the action has, at the atom's fact, values before and after that pass the test
+unfoldable pub saw : List Transition → (Bool → Bool → Bool) → ℕ → ℕ → Bool
+saw ts test a n = any (λ t. eqb (t .step .action) a && test (t .pre (t .step .ground n)) (t .post (t .step .ground n))) ts
+
+-- the atom was seen with the value b before, after, or turned to it
+unfoldable pub before : List Transition → Bool → ℕ → ℕ → Bool
+before ts b = saw ts (λ x y. same b x)
+
+unfoldable pub after : List Transition → Bool → ℕ → ℕ → Bool
+after ts b = saw ts (λ x y. same b y)
+
+unfoldable pub turned : List Transition → Bool → ℕ → ℕ → Bool
+turned ts b = saw ts (λ x y. same (not b) x && same b y)
+
+-- Needed to be b where it never was otherwise before the action; an effect where it was seen to turn.
+-- An action never seen so needs each of its atoms both ways, and has no effect.
+unfoldable pub learned : Domain → List Transition → Model
+learned D ts = record { precondition = λ b a n. D .atom a n && not (before ts (not b) a n); effect = λ b a n. D .atom a n && turned ts b a n }
+
+-- row 11: a fact changed that is no atom of the step
+unfoldable pub stray : Domain → Transition → Bool
+stray D t = below (D .facts) (λ f. not (same (t .pre f) (t .post f)) && not (image D (D .atom (t .step .action)) (t .step) f))
+
+-- row 12: an atom of the action turned to one value, and has the other after another of its steps
+unfoldable pub torn : Domain → List Transition → ℕ → Bool
+torn D ts a = below (D .atoms) (λ n. D .atom a n && ((turned ts true a n && after ts false a n) || (turned ts false a n && after ts true a n)))
