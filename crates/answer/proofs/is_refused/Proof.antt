@@ -2,23 +2,17 @@ use borrow.Author.Needs.{needs}
 use Rattle.answer.specs.Answer.{isRefused}
 use Rattle.answer.proofs.is_refused.Statement.{statement}
 use Rattle.answer.proofs.is_refused.Tie as tie
-use Rattle.answer.proofs.is_refused.Reads as reads
-use Rattle.answer.proofs.is_refused.Lts as lts
 
--- src/lib.rt:17:28
 enum-told : tie.Need-enum-told
 enum-told c = search needs
 
--- src/lib.rt:18:34
 enum-told-2 : tie.Need-enum-told-2
 enum-told-2 c = search needs
 
--- src/lib.rt:13:1
 returns : tie.Need-returns
 unfolding isRefused
 returns c = search needs
 
--- src/lib.rt:13:1
 returns-2 : tie.Need-returns-2
 unfolding isRefused
 returns-2 c = search needs

@@ -2,23 +2,17 @@ use borrow.Author.Needs.{needs}
 use Rattle.answer.specs.Answer.{place}
 use Rattle.answer.proofs.place_of.Statement.{statement}
 use Rattle.answer.proofs.place_of.Tie as tie
-use Rattle.answer.proofs.place_of.Reads as reads
-use Rattle.answer.proofs.place_of.Lts as lts
 
--- src/lib.rt:44:22
 enum-known-a : tie.Need-enum-known-a
 enum-known-a c = search needs
 
--- src/lib.rt:45:28
 enum-known-a-2 : tie.Need-enum-known-a-2
 enum-known-a-2 c = search needs
 
--- src/lib.rt:40:1
 returns : tie.Need-returns
 unfolding place
 returns c = search needs
 
--- src/lib.rt:40:1
 returns-2 : tie.Need-returns-2
 unfolding place
 returns-2 c = search needs

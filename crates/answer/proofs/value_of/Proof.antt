@@ -2,23 +2,17 @@ use borrow.Author.Needs.{needs}
 use Rattle.answer.specs.Answer.{valueOf}
 use Rattle.answer.proofs.value_of.Statement.{statement}
 use Rattle.answer.proofs.value_of.Tie as tie
-use Rattle.answer.proofs.value_of.Reads as reads
-use Rattle.answer.proofs.value_of.Lts as lts
 
--- src/lib.rt:26:22
 enum-known-a : tie.Need-enum-known-a
 enum-known-a c = search needs
 
--- src/lib.rt:27:34
 enum-told : tie.Need-enum-told
 enum-told c = search needs
 
--- src/lib.rt:22:1
 returns : tie.Need-returns
 unfolding valueOf
 returns c = search needs
 
--- src/lib.rt:22:1
 returns-2 : tie.Need-returns-2
 unfolding valueOf
 returns-2 c = search needs

@@ -2,10 +2,7 @@ use borrow.Author.Needs.{needs}
 use Rattle.terms.specs.Schema.{kindSuits}
 use Rattle.terms.proofs.kind_suits.Statement.{statement}
 use Rattle.terms.proofs.kind_suits.Tie as tie
-use Rattle.terms.proofs.kind_suits.Reads as reads
-use Rattle.terms.proofs.kind_suits.Lts as lts
 
--- src/lib.rt:106:1
 returns : tie.Need-returns
 unfolding kindSuits
 returns c = search needs

@@ -2,10 +2,7 @@ use borrow.Author.Needs.{needs}
 use Rattle.terms.specs.Schema.{numberBad}
 use Rattle.terms.proofs.number_bad.Statement.{statement}
 use Rattle.terms.proofs.number_bad.Tie as tie
-use Rattle.terms.proofs.number_bad.Reads as reads
-use Rattle.terms.proofs.number_bad.Lts as lts
 
--- src/lib.rt:98:1
 returns : tie.Need-returns
 unfolding numberBad
 returns c = search needs

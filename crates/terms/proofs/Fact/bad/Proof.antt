@@ -2,50 +2,34 @@ use Rattle.terms.proofs.Tests.{fact-bad-by}
 use borrow.Author.Needs.{needs}
 use Rattle.terms.proofs.Fact.bad.Statement.{statement}
 use Rattle.terms.proofs.Fact.bad.Tie as tie
-use Rattle.terms.proofs.Fact.bad.Reads as reads
-use Rattle.terms.proofs.Fact.bad.Lts as lts
-use Rattle.input.proofs.byte_at.Reads as byte-at-reads
-use Rattle.terms.proofs.Sections.relation_at.Reads as relation-at-reads
-use Rattle.terms.proofs.number_bad.Reads as number-bad-reads
-use Rattle.terms.proofs.object_bad.Reads as object-bad-reads
 
--- src/lib.rt:159:13
 relation-at-requires : tie.Need-relation-at-requires
 relation-at-requires c κs = search needs
 
--- src/lib.rt:160:13
 byte-at-requires : tie.Need-byte-at-requires
 byte-at-requires c κs = search needs
 
--- src/lib.rt:161:87
 add-byte-at : tie.Need-add-byte-at
 add-byte-at c = search needs
 
--- src/lib.rt:161:66
 byte-at-requires-2 : tie.Need-byte-at-requires-2
 byte-at-requires-2 c κs = search needs
 
--- src/lib.rt:161:13
 object-bad-requires : tie.Need-object-bad-requires
 object-bad-requires c κs = search needs
 
--- src/lib.rt:162:88
 add-byte-at-2 : tie.Need-add-byte-at-2
 add-byte-at-2 c = search needs
 
--- src/lib.rt:162:67
 byte-at-requires-3 : tie.Need-byte-at-requires-3
 byte-at-requires-3 c κs = search needs
 
--- src/lib.rt:162:13
 object-bad-requires-2 : tie.Need-object-bad-requires-2
 object-bad-requires-2 c κs = search needs
 
--- src/lib.rt:163:9
 number-bad-requires : tie.Need-number-bad-requires
 number-bad-requires c κs = search needs
 
--- src/lib.rt:155:5
 returns : tie.Need-returns
 returns c =
     let d = c .before .before .before .before in

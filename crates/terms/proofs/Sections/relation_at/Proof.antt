@@ -2,27 +2,19 @@ use borrow.Author.Needs.{needs}
 use Rattle.terms.specs.Schema.{relationAt}
 use Rattle.terms.proofs.Sections.relation_at.Statement.{statement}
 use Rattle.terms.proofs.Sections.relation_at.Tie as tie
-use Rattle.terms.proofs.Sections.relation_at.Reads as reads
-use Rattle.terms.proofs.Sections.relation_at.Lts as lts
-use Rattle.terms.proofs.index.Reads as index-reads
 
--- src/lib.rt:78:9
 cast-result : tie.Need-cast-result
 cast-result c = search needs
 
--- src/lib.rt:78:42
 index-requires : tie.Need-index-requires
 index-requires c κs = search needs
 
--- src/lib.rt:78:38
 mul-result : tie.Need-mul-result
 mul-result c = search needs
 
--- src/lib.rt:78:9
 add-result : tie.Need-add-result
 add-result c = search needs
 
--- src/lib.rt:75:5
 returns : tie.Need-returns
 unfolding relationAt
 returns c = search needs

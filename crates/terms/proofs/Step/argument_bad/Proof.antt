@@ -2,38 +2,25 @@ use Rattle.terms.proofs.Tests.{argument-bad-by}
 use borrow.Author.Needs.{needs}
 use Rattle.terms.proofs.Step.argument_bad.Statement.{statement}
 use Rattle.terms.proofs.Step.argument_bad.Tie as tie
-use Rattle.terms.proofs.Step.argument_bad.Reads as reads
-use Rattle.terms.proofs.Step.argument_bad.Lts as lts
-use Rattle.input.proofs.byte_at.Reads as byte-at-reads
-use Rattle.terms.proofs.Binding.object.Reads as object-reads
-use Rattle.terms.proofs.Sections.move_at.Reads as move-at-reads
-use Rattle.terms.proofs.object_bad.Reads as object-bad-reads
 
--- src/lib.rt:200:13
 move-at-requires : tie.Need-move-at-requires
 move-at-requires c κs = search needs
 
--- src/lib.rt:201:13
 byte-at-requires : tie.Need-byte-at-requires
 byte-at-requires c κs = search needs
 
--- src/lib.rt:203:75
 add-byte-at : tie.Need-add-byte-at
 add-byte-at c = search needs
 
--- src/lib.rt:203:54
 byte-at-requires-2 : tie.Need-byte-at-requires-2
 byte-at-requires-2 c κs = search needs
 
--- src/lib.rt:203:93
 object-requires : tie.Need-object-requires
 object-requires c κs = search needs
 
--- src/lib.rt:203:9
 object-bad-requires : tie.Need-object-bad-requires
 object-bad-requires c κs = search needs
 
--- src/lib.rt:196:5
 returns : tie.Need-returns
 returns c =
     let d = c .before .before .before .before in

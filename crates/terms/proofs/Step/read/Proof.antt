@@ -2,47 +2,34 @@ use borrow.Author.Needs.{needs}
 use Rattle.terms.specs.Steps.{stepAt}
 use Rattle.terms.proofs.Step.read.Statement.{statement}
 use Rattle.terms.proofs.Step.read.Tie as tie
-use Rattle.terms.proofs.Step.read.Reads as reads
-use Rattle.terms.proofs.Step.read.Lts as lts
-use Rattle.input.proofs.byte_at.Reads as byte-at-reads
 
--- src/lib.rt:184:26
 byte-at-requires : tie.Need-byte-at-requires
 byte-at-requires c κs = search needs
 
--- src/lib.rt:187:46
 add-byte-at : tie.Need-add-byte-at
 add-byte-at c = search needs
 
--- src/lib.rt:187:28
 byte-at-requires-2 : tie.Need-byte-at-requires-2
 byte-at-requires-2 c κs = search needs
 
--- src/lib.rt:188:46
 add-byte-at-2 : tie.Need-add-byte-at-2
 add-byte-at-2 c = search needs
 
--- src/lib.rt:188:28
 byte-at-requires-3 : tie.Need-byte-at-requires-3
 byte-at-requires-3 c κs = search needs
 
--- src/lib.rt:189:46
 add-byte-at-3 : tie.Need-add-byte-at-3
 add-byte-at-3 c = search needs
 
--- src/lib.rt:189:28
 byte-at-requires-4 : tie.Need-byte-at-requires-4
 byte-at-requires-4 c κs = search needs
 
--- src/lib.rt:190:46
 add-byte-at-4 : tie.Need-add-byte-at-4
 add-byte-at-4 c = search needs
 
--- src/lib.rt:190:28
 byte-at-requires-5 : tie.Need-byte-at-requires-5
 byte-at-requires-5 c κs = search needs
 
--- src/lib.rt:179:5
 returns : tie.Need-returns
 unfolding stepAt
 returns c = cc

@@ -1,0 +1,58 @@
+-- What the learner holds: six sets of bound facts for each move, 192 bytes a move, and the offset of the first step that row 11 names.
+use Prim.Native.Nat.{ℕ, _+_, _-_, _*_, _/_, _%_}
+use mathlib.Core.Bool.{Bool, cond, _||_}
+use mathlib.Core.List.{List, [], _∷_, _++_}
+use lib.ListN.{take, drop}
+use lib.Dec.{eqb}
+use Rattle.mask.specs.Sets.{maskOf, intersection, union, difference}
+use Rattle.terms.specs.declared.Sections.{Sections}
+use Rattle.format.specs.Decode.{Filed, recordFiled}
+use Rattle.held.specs.Inverse.{atomsIn, strayed}
+
+-- The sets, in order: 0 held before every step of the move, 1 before some; 2 held after every step, 3 after some; 4 added, 5 removed.
+-- `stray` is 0 where no step is named.
+pub record Held : Type 0 where
+  pub masks : List ℕ
+  pub stray : ℕ
+
+abbrev pub heldSize : ℕ
+heldSize = 6144
+
+-- where set k of a move stands
+unfoldable pub setAt : ℕ → ℕ → ℕ
+setAt a k = 192 * (a - 1) + 32 * k
+
+-- the 32 bytes from an offset replaced by what is made of them
+unfoldable pub onSet : ℕ → (List ℕ → List ℕ) → List ℕ → List ℕ
+onSet at f l = take at l ++ f (take 32 (drop at l)) ++ drop (at + 32) l
+
+-- one step of a move, by its bound facts that hold before and after
+unfoldable pub noted : ℕ → List ℕ → List ℕ → List ℕ → List ℕ
+noted a before after l =
+    onSet (setAt a 5) (λ m. union m (difference before after))
+    (onSet (setAt a 4) (λ m. union m (difference after before))
+    (onSet (setAt a 3) (λ m. union m after)
+    (onSet (setAt a 2) (λ m. intersection m after)
+    (onSet (setAt a 1) (λ m. union m before)
+    (onSet (setAt a 0) (λ m. intersection m before) l)))))
+
+-- what is held after one step more
+unfoldable pub hold : Filed → Held → Held
+hold f h =
+    record {
+      masks =
+          noted (f .step .action .0) (atomsIn (f .step .binding) (f .pre)) (atomsIn (f .step .binding) (f .post)) (h .masks);
+      stray = cond (eqb (h .stray) 0) (cond (strayed (f .step .binding) (f .pre) (f .post)) (f .place) 0) (h .stray);
+    }
+
+unfoldable pub holdAll : List Filed → Held → Held
+holdAll [] h = h
+holdAll (f ∷ fs) h = holdAll fs (hold f h)
+
+-- what is held after a record: made from what was held before, that record and its offset
+unfoldable pub heldAfter : List ℕ → ℕ → Held → Held
+heldAfter s at h = holdAll (recordFiled s at) h
+
+-- before any record: what holds at every one of no steps is everything
+unfoldable pub nothingSeen : Held
+nothingSeen = record { masks = maskOf heldSize (λ i. eqb (i / 256 % 6) 0 || eqb (i / 256 % 6) 2); stray = 0 }

@@ -1,0 +1,61 @@
+-- From a fact back to the bound fact (lifted atom) that it is under a binding: the facts of a state as a set of a step's atoms, and those left over.
+use Prim.Native.Nat.{ℕ, _+_, _-_, _*_}
+use mathlib.Core.Bool.{Bool, true, false, cond, _&&_, _||_, not}
+use mathlib.Core.List.{List, [], _∷_}
+use lib.Dec.{eqb}
+use Rattle.mask.specs.Bits.{setBit}
+use Rattle.mask.specs.Sets.{empty}
+use Rattle.terms.specs.declared.Param.{Param}
+use Rattle.terms.specs.declared.Object.{Object}
+use Rattle.terms.specs.declared.Binding.{Binding}
+use Rattle.terms.specs.declared.Fact.{Fact}
+use Rattle.terms.specs.Steps.{objectOf}
+
+-- the binding gives parameter i the object
+unfoldable pub gives : Binding → ℕ → Object → Bool
+gives b i x = eqb (objectOf b (record { 0 = i }) .0) (x .0)
+
+-- the number of the parameter that has the object, 0 where none has. The object 0 of an unused place has none
+unfoldable pub paramOf : Binding → Object → ℕ
+paramOf b x =
+    cond (eqb (x .0) 0) 0 (cond (gives b 1 x) 1 (cond (gives b 2 x) 2 (cond (gives b 3 x) 3 (cond (gives b 4 x) 4 0))))
+
+-- a place is unused, or its object is one of the binding's
+unfoldable pub placeBound : Binding → Object → Bool
+placeBound b x = eqb (x .0) 0 || not (eqb (paramOf b x) 0)
+
+unfoldable pub factBound : Binding → Fact → Bool
+factBound b f = placeBound b (f .first) && placeBound b (f .second)
+
+-- the number n of the bound fact
+unfoldable pub atomOf : Binding → Fact → ℕ
+atomOf b f = 16 * (f .relation .0 - 1) + 4 * (paramOf b (f .first) - 1) + (paramOf b (f .second) - 1)
+
+unfoldable pub mark : Binding → List ℕ → Fact → List ℕ
+mark b m f = cond (factBound b f) (setBit m (atomOf b f)) m
+
+unfoldable pub marks : Binding → List ℕ → List Fact → List ℕ
+marks b m [] = m
+marks b m (f ∷ fs) = marks b (mark b m f) fs
+
+-- the bound facts of a step that hold in a state
+unfoldable pub atomsIn : Binding → List Fact → List ℕ
+atomsIn b fs = marks b (empty 32) fs
+
+-- the facts that are no bound facts of the step
+unfoldable pub unbound : Binding → List Fact → List Fact
+unbound b [] = []
+unbound b (f ∷ fs) = cond (factBound b f) (unbound b fs) (f ∷ unbound b fs)
+
+unfoldable pub sameFact : Fact → Fact → Bool
+sameFact f g = eqb (f .relation .0) (g .relation .0) && eqb (f .first .0) (g .first .0) && eqb (f .second .0) (g .second .0)
+
+unfoldable pub sameFacts : List Fact → List Fact → Bool
+sameFacts [] [] = true
+sameFacts [] (g ∷ gs) = false
+sameFacts (f ∷ fs) [] = false
+sameFacts (f ∷ fs) (g ∷ gs) = sameFact f g && sameFacts fs gs
+
+-- row 11, for facts in order: what is no bound fact did not stay as it was
+unfoldable pub strayed : Binding → List Fact → List Fact → Bool
+strayed b pre post = not (sameFacts (unbound b pre) (unbound b post))
