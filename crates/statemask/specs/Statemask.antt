@@ -1,0 +1,64 @@
+-- States as masks of 512 bytes, one step and a plan over them, and the goal at the end. `R k` are the four sets of a move's rules
+-- (needed to hold, needed not to hold, added, removed), `g n` the fact that bound fact n is under the step's binding.
+use Prim.Native.Nat.{ℕ, zero, suc}
+use mathlib.Core.Bool.{Bool, true, false, cond, _&&_, _||_, not}
+use mathlib.Core.List.{List, [], _∷_}
+use Rattle.mask.specs.Bits.{testBit, setBit, clearBit}
+use Rattle.mask.specs.Sets.{empty}
+use Rattle.terms.specs.declared.Fact.{Fact}
+use Rattle.terms.specs.declared.Step.{Step}
+use Rattle.terms.specs.Schema.{Schema}
+use Rattle.terms.specs.Facts.{factNumber}
+use Rattle.terms.specs.Steps.{ground}
+use Rattle.format.specs.Order.{GoalEntry}
+use Rattle.model.specs.Quantify.{same, below, first}
+use Rattle.held.specs.Rules.{ruleSet}
+
+-- the facts put into a mask
+unfoldable pub withFacts : List Fact → List ℕ → List ℕ
+withFacts [] m = m
+withFacts (f ∷ fs) m = withFacts fs (setBit m (factNumber f))
+
+unfoldable pub startMask : List Fact → List ℕ
+startMask fs = withFacts fs (empty 512)
+
+-- a need of bound fact n is unmet
+unfoldable pub unmet : (ℕ → List ℕ) → (ℕ → ℕ) → List ℕ → ℕ → Bool
+unmet R g m n = testBit (R 0) n && not (testBit m (g n)) || testBit (R 1) n && testBit m (g n)
+
+unfoldable pub stuckIn : (ℕ → List ℕ) → (ℕ → ℕ) → List ℕ → Bool
+stuckIn R g m = below 256 (unmet R g m)
+
+-- the removed facts of the bound facts below n cleared, and the added ones set
+unfoldable pub deletes : (ℕ → List ℕ) → (ℕ → ℕ) → List ℕ → ℕ → List ℕ
+deletes R g m zero = m
+deletes R g m (suc n) = cond (testBit (R 3) n) (clearBit (deletes R g m n) (g n)) (deletes R g m n)
+
+unfoldable pub adds : (ℕ → List ℕ) → (ℕ → ℕ) → List ℕ → ℕ → List ℕ
+adds R g m zero = m
+adds R g m (suc n) = cond (testBit (R 2) n) (setBit (adds R g m n) (g n)) (adds R g m n)
+
+unfoldable pub nextIn : (ℕ → List ℕ) → (ℕ → ℕ) → List ℕ → List ℕ
+nextIn R g m = adds R g (deletes R g m 256) 256
+
+-- one step by what is held: whether it is stuck, and the mask after it
+unfoldable pub stepStuck : Schema → List ℕ → Step → List ℕ → Bool
+stepStuck sch l st m = stuckIn (ruleSet sch l (st .action .0)) (ground sch (st .binding)) m
+
+unfoldable pub stepNext : Schema → List ℕ → Step → List ℕ → List ℕ
+stepNext sch l st m = nextIn (ruleSet sch l (st .action .0)) (ground sch (st .binding)) m
+
+-- what a plan comes to: the number of the step that is stuck, 0 where none is, and the mask where it stopped or ended
+pub record Carried : Type 0 where
+  pub stop : ℕ
+  pub mask : List ℕ
+
+unfoldable pub carry : Schema → List ℕ → List Step → List ℕ → ℕ → Carried
+carry sch l [] m k = record { stop = 0; mask = m }
+carry sch l (st ∷ plan) m k =
+    elim (stepStuck sch l st m)
+    [ true ↦ record { stop = k; mask = m } | false ↦ carry sch l plan (stepNext sch l st m) (suc k) ]
+
+-- the number, from 1, of the first goal entry that the mask misses, 0 where it misses none
+unfoldable pub missed : List ℕ → List GoalEntry → ℕ
+missed m goal = first (λ e. not (same (testBit m (factNumber (e .fact))) (e .wanted))) goal
