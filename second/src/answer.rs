@@ -1,0 +1,60 @@
+//! The number and the place that every call answers with.
+
+/// Number 0 is success; any other number is a [`Refusal`].
+#[derive(Clone, Copy, Debug, PartialEq, Eq, PartialOrd, Ord, Hash)]
+pub struct Answer {
+    pub number: u32,
+    pub place: u32,
+}
+
+/// The rows of the paper's table, by number.
+#[derive(Clone, Copy, Debug, PartialEq, Eq, PartialOrd, Ord, Hash)]
+#[repr(u32)]
+pub enum Refusal {
+    Length = 1,
+    HeaderCounts = 2,
+    HeaderOffsets = 3,
+    Relation = 4,
+    Move = 5,
+    Record = 6,
+    Object = 7,
+    State = 8,
+    Step = 9,
+    ObjectTwice = 10,
+    UnboundChange = 11,
+    EffectConflict = 12,
+    Output = 13,
+    OrderHeader = 14,
+    OrderObject = 15,
+    StartFact = 16,
+    GoalEntry = 17,
+    PlanStep = 18,
+    NeedUnmet = 19,
+    GoalMissed = 20,
+}
+
+impl Refusal {
+    #[must_use]
+    pub const fn at(self, place: usize) -> Answer {
+        Answer { number: self as u32, place: place as u32 }
+    }
+}
+
+impl Answer {
+    #[must_use]
+    pub const fn success(place: usize) -> Self {
+        Self { number: 0, place: place as u32 }
+    }
+
+    /// The form in which the C calls return it: number·2^48 + place.
+    #[must_use]
+    pub const fn packed(self) -> u64 {
+        ((self.number as u64) << 48) | self.place as u64
+    }
+}
+
+impl std::fmt::Display for Answer {
+    fn fmt(&self, f: &mut std::fmt::Formatter<'_>) -> std::fmt::Result {
+        write!(f, "{} at {}", self.number, self.place)
+    }
+}

@@ -1,0 +1,105 @@
+//! What a comparison found.
+
+use std::fmt;
+
+use super::Tally;
+use crate::answer::Answer;
+use crate::gen::Label;
+
+/// How many cases are run, from which seed.
+#[derive(Clone, Copy)]
+pub struct Run {
+    pub seed: u64,
+    pub count: usize,
+}
+
+/// One case on which the two implementations disagree, or on which this one
+/// misses the answer that the generator aimed at.
+pub struct Difference {
+    pub run: Run,
+    /// How many cases of the run differ; this is the one of fewest bytes.
+    pub differing: usize,
+    pub index: usize,
+    pub label: Label,
+    pub expected: Answer,
+    pub packed: u64,
+    /// What else differs, such as a lent byte.
+    pub note: String,
+    /// The inputs of the call, by name.
+    pub inputs: Vec<(&'static str, Vec<u8>)>,
+}
+
+/// One case after both implementations have answered.
+pub struct Compared {
+    pub label: Label,
+    pub aimed: Option<Answer>,
+    pub expected: Answer,
+    pub packed: u64,
+    /// Empty if all lent bytes agree.
+    pub lent: String,
+    pub inputs: Vec<(&'static str, Vec<u8>)>,
+}
+
+/// Compares every case of a run; on differences, answers the shortest one.
+pub fn compare_all(
+    run: Run,
+    mut tally: Tally,
+    mut case: impl FnMut(usize) -> Compared,
+) -> Result<Tally, Box<Difference>> {
+    let mut shortest: Option<Box<Difference>> = None;
+    let mut differing = 0;
+    for index in 0..run.count {
+        let compared = case(index);
+        let missed = compared.aimed.is_some_and(|aimed| aimed != compared.expected);
+        if compared.packed == compared.expected.packed() && compared.lent.is_empty() && !missed {
+            tally.count(compared.label, compared.aimed, compared.expected);
+            continue;
+        }
+        differing += 1;
+        let note = match compared.aimed {
+            Some(aimed) if missed => format!("the generator aimed at {aimed}; {}", compared.lent),
+            _ => compared.lent,
+        };
+        let Compared { label, expected, packed, inputs, .. } = compared;
+        let found = Difference { run, differing, index, label, expected, packed, note, inputs };
+        if shortest.as_ref().is_none_or(|shortest| found.length() < shortest.length()) {
+            shortest = Some(Box::new(found));
+        }
+    }
+    match shortest {
+        None => Ok(tally),
+        Some(mut shortest) => {
+            shortest.differing = differing;
+            Err(shortest)
+        }
+    }
+}
+
+impl Difference {
+    fn length(&self) -> usize {
+        self.inputs.iter().map(|(_, bytes)| bytes.len()).sum()
+    }
+}
+
+impl fmt::Display for Difference {
+    fn fmt(&self, f: &mut fmt::Formatter<'_>) -> fmt::Result {
+        let Run { seed, count } = self.run;
+        writeln!(f, "{} of {count} cases differ; the shortest one:", self.differing)?;
+        writeln!(f, "seed {seed} case {} ({})", self.index, self.label)?;
+        let expected = self.expected;
+        writeln!(f, "this implementation: {expected} (packed {:#018x})", expected.packed())?;
+        let (number, place) = (self.packed >> 48, self.packed & 0xffff_ffff);
+        writeln!(f, "the other one: {number} at {place} (packed {:#018x})", self.packed)?;
+        if !self.note.is_empty() {
+            writeln!(f, "{}", self.note)?;
+        }
+        for (name, bytes) in &self.inputs {
+            write!(f, "{name} ({} bytes): ", bytes.len())?;
+            for byte in bytes {
+                write!(f, "{byte:02x}")?;
+            }
+            writeln!(f)?;
+        }
+        Ok(())
+    }
+}

@@ -1,0 +1,46 @@
+//! The form of books and orders: rows 1 to 10 and 14 to 18.
+
+mod hall;
+mod header;
+mod order;
+mod record;
+mod signature;
+
+pub use hall::Hall;
+pub use header::Header;
+pub use order::Order;
+pub use record::{walk_records, Observer, Transition};
+pub use signature::{Move, Relation, Signature};
+
+use crate::answer::Answer;
+
+/// What of a good book does not need its records read again.
+pub struct Front {
+    pub header: Header,
+    pub signature: Signature,
+    /// The steps of all records together.
+    pub steps: usize,
+}
+
+/// Looks a book over and shows every transition to `observer` on the way.
+///
+/// The observer sees transitions of records before a fault that a later row
+/// or a later record may still bring, so it must act on nothing but its own
+/// memory until this returns.
+pub fn walk(book: &[u8], observer: &mut impl Observer) -> Result<Front, Answer> {
+    let header = Header::read(book)?;
+    let signature = Signature::read(book, &header)?;
+    let steps = walk_records(book, &signature, header.records_at, header.records, observer)?;
+    Ok(Front { header, signature, steps })
+}
+
+/// Rows 1 to 10; success has the count of all steps as its place.
+#[must_use]
+pub fn look_over(book: &[u8]) -> Answer {
+    walk(book, &mut ()).map_or_else(|refusal| refusal, |front| Answer::success(front.steps))
+}
+
+/// A two-byte number, high byte first.
+pub(crate) fn two_bytes(bytes: &[u8], at: usize) -> usize {
+    usize::from(u16::from_be_bytes([bytes[at], bytes[at + 1]]))
+}

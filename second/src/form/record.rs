@@ -1,0 +1,146 @@
+//! Records (trajectories), walked in file order: rows 6 to 10.
+
+use super::{two_bytes, Hall, Signature};
+use crate::answer::{Answer, Refusal};
+use crate::limits::{
+    COUNT_LENGTH, FACT_LENGTH, FACT_LIMIT, HEAD_LENGTH, OBJECT_LIMIT, STEP_LENGTH, STEP_LIMIT,
+};
+
+/// A step with the facts of the states before and after it, all of good form.
+pub struct Transition<'a> {
+    pub step_at: usize,
+    pub step: &'a [u8],
+    pub before: &'a [u8],
+    pub after: &'a [u8],
+}
+
+/// What a walk shows its transitions to.
+pub trait Observer {
+    fn observe(&mut self, transition: &Transition<'_>);
+}
+
+/// Looking over needs nothing of the transitions.
+impl Observer for () {
+    #[inline]
+    fn observe(&mut self, _: &Transition<'_>) {}
+}
+
+/// Walks `count` records from `at` to the book's end; answers the step total.
+pub fn walk_records(
+    book: &[u8],
+    signature: &Signature,
+    mut at: usize,
+    count: usize,
+    observer: &mut impl Observer,
+) -> Result<usize, Answer> {
+    let mut total = 0;
+    for _ in 0..count {
+        let record = Record::head(book, at)?;
+        record.walk(signature, observer)?;
+        at = record.bytes.len();
+        total += record.steps;
+    }
+    if at < book.len() {
+        return Err(Refusal::Record.at(at));
+    }
+    Ok(total)
+}
+
+struct Record<'a> {
+    /// The book up to the record's end, so that every offset is the book's.
+    bytes: &'a [u8],
+    at: usize,
+    objects: usize,
+    steps: usize,
+}
+
+impl<'a> Record<'a> {
+    /// Row 6 at the head.
+    fn head(book: &'a [u8], at: usize) -> Result<Self, Answer> {
+        let refused = Refusal::Record.at(at);
+        let rest = &book[at..];
+        if rest.len() < HEAD_LENGTH {
+            return Err(refused);
+        }
+        let (objects, steps) = (usize::from(rest[0]), usize::from(rest[1]));
+        let length = two_bytes(rest, 2);
+        if objects > OBJECT_LIMIT
+            || steps > STEP_LIMIT
+            || !(HEAD_LENGTH..=rest.len()).contains(&length)
+        {
+            return Err(refused);
+        }
+        Ok(Self { bytes: &book[..at + length], at, objects, steps })
+    }
+
+    /// Objects, then state, step, state, and so on, then the tail.
+    fn walk(&self, signature: &Signature, observer: &mut impl Observer) -> Result<(), Answer> {
+        let mut cursor = self.at + HEAD_LENGTH;
+        let hall = self.hall(signature, &mut cursor)?;
+        let mut before = self.state(&hall, &mut cursor)?;
+        for _ in 0..self.steps {
+            let step_at = cursor;
+            let step = self.step(signature, &hall, &mut cursor)?;
+            let after = self.state(&hall, &mut cursor)?;
+            observer.observe(&Transition { step_at, step, before, after });
+            before = after;
+        }
+        if cursor < self.bytes.len() {
+            return Err(Refusal::Record.at(self.at));
+        }
+        Ok(())
+    }
+
+    /// Row 7.
+    fn hall(&self, signature: &Signature, cursor: &mut usize) -> Result<Hall, Answer> {
+        let from = *cursor;
+        let kinds = &self.bytes[from..self.bytes.len().min(from + self.objects)];
+        let good = kinds
+            .iter()
+            .take_while(|&&kind| (1..=signature.kinds).contains(&usize::from(kind)))
+            .count();
+        // Fewer are good than announced: the next one is wrong or cut.
+        if good < self.objects {
+            return Err(Refusal::Object.at(from + good));
+        }
+        *cursor += self.objects;
+        Ok(Hall::new(signature, kinds))
+    }
+
+    /// Row 8; answers the bytes of the state's facts.
+    fn state(&self, hall: &Hall, cursor: &mut usize) -> Result<&'a [u8], Answer> {
+        let count_at = *cursor;
+        let rest = &self.bytes[count_at..];
+        if rest.len() < COUNT_LENGTH {
+            return Err(Refusal::State.at(count_at));
+        }
+        let count = two_bytes(rest, 0);
+        if count > FACT_LIMIT {
+            return Err(Refusal::State.at(count_at));
+        }
+        let facts = &rest[COUNT_LENGTH..];
+        let whole = count.min(facts.len() / FACT_LENGTH);
+        let facts = &facts[..FACT_LENGTH * whole];
+        let good = hall.good_facts(facts);
+        // Fewer are good than announced: the next one is wrong or cut.
+        if good < count {
+            return Err(Refusal::State.at(count_at + COUNT_LENGTH + FACT_LENGTH * good));
+        }
+        *cursor += COUNT_LENGTH + facts.len();
+        Ok(facts)
+    }
+
+    /// Rows 9 and 10; answers the step's bytes.
+    fn step(
+        &self,
+        signature: &Signature,
+        hall: &Hall,
+        cursor: &mut usize,
+    ) -> Result<&'a [u8], Answer> {
+        let at = *cursor;
+        let step = self.bytes.get(at..at + STEP_LENGTH).ok_or(Refusal::Step.at(at))?;
+        hall.check_step(signature, step).map_err(|refusal| refusal.at(at))?;
+        *cursor += STEP_LENGTH;
+        Ok(step)
+    }
+}

@@ -1,0 +1,157 @@
+//! Books with a record to add and an output for the new book.
+
+use super::aim::Label;
+use super::draft::{BookDraft, RecordDraft};
+use super::hall::Dynamics;
+use super::mixed::BookStream;
+use super::rng::Rng;
+use super::{book, fullbook, record_faults};
+use crate::answer::{Answer, Refusal};
+
+pub struct AddCase {
+    pub label: Label,
+    pub book: Vec<u8>,
+    pub record: Vec<u8>,
+    /// The length of the output lent.
+    pub output: usize,
+    pub aimed: Option<Answer>,
+}
+
+pub struct AddStream {
+    books: BookStream,
+    record_aims: Vec<super::Aim<BookDraft>>,
+    seed: u64,
+}
+
+const DAMAGED_BOOK: &str = "old book damaged";
+const DAMAGED_RECORD: &str = "record damaged";
+const OTHERS: [&str; 8] = [
+    "record good",
+    "record empty",
+    "record with bytes behind it",
+    "64 records before",
+    "63 records before",
+    "new length 60,000",
+    "new length over 60,000",
+    "output short",
+];
+
+impl AddStream {
+    #[must_use]
+    pub fn new(seed: u64) -> Self {
+        // Faults of the record count and of the book's end are not the record's.
+        let mut record_aims = record_faults::aims();
+        record_aims.retain(|aim| {
+            !matches!(
+                aim.label.what,
+                "more announced than filed"
+                    | "records offset is the end"
+                    | "of a book, bytes put behind"
+                    | "of a book, fewer announced"
+                    | "of a record, the next one taken in"
+            )
+        });
+        Self { books: BookStream::new(seed), record_aims, seed }
+    }
+
+    #[must_use]
+    pub fn labels(&self) -> Vec<Label> {
+        let label = |what| Label { part: "add", what };
+        [DAMAGED_BOOK, DAMAGED_RECORD].into_iter().chain(OTHERS).map(label).collect()
+    }
+
+    #[must_use]
+    pub fn case(&self, index: usize) -> AddCase {
+        let mut rng = Rng::of_case(self.seed, index);
+        // Of fourteen in turn: four old books damaged, two records, eight others.
+        let (round, turn) = (index / 14, index % 14);
+        let what = match turn {
+            0..=3 => DAMAGED_BOOK,
+            4..=5 => DAMAGED_RECORD,
+            _ => OTHERS[turn - 6],
+        };
+        let (book, record, aimed) = self.inputs(what, round, turn, &mut rng);
+        let length = book.len() + record.len();
+        let output = match what {
+            "output short" => rng.below(length),
+            // Row 13 comes last.
+            _ if aimed.is_some_and(|answer| answer.number != 0) && rng.chance(20) => 0,
+            _ => length + *rng.pick(&[0, 0, 1, 100]).expect("there are four"),
+        };
+        AddCase { label: Label { part: "add", what }, book, record, output, aimed }
+    }
+
+    /// The old book, the record's bytes and the answer to be met.
+    fn inputs(
+        &self,
+        what: &str,
+        round: usize,
+        turn: usize,
+        rng: &mut Rng,
+    ) -> (Vec<u8>, Vec<u8>, Option<Answer>) {
+        if what == DAMAGED_BOOK {
+            let number = (4 * round + turn) % 10 + 1;
+            let case = self.books.of_number(number as u32, rng);
+            return (case.book, vec![0, 0, 0, 6, 0, 0], case.aimed);
+        }
+        if let "new length 60,000" | "new length over 60,000" = what {
+            let record = RecordDraft {
+                objects: vec![1; rng.range(0, 16)],
+                states: vec![Vec::new()],
+                steps: Vec::new(),
+            };
+            let over = if what == "new length 60,000" { 0 } else { rng.range(1, 6) };
+            let book = fullbook::of_length(60_000 - record.length() + over, rng);
+            let answer = if over == 0 { Answer::success(60_000) } else { Refusal::Length.at(0) };
+            return (book, record.bytes(), Some(answer));
+        }
+        if what == DAMAGED_RECORD {
+            return self.damaged_record(2 * round + turn - 4, rng);
+        }
+        let shape = if rng.chance(90) { book::SMALL } else { book::MEDIUM };
+        let mut world = book::of_shape(&shape, Dynamics::Follows, rng);
+        let dynamics = if rng.chance(70) { Dynamics::Follows } else { Dynamics::Random };
+        let mut record = world.record(&shape, dynamics, rng).bytes();
+        if let "64 records before" | "63 records before" = what {
+            let count = if what == "64 records before" { 64 } else { 63 };
+            let small = RecordDraft { states: vec![Vec::new()], ..RecordDraft::default() };
+            world.book.records.resize(count, small);
+        }
+        let book = world.book.bytes();
+        let length = book.len() + record.len();
+        let answer = match what {
+            "record empty" => {
+                record.clear();
+                Refusal::Record.at(book.len())
+            }
+            "record with bytes behind it" => {
+                record.resize(record.len() + rng.range(1, 8), rng.byte());
+                Refusal::Record.at(length)
+            }
+            "64 records before" => Refusal::HeaderCounts.at(0),
+            "output short" => Refusal::Output.at(0),
+            _ => Answer::success(length),
+        };
+        (book, record, Some(answer))
+    }
+
+    /// The fault is put into a book of one record, which is then the one added.
+    fn damaged_record(&self, index: usize, rng: &mut Rng) -> (Vec<u8>, Vec<u8>, Option<Answer>) {
+        let aim = &self.record_aims[index % self.record_aims.len()];
+        let draw = |rng: &mut Rng| {
+            let mut draft = book::to_damage(rng);
+            draft.records.truncate(1);
+            draft
+        };
+        let (draft, bytes, answer) = aim.hit(rng, draw);
+        let front = draft.front_length();
+        let mut old = draft;
+        // The good record, none or several times.
+        let good = old.records.pop().into_iter();
+        old.records.extend(good.flat_map(|record| vec![record; rng.below(3)]));
+        let old = old.bytes();
+        let moved = answer.place as usize - front + old.len();
+        let answer = Answer { place: moved as u32, ..answer };
+        (old, bytes[front..].to_vec(), Some(answer))
+    }
+}

@@ -1,0 +1,176 @@
+//! Books at a limit and one beyond it, complete in everything else.
+
+use super::aim::Label;
+use super::draft::{BookDraft, RecordDraft};
+use super::rng::Rng;
+use super::{fullbook, BookCase};
+use crate::answer::{Answer, Refusal};
+
+/// Each maker gives a book and the answer that it must get.
+type Maker = fn(&mut Rng) -> (Vec<u8>, Answer);
+
+const MAKERS: [(&str, Maker); 21] = [
+    ("0 to 15 bytes", |rng| {
+        let mut bytes = base().bytes();
+        bytes.truncate(rng.below(16));
+        (bytes, Refusal::Length.at(0))
+    }),
+    ("16 bytes", |_| (BookDraft::default().bytes(), Answer::success(0))),
+    ("60,000 bytes", |rng| {
+        let bytes = fullbook::of_length(60_000, rng);
+        let steps = filed_steps(&bytes);
+        (bytes, Answer::success(steps))
+    }),
+    ("60,001 bytes", |rng| (fullbook::of_length(60_001, rng), Refusal::Length.at(0))),
+    ("256 facts", |rng| facts(256, rng)),
+    ("257 facts", |rng| facts(257, rng)),
+    ("16 objects", |rng| objects(16, rng)),
+    ("17 objects", |rng| objects(17, rng)),
+    ("64 steps", |rng| steps(64, rng)),
+    ("65 steps", |rng| steps(65, rng)),
+    ("64 records", |rng| records(64, rng)),
+    ("65 records", |rng| records(65, rng)),
+    ("8 kinds", |rng| kinds(8, rng)),
+    ("9 kinds", |rng| kinds(9, rng)),
+    ("16 relations", |rng| relations(16, rng)),
+    ("17 relations", |rng| relations(17, rng)),
+    ("32 moves", |rng| moves(32, rng)),
+    ("33 moves", |rng| moves(33, rng)),
+    ("255 objects and steps", |rng| {
+        let mut draft = base();
+        draft.records.push(RecordDraft {
+            objects: vec![1; if rng.chance(50) { 255 } else { 0 }],
+            states: vec![Vec::new(); 256],
+            steps: vec![[1, 0, 0, 0, 0]; 255],
+        });
+        (draft.bytes(), Refusal::Record.at(draft.front_length()))
+    }),
+    ("record of its head alone", |_| {
+        let mut bytes = base().bytes();
+        bytes[7] = 1;
+        bytes[15] += 4;
+        bytes.extend([0, 0, 0, 4]);
+        let end = bytes.len();
+        (bytes, Refusal::State.at(end))
+    }),
+    ("record without objects, facts and steps", |_| {
+        let mut draft = base();
+        draft.records.push(RecordDraft { states: vec![Vec::new()], ..RecordDraft::default() });
+        (draft.bytes(), Answer::success(0))
+    }),
+];
+
+pub const COUNT: usize = MAKERS.len();
+
+/// The extreme case of this number below [`COUNT`].
+pub fn case(index: usize, rng: &mut Rng) -> BookCase {
+    let (what, make) = MAKERS[index];
+    let (book, answer) = make(rng);
+    BookCase { label: Label { part: "extreme", what }, book, aimed: Some(answer) }
+}
+
+/// All labels, so that a tally can miss one.
+pub fn labels() -> impl Iterator<Item = Label> {
+    MAKERS.iter().map(|&(what, _)| Label { part: "extreme", what })
+}
+
+/// One kind, one relation of two places, one move without parameters.
+fn base() -> BookDraft {
+    BookDraft { kinds: 1, relations: vec![[2, 1, 1, 0]], moves: vec![[0; 6]], records: Vec::new() }
+}
+
+fn filed_steps(bytes: &[u8]) -> usize {
+    let (mut at, mut steps) = (16 + 4 + 6, 0);
+    while at < bytes.len() {
+        steps += usize::from(bytes[at + 1]);
+        at += usize::from(u16::from_be_bytes([bytes[at + 2], bytes[at + 3]]));
+    }
+    steps
+}
+
+fn facts(count: usize, rng: &mut Rng) -> (Vec<u8>, Answer) {
+    let mut draft = base();
+    draft.relations.push([0; 4]);
+    let mut state: Vec<_> = (0..256).map(|n| [1, (n / 16) as u8 + 1, (n % 16) as u8 + 1]).collect();
+    state.push([2, 0, 0]);
+    while state.len() > count {
+        state.remove(rng.below(state.len()));
+    }
+    let record = RecordDraft { objects: vec![1; 16], states: vec![state], steps: Vec::new() };
+    draft.records.push(record);
+    let answer = match count {
+        0..=256 => Answer::success(0),
+        _ => Refusal::State.at(draft.front_length() + 4 + 16),
+    };
+    (draft.bytes(), answer)
+}
+
+fn objects(count: usize, rng: &mut Rng) -> (Vec<u8>, Answer) {
+    let mut draft = base();
+    let fact = [1, rng.range(1, count) as u8, count as u8];
+    let record =
+        RecordDraft { objects: vec![1; count], states: vec![vec![fact]], steps: Vec::new() };
+    draft.records.push(record);
+    let answer = match count {
+        0..=16 => Answer::success(0),
+        _ => Refusal::Record.at(draft.front_length()),
+    };
+    (draft.bytes(), answer)
+}
+
+fn steps(count: usize, rng: &mut Rng) -> (Vec<u8>, Answer) {
+    let mut draft = base();
+    let states =
+        (0..=count).map(|_| if rng.chance(50) { vec![[1, 1, 2]] } else { Vec::new() }).collect();
+    let record = RecordDraft { objects: vec![1; 2], states, steps: vec![[1, 0, 0, 0, 0]; count] };
+    draft.records.push(record);
+    let answer = match count {
+        0..=64 => Answer::success(count),
+        _ => Refusal::Record.at(draft.front_length()),
+    };
+    (draft.bytes(), answer)
+}
+
+fn records(count: usize, rng: &mut Rng) -> (Vec<u8>, Answer) {
+    let mut draft = base();
+    for _ in 0..count {
+        let objects = vec![1; rng.below(3)];
+        draft.records.push(RecordDraft { objects, states: vec![Vec::new()], steps: Vec::new() });
+    }
+    (draft.bytes(), if count > 64 { Refusal::HeaderCounts.at(0) } else { Answer::success(0) })
+}
+
+fn kinds(count: usize, rng: &mut Rng) -> (Vec<u8>, Answer) {
+    let mut draft = base();
+    draft.kinds = count;
+    draft.relations.push([1, count as u8, 0, 0]);
+    draft.records.push(RecordDraft {
+        objects: vec![rng.range(1, count) as u8, count as u8],
+        states: vec![vec![[2, 2, 0]]],
+        steps: Vec::new(),
+    });
+    (draft.bytes(), if count > 8 { Refusal::HeaderCounts.at(0) } else { Answer::success(0) })
+}
+
+fn relations(count: usize, rng: &mut Rng) -> (Vec<u8>, Answer) {
+    let mut draft = base();
+    draft.relations = vec![[rng.below(2) as u8, 0, 0, 0]; count];
+    for relation in &mut draft.relations {
+        relation[1] = relation[0];
+    }
+    let object = draft.relations[0][0];
+    let states = vec![vec![[count as u8, object, 0]]];
+    draft.records.push(RecordDraft { objects: vec![1], states, steps: Vec::new() });
+    (draft.bytes(), if count > 16 { Refusal::HeaderCounts.at(0) } else { Answer::success(0) })
+}
+
+fn moves(count: usize, rng: &mut Rng) -> (Vec<u8>, Answer) {
+    let mut draft = base();
+    draft.moves = vec![[0; 6]; count];
+    let steps: Vec<_> = (0..rng.range(1, 9)).map(|_| [count as u8, 0, 0, 0, 0]).collect();
+    let answer =
+        if count > 32 { Refusal::HeaderCounts.at(0) } else { Answer::success(steps.len()) };
+    let states = vec![Vec::new(); steps.len() + 1];
+    draft.records.push(RecordDraft { objects: Vec::new(), states, steps });
+    (draft.bytes(), answer)
+}

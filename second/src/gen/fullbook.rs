@@ -1,0 +1,110 @@
+//! Full books: one of any given length, and the two that are timed.
+
+use std::collections::BTreeSet;
+
+use super::draft::{BookDraft, Fact, RecordDraft};
+use super::rng::Rng;
+
+/// The `count` first facts of relation 1 over `objects` objects of one kind.
+pub fn first_facts(objects: usize, count: usize) -> Vec<Fact> {
+    (0..count).map(|n| [1, (n / objects) as u8 + 1, (n % objects) as u8 + 1]).collect()
+}
+
+/// A book of good form, but perhaps for its length, of exactly `length` bytes,
+/// which is at least 700 and fits in the header's end.
+pub fn of_length(length: usize, rng: &mut Rng) -> Vec<u8> {
+    const FACTS: usize = 150;
+    let mut draft = BookDraft {
+        kinds: 1,
+        relations: vec![[2, 1, 1, 0]],
+        moves: vec![[0; 6]],
+        records: Vec::new(),
+    };
+    // Each record without steps takes 6 + 16 + 3·150 bytes, each step 457 more.
+    // What is left is then filled by one record of fitting objects and facts.
+    let state = || first_facts(16, FACTS);
+    while length - draft.length() > 1000 {
+        let room = (length - draft.length() - 1000) / 457;
+        let steps = room.min(rng.range(40, 64));
+        draft.records.push(RecordDraft {
+            objects: vec![1; 16],
+            states: (0..=steps).map(|_| state()).collect(),
+            steps: vec![[1, 0, 0, 0, 0]; steps],
+        });
+    }
+    while length > draft.length() {
+        let rest = length - draft.length();
+        let share = if rest > 500 { rest / 2 } else { rest };
+        // The objects that leave a multiple of 3 for the facts.
+        let objects = (14..=16).find(|o| (share - 6 - o) % 3 == 0).expect("one of three in a row");
+        let facts = first_facts(objects, (share - 6 - objects) / 3);
+        draft.records.push(RecordDraft {
+            objects: vec![1; objects],
+            states: vec![facts],
+            steps: Vec::new(),
+        });
+    }
+    debug_assert_eq!(draft.length(), length);
+    draft.bytes()
+}
+
+/// 59,741 bytes: 2 records of 16 objects, 77 states of 256 facts each. Moves 1
+/// and 2 carry a pair of objects between relations 1 and 2.
+pub fn dense(rng: &mut Rng) -> BookDraft {
+    let mut draft = BookDraft {
+        kinds: 1,
+        relations: vec![[2, 1, 1, 0]; 2],
+        moves: vec![[4, 1, 1, 1, 1, 0]; 2],
+        records: Vec::new(),
+    };
+    for states in [39, 38] {
+        let mut record = RecordDraft { objects: vec![1; 16], ..RecordDraft::default() };
+        // Of each pair, one relation holds at most, and 256 facts in all.
+        let mut state: BTreeSet<Fact> = first_facts(16, 256)
+            .into_iter()
+            .map(|[_, first, second]| [1 + u8::from(rng.chance(50)), first, second])
+            .collect();
+        record.states.push(state.iter().copied().collect());
+        while record.states.len() < states {
+            let mut objects: Vec<u8> = (1..=16).collect();
+            rng.shuffle(&mut objects);
+            let action = if state.contains(&[1, objects[0], objects[1]]) { 1 } else { 2 };
+            state.remove(&[action, objects[0], objects[1]]);
+            state.insert([3 - action, objects[0], objects[1]]);
+            record.steps.push([action, objects[0], objects[1], objects[2], objects[3]]);
+            record.states.push(state.iter().copied().collect());
+        }
+        draft.records.push(record);
+    }
+    draft
+}
+
+/// 55,076 bytes in 4,096 steps: 64 records of 16 objects and 64 steps, with 2
+/// facts in each state. A bank rolls to a clear spot, by move 1 or move 2.
+pub fn many_steps(rng: &mut Rng) -> BookDraft {
+    let mut draft = BookDraft {
+        kinds: 2,
+        relations: vec![[2, 1, 2, 0], [1, 2, 0, 0]],
+        moves: vec![[3, 1, 2, 2, 0, 0], [4, 1, 2, 2, 2, 0]],
+        records: Vec::new(),
+    };
+    for _ in 0..64 {
+        // Object 1 is the bank, the others are spots.
+        let mut objects = vec![2; 16];
+        objects[0] = 1;
+        let mut spots: Vec<u8> = (2..=16).collect();
+        rng.shuffle(&mut spots);
+        let (mut here, mut clear, other) = (spots[0], spots[1], spots[2]);
+        let mut record = RecordDraft { objects, ..RecordDraft::default() };
+        record.states.push(vec![[1, 1, here], [2, clear, 0]]);
+        for _ in 0..64 {
+            let action = rng.range(1, 2) as u8;
+            let spare = if action == 2 { other } else { 0 };
+            record.steps.push([action, 1, here, clear, spare]);
+            std::mem::swap(&mut here, &mut clear);
+            record.states.push(vec![[1, 1, here], [2, clear, 0]]);
+        }
+        draft.records.push(record);
+    }
+    draft
+}

@@ -1,0 +1,165 @@
+//! The stream of books to look over: good, aimed, extreme and random ones.
+
+use super::aim::{Aim, Label};
+use super::draft::{put_number, BookDraft};
+use super::hall::Dynamics;
+use super::rng::Rng;
+use super::{book, extreme, front_faults, record_faults, BookCase};
+use crate::answer::Answer;
+
+pub struct BookStream {
+    aims: Vec<Aim<BookDraft>>,
+    seed: u64,
+}
+
+/// Kinds of random damage, whose answer only an implementation can tell.
+const RANDOM: [&str; 6] =
+    ["two faults", "bytes changed", "truncated", "bytes put in", "bytes taken out", "random bytes"];
+
+impl BookStream {
+    #[must_use]
+    pub fn new(seed: u64) -> Self {
+        let mut aims = front_faults::aims();
+        aims.extend(record_faults::aims());
+        Self { aims, seed }
+    }
+
+    /// Every aimed or extreme label, so that a tally can miss one.
+    #[must_use]
+    pub fn labels(&self) -> Vec<Label> {
+        self.aims.iter().map(|aim| aim.label).chain(extreme::labels()).collect()
+    }
+
+    /// The case of this index, the same for the same seed.
+    #[must_use]
+    pub fn case(&self, index: usize) -> BookCase {
+        let mut rng = Rng::of_case(self.seed, index);
+        // Of twenty in turn: two good, eleven aimed, two extreme, five random.
+        let (round, turn) = (index / 20, index % 20);
+        match turn {
+            0..=1 => good(&mut rng),
+            2..=12 => self.aimed(11 * round + turn - 2, &mut rng),
+            13..=14 => extreme::case((2 * round + turn - 13) % extreme::COUNT, &mut rng),
+            _ => self.random(5 * round + turn - 15, &mut rng),
+        }
+    }
+
+    fn aimed(&self, index: usize, rng: &mut Rng) -> BookCase {
+        let aim = &self.aims[index % self.aims.len()];
+        let (_, book, answer) = aim.hit(rng, book::to_damage);
+        BookCase { label: aim.label, book, aimed: Some(answer) }
+    }
+
+    /// A book with a fault of this number, 1 to 10.
+    #[must_use]
+    pub fn of_number(&self, number: u32, rng: &mut Rng) -> BookCase {
+        let fitting: Vec<usize> = (0..self.aims.len())
+            .filter(|&index| self.aims[index].refusal as u32 == number)
+            .collect();
+        let index = *rng.pick(&fitting).expect("every row from 1 to 10 has an aim");
+        self.aimed(index, rng)
+    }
+
+    fn random(&self, index: usize, rng: &mut Rng) -> BookCase {
+        let what = RANDOM[index % RANDOM.len()];
+        let mut bytes = book::to_damage(rng).bytes();
+        match what {
+            "two faults" => bytes = self.two_faults(rng),
+            "bytes changed" => change_bytes(&mut bytes, rng),
+            "truncated" => {
+                bytes.truncate(rng.range(0, bytes.len()));
+                renew_end(&mut bytes, rng);
+            }
+            "bytes put in" => {
+                let at = rng.range(0, bytes.len());
+                let more: Vec<u8> = (0..rng.range(1, 6)).map(|_| small_byte(rng)).collect();
+                bytes.splice(at..at, more);
+                renew_end(&mut bytes, rng);
+            }
+            "bytes taken out" => {
+                let from = rng.below(bytes.len());
+                let to = (from + rng.range(1, 6)).min(bytes.len());
+                bytes.drain(from..to);
+                renew_end(&mut bytes, rng);
+            }
+            _ => bytes = random_bytes(rng),
+        }
+        BookCase { label: Label { part: "random", what }, book: bytes, aimed: None }
+    }
+
+    /// An aimed fault on a book that is already damaged elsewhere: which of the
+    /// two is met shows the order of the rows.
+    fn two_faults(&self, rng: &mut Rng) -> Vec<u8> {
+        let mut aim = || &self.aims[rng.below(self.aims.len())];
+        let (first, second) = (aim(), aim());
+        let draft = book::to_damage(rng);
+        let good = draft.bytes();
+        // Both faults are put into one draft; where their lengths agree, the
+        // bytes that the second changed are copied over the first.
+        let tries = |aim: &Aim<BookDraft>, rng: &mut Rng| {
+            (0..20).find_map(|_| aim.try_on(&draft, rng)).map(|hit| hit.bytes)
+        };
+        let Some(mut bytes) = tries(first, rng) else { return good };
+        if let Some(other) = tries(second, rng) {
+            for (at, (&new, &old)) in other.iter().zip(&good).enumerate() {
+                if new != old && at < bytes.len() {
+                    bytes[at] = new;
+                }
+            }
+        }
+        renew_end(&mut bytes, rng);
+        bytes
+    }
+}
+
+fn good(rng: &mut Rng) -> BookCase {
+    let dynamics = *rng
+        .pick(&[Dynamics::Follows, Dynamics::Slips, Dynamics::Random])
+        .expect("there are three");
+    let (what, world) = book::any_size(dynamics, rng);
+    let aimed = Some(Answer::success(world.book.steps()));
+    BookCase { label: Label { part: "good", what }, book: world.book.bytes(), aimed }
+}
+
+/// Half of the time a byte of the kind that the format is made of.
+fn small_byte(rng: &mut Rng) -> u8 {
+    if rng.chance(50) {
+        rng.below(6) as u8
+    } else {
+        rng.byte()
+    }
+}
+
+fn change_bytes(bytes: &mut [u8], rng: &mut Rng) {
+    for _ in 0..rng.range(1, 3) {
+        let at = rng.below(bytes.len());
+        bytes[at] = match rng.below(4) {
+            0 => bytes[at].wrapping_add(1),
+            1 => bytes[at].wrapping_sub(1),
+            2 => bytes[at] ^ (1 << rng.below(8)),
+            _ => small_byte(rng),
+        };
+    }
+}
+
+/// Most of the time, so that rows behind the header are reached.
+fn renew_end(bytes: &mut [u8], rng: &mut Rng) {
+    if bytes.len() >= 16 && rng.chance(85) {
+        let end = bytes.len();
+        put_number(bytes, 14, end);
+    }
+}
+
+/// Half of the time under a header that fits them.
+fn random_bytes(rng: &mut Rng) -> Vec<u8> {
+    let mut bytes: Vec<u8> = (0..rng.range(0, 200)).map(|_| small_byte(rng)).collect();
+    if bytes.len() >= 16 && rng.chance(70) {
+        let (relations, moves) = (rng.below(3), rng.below(2));
+        let counts = [rng.below(4), relations, moves, rng.below(3)];
+        let offsets = [16, 16 + 4 * relations, 16 + 4 * relations + 6 * moves, bytes.len()];
+        for (field, number) in counts.into_iter().chain(offsets).enumerate() {
+            put_number(&mut bytes, 2 * field, number);
+        }
+    }
+    bytes
+}

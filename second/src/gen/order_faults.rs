@@ -1,0 +1,201 @@
+//! Faults in an order: rows 14 to 18.
+
+use super::aim::{Aim, Hit};
+use super::draft::{put_number, OrderDraft};
+use super::order::Plan;
+use super::rng::Rng;
+use super::spoil::{object_twice, over, Scene, SpoilStep, FACT_FAULTS, STEP_FAULTS};
+use crate::answer::Refusal;
+
+pub fn aims() -> Vec<Aim<Plan>> {
+    let mut aims = header();
+    aims.extend(objects());
+    aims.extend(start_facts());
+    aims.extend(goal_entries());
+    aims.extend(steps());
+    aims
+}
+
+fn scene(plan: &Plan) -> Scene<'_> {
+    Scene { relations: &plan.book.relations, moves: &plan.book.moves, objects: &plan.order.objects }
+}
+
+fn header() -> Vec<Aim<Plan>> {
+    let aim = |what, make: fn(&OrderDraft, &mut Rng) -> Option<Vec<u8>>| {
+        Aim::new("order header", what, Refusal::OrderHeader, move |plan: &Plan, rng: &mut Rng| {
+            make(&plan.order, rng).map(|bytes| Hit { bytes, place: 0 })
+        })
+    };
+    let offset = |what, field: usize| {
+        Aim::new("order header", what, Refusal::OrderHeader, move |plan: &Plan, rng: &mut Rng| {
+            let mut bytes = plan.order.bytes();
+            let right = usize::from(u16::from_be_bytes([bytes[2 * field], bytes[2 * field + 1]]));
+            let wrong = *rng.pick(&[right + 1, right - 1, right ^ 0x100, 0, 0xffff])?;
+            put_number(&mut bytes, 2 * field, wrong);
+            Some(Hit { bytes, place: 0 })
+        })
+    };
+    vec![
+        aim("under 16 bytes", |order, rng| {
+            let mut bytes = order.bytes();
+            bytes.truncate(rng.below(16));
+            Some(bytes)
+        }),
+        // Laid out in full, so that nothing but the count is wrong.
+        aim("objects over 16", |order, _| {
+            let mut order = order.clone();
+            order.objects.resize(17, 1);
+            Some(order.bytes())
+        }),
+        aim("start facts over 256", |order, _| {
+            let mut order = order.clone();
+            order.start.resize(257, [1, 1, 1]);
+            Some(order.bytes())
+        }),
+        aim("goal entries over 64", |order, _| {
+            let mut order = order.clone();
+            order.goal.resize(65, (1, [1, 1, 1]));
+            Some(order.bytes())
+        }),
+        aim("steps over 64", |order, _| {
+            let mut order = order.clone();
+            order.steps.resize(65, [1, 0, 0, 0, 0]);
+            Some(order.bytes())
+        }),
+        offset("objects offset wrong", 4),
+        offset("start offset wrong", 5),
+        offset("goal offset wrong", 6),
+        offset("steps offset wrong", 7),
+        aim("too short for its counts", |order, rng| {
+            let mut bytes = order.bytes();
+            if bytes.len() == 16 {
+                return None;
+            }
+            bytes.truncate(rng.range(16.max(bytes.len() - 6), bytes.len() - 1));
+            Some(bytes)
+        }),
+        aim("bytes behind the steps", |order, rng| {
+            let mut bytes = order.bytes();
+            bytes.resize(bytes.len() + rng.range(1, 6), 0);
+            Some(bytes)
+        }),
+    ]
+}
+
+fn objects() -> Vec<Aim<Plan>> {
+    let aim = |what, wrong: fn(usize, &mut Rng) -> u8| {
+        Aim::new("order object", what, Refusal::OrderObject, move |plan: &Plan, rng: &mut Rng| {
+            let count = plan.order.objects.len();
+            let index = (count > 0).then(|| rng.below(count))?;
+            let mut bytes = plan.order.bytes();
+            bytes[16 + index] = wrong(plan.book.kinds, rng);
+            Some(Hit { bytes, place: 16 + index })
+        })
+    };
+    vec![aim("kind 0", |_, _| 0), aim("kind over the count", over)]
+}
+
+fn start_facts() -> Vec<Aim<Plan>> {
+    let fact_at = |plan: &Plan, rng: &mut Rng| {
+        let count = plan.order.start.len();
+        (count > 0).then(|| rng.below(count))
+    };
+    let put = |order: OrderDraft, index: usize| {
+        let place = order.layout().start + 3 * index;
+        Some(Hit { bytes: order.bytes(), place })
+    };
+    let mut aims = vec![
+        Aim::new("start", "facts equal", Refusal::StartFact, move |plan: &Plan, rng: &mut Rng| {
+            let index = fact_at(plan, rng)?;
+            let mut order = plan.order.clone();
+            order.start[index] = order.start[index.checked_sub(1)?];
+            put(order, index)
+        }),
+        Aim::new(
+            "start",
+            "facts decrease",
+            Refusal::StartFact,
+            move |plan: &Plan, rng: &mut Rng| {
+                let index = fact_at(plan, rng)?;
+                let mut order = plan.order.clone();
+                order.start.swap(index, index.checked_sub(1)?);
+                put(order, index)
+            },
+        ),
+    ];
+    aims.extend(FACT_FAULTS.into_iter().map(|(what, spoil)| {
+        Aim::new("start", what, Refusal::StartFact, move |plan: &Plan, rng: &mut Rng| {
+            let index = fact_at(plan, rng)?;
+            let mut order = plan.order.clone();
+            order.start[index] = spoil(order.start[index], &scene(plan), rng)?;
+            put(order, index)
+        })
+    }));
+    aims
+}
+
+fn goal_entries() -> Vec<Aim<Plan>> {
+    let entry_at = |plan: &Plan, rng: &mut Rng| {
+        let count = plan.order.goal.len();
+        (count > 0).then(|| rng.below(count))
+    };
+    let put = |order: OrderDraft, index: usize| {
+        let place = order.layout().goal + 4 * index;
+        Some(Hit { bytes: order.bytes(), place })
+    };
+    let mut aims = vec![
+        Aim::new(
+            "goal",
+            "first byte over 1",
+            Refusal::GoalEntry,
+            move |plan: &Plan, rng: &mut Rng| {
+                let index = entry_at(plan, rng)?;
+                let mut order = plan.order.clone();
+                order.goal[index].0 = over(1, rng);
+                put(order, index)
+            },
+        ),
+        Aim::new("goal", "facts equal", Refusal::GoalEntry, move |plan: &Plan, rng: &mut Rng| {
+            let index = entry_at(plan, rng)?;
+            let mut order = plan.order.clone();
+            // The first bytes may differ all the same.
+            order.goal[index] = (rng.below(2) as u8, order.goal[index.checked_sub(1)?].1);
+            put(order, index)
+        }),
+        Aim::new(
+            "goal",
+            "facts decrease",
+            Refusal::GoalEntry,
+            move |plan: &Plan, rng: &mut Rng| {
+                let index = entry_at(plan, rng)?;
+                let mut order = plan.order.clone();
+                order.goal.swap(index, index.checked_sub(1)?);
+                put(order, index)
+            },
+        ),
+    ];
+    aims.extend(FACT_FAULTS.into_iter().map(|(what, spoil)| {
+        Aim::new("goal", what, Refusal::GoalEntry, move |plan: &Plan, rng: &mut Rng| {
+            let index = entry_at(plan, rng)?;
+            let mut order = plan.order.clone();
+            order.goal[index].1 = spoil(order.goal[index].1, &scene(plan), rng)?;
+            put(order, index)
+        })
+    }));
+    aims
+}
+
+fn steps() -> impl Iterator<Item = Aim<Plan>> {
+    STEP_FAULTS.into_iter().chain([("object twice", object_twice as SpoilStep)]).map(
+        |(what, spoil)| {
+            Aim::new("plan step", what, Refusal::PlanStep, move |plan: &Plan, rng: &mut Rng| {
+                let count = plan.order.steps.len();
+                let index = (count > 0).then(|| rng.below(count))?;
+                let mut order = plan.order.clone();
+                order.steps[index] = spoil(order.steps[index], &scene(plan), rng)?;
+                let place = order.layout().steps + 5 * index;
+                Some(Hit { bytes: order.bytes(), place })
+            })
+        },
+    )
+}

@@ -1,0 +1,277 @@
+//! Faults in records and behind them: rows 6 to 10.
+
+use super::aim::{Aim, Hit};
+use super::draft::{put_number, BookDraft, Fact, RecordDraft, RecordLayout};
+use super::rng::Rng;
+use super::spoil::{object_twice, over, Scene, FACT_FAULTS, STEP_FAULTS};
+use crate::answer::Refusal;
+
+pub fn aims() -> Vec<Aim<BookDraft>> {
+    let mut aims = head_and_tail();
+    aims.extend(objects());
+    aims.extend(states());
+    aims.extend(steps());
+    aims
+}
+
+/// A record drawn from a draft, with the whole book's bytes to be changed.
+struct Site<'a> {
+    record: &'a RecordDraft,
+    layout: RecordLayout,
+    last: bool,
+    bytes: Vec<u8>,
+}
+
+fn site<'a>(draft: &'a BookDraft, rng: &mut Rng) -> Option<Site<'a>> {
+    let index = (!draft.records.is_empty()).then(|| rng.below(draft.records.len()))?;
+    Some(Site {
+        record: &draft.records[index],
+        layout: draft.layout().records.swap_remove(index),
+        last: index + 1 == draft.records.len(),
+        bytes: draft.bytes(),
+    })
+}
+
+impl Site<'_> {
+    fn hit(self, place: usize) -> Option<Hit> {
+        Some(Hit { bytes: self.bytes, place })
+    }
+
+    /// Lets the record end at `end`, by its head alone; what follows in the
+    /// book is reached only after the cut has been met.
+    fn end_record(&mut self, end: usize) {
+        put_number(&mut self.bytes, self.layout.at + 2, end - self.layout.at);
+    }
+}
+
+fn renew_end(bytes: &mut [u8]) {
+    let end = bytes.len();
+    put_number(bytes, 14, end);
+}
+
+fn insert_random(bytes: &mut Vec<u8>, at: usize, rng: &mut Rng) -> usize {
+    let count = rng.range(1, 7);
+    let new: Vec<u8> = (0..count).map(|_| if rng.chance(50) { 0 } else { rng.byte() }).collect();
+    bytes.splice(at..at, new);
+    renew_end(bytes);
+    count
+}
+
+fn head_and_tail() -> Vec<Aim<BookDraft>> {
+    let aim = |part, what, make: fn(Site<'_>, &mut Rng) -> Option<Hit>| {
+        Aim::new(part, what, Refusal::Record, move |draft: &BookDraft, rng: &mut Rng| {
+            make(site(draft, rng)?, rng)
+        })
+    };
+    vec![
+        aim("head", "cut", |mut site, rng| {
+            let at = site.layout.at;
+            site.bytes.truncate(at + rng.range(1, 3));
+            renew_end(&mut site.bytes);
+            site.hit(at)
+        }),
+        Aim::new("head", "more announced than filed", Refusal::Record, |draft: &BookDraft, rng| {
+            let records = draft.records.len();
+            if records == 0 {
+                return None;
+            }
+            let mut bytes = draft.bytes();
+            put_number(&mut bytes, 6, rng.range(records + 1, 64));
+            let place = bytes.len();
+            Some(Hit { bytes, place })
+        }),
+        Aim::new("head", "records offset is the end", Refusal::Record, |draft: &BookDraft, rng| {
+            let mut bytes = draft.bytes();
+            bytes.truncate(draft.front_length());
+            renew_end(&mut bytes);
+            put_number(&mut bytes, 6, rng.range(1, 64));
+            let place = bytes.len();
+            Some(Hit { bytes, place })
+        }),
+        aim("head", "objects over 16", |mut site, rng| {
+            let at = site.layout.at;
+            site.bytes[at] = over(16, rng);
+            site.hit(at)
+        }),
+        aim("head", "steps over 64", |mut site, rng| {
+            let at = site.layout.at;
+            site.bytes[at + 1] = over(64, rng);
+            site.hit(at)
+        }),
+        aim("head", "length under 4", |mut site, rng| {
+            let at = site.layout.at;
+            put_number(&mut site.bytes, at + 2, rng.below(4));
+            site.hit(at)
+        }),
+        aim("head", "length past the end", |mut site, rng| {
+            let (at, room) = (site.layout.at, site.bytes.len() - site.layout.at);
+            let length = if rng.chance(50) { room + 1 } else { rng.range(room + 1, 0xffff) };
+            put_number(&mut site.bytes, at + 2, length);
+            site.hit(at)
+        }),
+        aim("tail", "of a record, bytes put in", |mut site, rng| {
+            let (at, end) = (site.layout.at, site.layout.end);
+            let more = insert_random(&mut site.bytes, end, rng);
+            site.end_record(end + more);
+            site.hit(at)
+        }),
+        aim("tail", "of a record, the next one taken in", |mut site, rng| {
+            let (at, end) = (site.layout.at, site.layout.end);
+            if site.last {
+                return None;
+            }
+            let longer = rng.range(end + 1, site.bytes.len());
+            site.end_record(longer);
+            site.hit(at)
+        }),
+        Aim::new(
+            "tail",
+            "of a book, bytes put behind",
+            Refusal::Record,
+            |draft: &BookDraft, rng| {
+                let mut bytes = draft.bytes();
+                let place = bytes.len();
+                insert_random(&mut bytes, place, rng);
+                Some(Hit { bytes, place })
+            },
+        ),
+        Aim::new(
+            "tail",
+            "of a book, fewer announced",
+            Refusal::Record,
+            |draft: &BookDraft, rng| {
+                let index = (!draft.records.is_empty()).then(|| rng.below(draft.records.len()))?;
+                let mut bytes = draft.bytes();
+                put_number(&mut bytes, 6, index);
+                Some(Hit { bytes, place: draft.layout().records[index].at })
+            },
+        ),
+    ]
+}
+
+fn objects() -> Vec<Aim<BookDraft>> {
+    let aim = |what, make: fn(Site<'_>, usize, usize, &mut Rng) -> Option<Hit>| {
+        Aim::new("object", what, Refusal::Object, move |draft: &BookDraft, rng: &mut Rng| {
+            let site = site(draft, rng)?;
+            let count = site.record.objects.len();
+            let index = (count > 0).then(|| rng.below(count))?;
+            make(site, index, draft.kinds, rng)
+        })
+    };
+    vec![
+        aim("cut", |mut site, index, _, _| {
+            let place = site.layout.objects + index;
+            site.end_record(place);
+            site.hit(place)
+        }),
+        aim("kind 0", |mut site, index, _, _| {
+            let place = site.layout.objects + index;
+            site.bytes[place] = 0;
+            site.hit(place)
+        }),
+        aim("kind over the count", |mut site, index, kinds, rng| {
+            let place = site.layout.objects + index;
+            site.bytes[place] = over(kinds, rng);
+            site.hit(place)
+        }),
+    ]
+}
+
+/// A state of the record, by its number, and a fact of it, by its number.
+fn fact_site<'a>(draft: &'a BookDraft, rng: &mut Rng) -> Option<(Site<'a>, usize, usize)> {
+    let site = site(draft, rng)?;
+    let state = rng.below(site.record.states.len());
+    let facts = site.record.states[state].len();
+    let fact = (facts > 0).then(|| rng.below(facts))?;
+    Some((site, state, fact))
+}
+
+fn put_fact(mut site: Site<'_>, state: usize, index: usize, fact: Fact) -> Option<Hit> {
+    let place = site.layout.states[state] + 2 + 3 * index;
+    site.bytes[place..place + 3].copy_from_slice(&fact);
+    site.hit(place)
+}
+
+fn states() -> Vec<Aim<BookDraft>> {
+    let mut aims = vec![
+        Aim::new("state", "count cut", Refusal::State, |draft: &BookDraft, rng| {
+            let mut site = site(draft, rng)?;
+            let place = *rng.pick(&site.layout.states)?;
+            site.end_record(place + rng.below(2));
+            site.hit(place)
+        }),
+        Aim::new("state", "count over 256", Refusal::State, |draft: &BookDraft, rng| {
+            let mut site = site(draft, rng)?;
+            let place = *rng.pick(&site.layout.states)?;
+            let count = if rng.chance(50) { 257 } else { rng.range(257, 0xffff) };
+            put_number(&mut site.bytes, place, count);
+            site.hit(place)
+        }),
+        Aim::new("state", "fact cut by the length", Refusal::State, |draft: &BookDraft, rng| {
+            let (mut site, state, fact) = fact_site(draft, rng)?;
+            let place = site.layout.states[state] + 2 + 3 * fact;
+            site.end_record(place + rng.below(3));
+            site.hit(place)
+        }),
+        Aim::new("state", "fact cut by the count", Refusal::State, |draft: &BookDraft, rng| {
+            let mut site = site(draft, rng)?;
+            let state = site.record.states.last()?;
+            let at = *site.layout.states.last()?;
+            if state.len() == 256 {
+                return None;
+            }
+            put_number(&mut site.bytes, at, rng.range(state.len() + 1, 256));
+            let place = site.layout.end;
+            site.hit(place)
+        }),
+        Aim::new("state", "facts equal", Refusal::State, |draft: &BookDraft, rng| {
+            let (site, state, fact) = fact_site(draft, rng)?;
+            let before = site.record.states[state][fact.checked_sub(1)?];
+            put_fact(site, state, fact, before)
+        }),
+        Aim::new("state", "facts decrease", Refusal::State, |draft: &BookDraft, rng| {
+            let (mut site, state, fact) = fact_site(draft, rng)?;
+            let facts = &site.record.states[state];
+            let (before, here) = (facts[fact.checked_sub(1)?], facts[fact]);
+            let earlier = site.layout.states[state] + 2 + 3 * (fact - 1);
+            site.bytes[earlier..earlier + 3].copy_from_slice(&here);
+            put_fact(site, state, fact, before)
+        }),
+    ];
+    aims.extend(FACT_FAULTS.into_iter().map(|(what, spoil)| {
+        Aim::new("state", what, Refusal::State, move |draft: &BookDraft, rng: &mut Rng| {
+            let (site, state, index) = fact_site(draft, rng)?;
+            let scene = scene(draft, site.record);
+            let fact = spoil(site.record.states[state][index], &scene, rng)?;
+            put_fact(site, state, index, fact)
+        })
+    }));
+    aims
+}
+
+fn scene<'a>(draft: &'a BookDraft, record: &'a RecordDraft) -> Scene<'a> {
+    Scene { relations: &draft.relations, moves: &draft.moves, objects: &record.objects }
+}
+
+fn steps() -> Vec<Aim<BookDraft>> {
+    let mut aims = vec![Aim::new("step", "cut", Refusal::Step, |draft: &BookDraft, rng| {
+        let mut site = site(draft, rng)?;
+        let place = *rng.pick(&site.layout.steps)?;
+        site.end_record(place + rng.below(5));
+        site.hit(place)
+    })];
+    let spoils = STEP_FAULTS.map(|(what, spoil)| (what, Refusal::Step, spoil));
+    let twice = ("object twice", Refusal::ObjectTwice, object_twice as super::spoil::SpoilStep);
+    aims.extend(spoils.into_iter().chain([twice]).map(|(what, refusal, spoil)| {
+        Aim::new("step", what, refusal, move |draft: &BookDraft, rng: &mut Rng| {
+            let mut site = site(draft, rng)?;
+            let count = site.record.steps.len();
+            let index = (count > 0).then(|| rng.below(count))?;
+            let step = spoil(site.record.steps[index], &scene(draft, site.record), rng)?;
+            let place = site.layout.steps[index];
+            site.bytes[place..place + 5].copy_from_slice(&step);
+            site.hit(place)
+        })
+    }));
+    aims
+}

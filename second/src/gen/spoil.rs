@@ -1,0 +1,140 @@
+//! Single faults in a fact or in a step, for books and orders alike.
+
+use super::draft::{Fact, Step};
+use super::rng::Rng;
+
+/// What facts and steps are judged by: the first sections and the objects.
+pub struct Scene<'a> {
+    pub relations: &'a [[u8; 4]],
+    pub moves: &'a [[u8; 6]],
+    pub objects: &'a [u8],
+}
+
+pub type SpoilFact = fn(Fact, &Scene<'_>, &mut Rng) -> Option<Fact>;
+pub type SpoilStep = fn(Step, &Scene<'_>, &mut Rng) -> Option<Step>;
+
+pub const FACT_FAULTS: [(&str, SpoilFact); 7] = [
+    ("fact, relation 0", |fact, _, _| Some([0, fact[1], fact[2]])),
+    ("fact, relation over the count", |fact, scene, rng| {
+        let relation = over(scene.relations.len(), rng);
+        Some([relation, fact[1], fact[2]])
+    }),
+    ("fact, used object 0", |fact, scene, rng| {
+        spoil_used(fact, scene.relations[usize::from(fact[0]) - 1][0], rng, |_, _| Some(0))
+    }),
+    ("fact, object over the count", |fact, scene, rng| {
+        let places = scene.relations[usize::from(fact[0]) - 1][0];
+        spoil_used(fact, places, rng, |_, rng| Some(over(scene.objects.len(), rng)))
+    }),
+    ("fact, object of another kind", |fact, scene, rng| {
+        let relation = scene.relations[usize::from(fact[0]) - 1];
+        spoil_used(fact, relation[0], rng, |place, rng| other_kind(relation[place], scene, rng))
+    }),
+    ("fact, unused object not 0", |fact, scene, rng| {
+        let places = scene.relations[usize::from(fact[0]) - 1][0];
+        spoil_unused(fact, places, rng)
+    }),
+    ("fact, object 32 or more", |fact, scene, rng| {
+        let places = scene.relations[usize::from(fact[0]) - 1][0];
+        // Any byte that a test by shifting a small word could mistake.
+        spoil_used(fact, places, rng, |place, rng| Some(fact[place] + 32 * rng.range(1, 7) as u8))
+    }),
+];
+
+/// The faults of row 9, but for a cut step.
+pub const STEP_FAULTS: [(&str, SpoilStep); 8] = [
+    ("move 0", |step, _, _| Some([0, step[1], step[2], step[3], step[4]])),
+    ("move over the count", |step, scene, rng| {
+        Some([over(scene.moves.len(), rng), step[1], step[2], step[3], step[4]])
+    }),
+    ("used object 0", |step, scene, rng| {
+        spoil_used(step, scene.moves[usize::from(step[0]) - 1][0], rng, |_, _| Some(0))
+    }),
+    ("object over the count", |step, scene, rng| {
+        let parameters = scene.moves[usize::from(step[0]) - 1][0];
+        spoil_used(step, parameters, rng, |_, rng| Some(over(scene.objects.len(), rng)))
+    }),
+    ("object of another kind", |step, scene, rng| {
+        let entry = scene.moves[usize::from(step[0]) - 1];
+        spoil_used(step, entry[0], rng, |place, rng| other_kind(entry[place], scene, rng))
+    }),
+    ("unused object not 0", |step, scene, rng| {
+        spoil_unused(step, scene.moves[usize::from(step[0]) - 1][0], rng)
+    }),
+    ("object 32 or more", |step, scene, rng| {
+        let parameters = scene.moves[usize::from(step[0]) - 1][0];
+        spoil_used(step, parameters, rng, |place, rng| {
+            Some(step[place] + 32 * rng.range(1, 7) as u8)
+        })
+    }),
+    // Row 9 before row 10: the second parameter is of another kind.
+    ("object twice, once of another kind", |step, scene, rng| {
+        repeat_object(step, scene, rng, |from, to| from != to)
+    }),
+];
+
+/// The fault of row 10: one object for two parameters of one kind.
+pub fn object_twice(step: Step, scene: &Scene<'_>, rng: &mut Rng) -> Option<Step> {
+    repeat_object(step, scene, rng, |from, to| from == to)
+}
+
+/// Gives a parameter the object of another, for a pair of suitable kinds.
+fn repeat_object(
+    mut step: Step,
+    scene: &Scene<'_>,
+    rng: &mut Rng,
+    suitable: impl Fn(u8, u8) -> bool,
+) -> Option<Step> {
+    let entry = scene.moves[usize::from(step[0]) - 1];
+    let used = 1..=usize::from(entry[0]);
+    let pairs: Vec<(usize, usize)> = used
+        .clone()
+        .flat_map(|from| used.clone().map(move |to| (from, to)))
+        .filter(|&(from, to)| from != to && suitable(entry[from], entry[to]))
+        .collect();
+    let &(from, to) = rng.pick(&pairs)?;
+    step[to] = step[from];
+    Some(step)
+}
+
+/// A number over `count`: the next one half of the time.
+pub fn over(count: usize, rng: &mut Rng) -> u8 {
+    if rng.chance(50) {
+        count as u8 + 1
+    } else {
+        rng.range(count + 1, 255) as u8
+    }
+}
+
+fn other_kind(kind: u8, scene: &Scene<'_>, rng: &mut Rng) -> Option<u8> {
+    let others: Vec<u8> = (1..)
+        .zip(scene.objects)
+        .filter(|(_, &other)| other != kind)
+        .map(|(object, _)| object)
+        .collect();
+    rng.pick(&others).copied()
+}
+
+/// Changes one used place; `bytes` has a number first and then the places.
+fn spoil_used<const N: usize>(
+    mut bytes: [u8; N],
+    used: u8,
+    rng: &mut Rng,
+    wrong: impl Fn(usize, &mut Rng) -> Option<u8>,
+) -> Option<[u8; N]> {
+    if used == 0 {
+        return None;
+    }
+    let place = rng.range(1, usize::from(used));
+    bytes[place] = wrong(place, rng)?;
+    Some(bytes)
+}
+
+fn spoil_unused<const N: usize>(mut bytes: [u8; N], used: u8, rng: &mut Rng) -> Option<[u8; N]> {
+    let first = usize::from(used) + 1;
+    if first == N {
+        return None;
+    }
+    bytes[rng.range(first, N - 1)] = if rng.chance(50) { 1 } else { rng.range(1, 255) as u8 };
+    Some(bytes)
+}

@@ -1,0 +1,19 @@
+//! A second implementation of the hall changeover product, written from its
+//! paper alone: a yardstick to compare with and to time against.
+//!
+//! Data flows one way: bytes, header, signature, records, transitions, what is
+//! observed of each action, the action model, the plan, the end sheet.
+
+pub mod add;
+pub mod answer;
+pub mod check;
+pub mod compare;
+pub mod form;
+pub mod gen;
+pub mod judge;
+pub mod learn;
+pub mod limits;
+pub mod listing;
+pub mod mask;
+
+pub use answer::{Answer, Refusal};
