@@ -3,5 +3,6 @@ pub mod Numbers
 pub mod Bytes
 pub mod Laws
 pub mod Whole
+pub mod Joined
 pub mod Turns
 pub mod Examples

@@ -1,0 +1,2 @@
+-- What each call for C promises: number, place and every lent byte afterwards.
+pub mod Calls

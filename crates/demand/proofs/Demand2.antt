@@ -1,0 +1,147 @@
+-- Demand 2, proved: the bits of the sheet are those of the learned model, which bounds every fitting one.
+use Prim.Native.Nat.{ℕ, _+_, _-_, _*_, _≤_, _<_}
+use mathlib.Core.Path.{_≡_, refl, sym, ap, _∙_}
+use mathlib.Core.Logic.{_↔_}
+use mathlib.Core.Bool.{Bool, true, false, not}
+use mathlib.Core.List.{List}
+use native.Mathlib.Omega.{arith}
+use lib.ListN.{length}
+use borrow.Author.Tests.{eq-eqb}
+use Rattle.answer.specs.declared.Answer.the-variants.{Good}
+use Rattle.answer.specs.Laws.{bind-good, refuse-unmet}
+use Rattle.mask.specs.Bits.{testBit}
+use Rattle.terms.specs.Steps.{isAtom}
+use Rattle.format.specs.Decode.{Filed}
+use Rattle.format.specs.LookOver.{lookOver}
+use Rattle.model.specs.Quantify.{Mem}
+use Rattle.model.specs.Learned.{learned}
+use Rattle.model.proofs.Truth.{clash, not-self, is-false}
+use Rattle.model.proofs.Seen.{before-in, before-out, turned-in, turned-out, need-in, need-out, effect-in, effect-out}
+use Rattle.model.proofs.Bounds.{precondition-iff-some, effect-iff-every}
+use Rattle.jobs.specs.Planning.{domain, schemaOf, filedIn, transitionsOf}
+use Rattle.jobs.specs.Learn.{ruleSize, learnable, learnedFrom, ruleRow, ruleSheet, learn, kept, learnBytes}
+use Rattle.wellformed.proofs.Formed.{formed}
+use Rattle.demand.specs.Demand2.{needBit, effectBit, valueIn, Bits, Demand2}
+use Rattle.demand.proofs.Rows.{conflictIn, learnable-conflict}
+use Rattle.demand.proofs.Demand3.{demand3}
+use Rattle.demand.proofs.Sheet.{length-rows, sheet-bit, bit-held, bit-unheld, bit-added, bit-removed}
+use Rattle.demand.proofs.Filed.{sight-of-filed, filed-of-sight}
+
+-- the other value is ruled out
+other : (b x : Bool) → (x ≡ not b → ⊥) → x ≡ b
+other true true h = refl
+other true false h = absurd (h refl)
+other false true h = absurd (h refl)
+other false false h = refl
+
+module _ (s : List ℕ) (b : Bool) (a n : ℕ) where
+  -- ---- what is learned, told of the steps as they are filed
+  need-filed : learnedFrom s .precondition b a n ≡ true
+      ↔ ((isAtom (schemaOf s) a n ≡ true) × ((f : Filed) → Mem f (filedIn s) → f .step .action .0 ≡ a → valueIn s f (f .pre) n ≡ b))
+  unfolding learnedFrom domain
+  need-filed = (
+    λ e.
+        let (atom, never) = need-out (domain (schemaOf s)) (transitionsOf s) b a n e in (
+          atom,
+          λ f m q.
+              other b (valueIn s f (f .pre) n)
+              (λ w.
+              clash _
+              (before-in (transitionsOf s) a n (not b) _
+              (sight-of-filed s a n (not b) _ (record { filed = f; member = m; action = q; was = w; got = refl })))
+              never),
+        ),
+    λ (atom, always).
+        need-in (domain (schemaOf s)) (transitionsOf s) b a n atom
+        (is-false _
+        (λ e.
+        let (y, sight) = before-out (transitionsOf s) a n (not b) e in
+        let h = filed-of-sight s a n (not b) y sight in
+        not-self b (sym (always (h .filed) (h .member) (h .action)) ∙ h .was))),
+  )
+
+  effect-filed : learnedFrom s .effect b a n ≡ true
+      ↔ ((isAtom (schemaOf s) a n ≡ true)
+      × ((f : Filed) × Mem f (filedIn s) × (f .step .action .0 ≡ a) × (valueIn s f (f .pre) n ≡ not b) × (valueIn s f (f .post) n ≡ b)))
+  unfolding learnedFrom domain
+  effect-filed = (
+    λ e.
+        let (atom, turns) = effect-out (domain (schemaOf s)) (transitionsOf s) b a n e in
+        let h = filed-of-sight s a n (not b) b (turned-out (transitionsOf s) a n b turns) in
+        (atom, (h .filed, h .member, h .action, h .was, h .got)),
+    λ (atom, (f, m, q, w, g)).
+        effect-in (domain (schemaOf s)) (transitionsOf s) b a n atom
+        (turned-in (transitionsOf s) a n b (sight-of-filed s a n (not b) b (record { filed = f; member = m; action = q; was = w; got = g }))),
+  )
+
+-- ---- the bits
+module _ (s : List ℕ) (a n : ℕ) (low : 1 ≤ a) (high : a ≤ schemaOf s .moves) (small : n < 256) where
+  row-bit : (j : ℕ) → j < 1024 → testBit (ruleSheet s) (1024 * (a - 1) + j) ≡ testBit (ruleRow (learnedFrom s) a) j
+  unfolding ruleSheet
+  row-bit j l =
+      let e : 1 + (a - 1) ≡ a = omega arith in
+      sheet-bit (learnedFrom s) (schemaOf s .moves) 1 (a - 1) j (omega arith) l ∙ ap (λ (k : ℕ). testBit (ruleRow (learnedFrom s) k) j) e
+
+  need-bit : (b : Bool) → needBit s b a n ≡ learnedFrom s .precondition b a n
+  need-bit true =
+      let e : 0 + n ≡ n = omega arith in
+      row-bit (0 + n) (omega arith) ∙ ap (testBit (ruleRow (learnedFrom s) a)) e ∙ bit-held (learnedFrom s) a n small
+  need-bit false = row-bit (256 + n) (omega arith) ∙ bit-unheld (learnedFrom s) a n small
+
+  effect-bit : (b : Bool) → effectBit s b a n ≡ learnedFrom s .effect b a n
+  effect-bit true = row-bit (512 + n) (omega arith) ∙ bit-added (learnedFrom s) a n small
+  effect-bit false = row-bit (768 + n) (omega arith) ∙ bit-removed (learnedFrom s) a n small
+
+  need-none : (b : Bool) → isAtom (schemaOf s) a n ≡ false → learnedFrom s .precondition b a n ≡ false
+  unfolding learnedFrom learned domain
+  need-none b e = rw e
+
+  effect-none : (b : Bool) → isAtom (schemaOf s) a n ≡ false → learnedFrom s .effect b a n ≡ false
+  unfolding learnedFrom learned domain
+  effect-none b e = rw e
+
+  bits : (m : ℕ) → lookOver s ≡ Good m → conflictIn s ≡ false → (b : Bool) → Bits s b a n
+  unfolding learnedFrom
+  bits m good clean b =
+      record {
+        needed-by-some = rw (need-bit b) (precondition-iff-some (domain (schemaOf s)) (transitionsOf s) (formed s m good) clean b a n);
+        needed-by-record = rw (need-bit b) (need-filed s b a n);
+        given-by-every = rw (effect-bit b) (effect-iff-every (domain (schemaOf s)) (transitionsOf s) (formed s m good) clean b a n);
+        given-by-record = rw (effect-bit b) (effect-filed s b a n);
+        of-none = λ e. (need-bit b ∙ need-none b e, effect-bit b ∙ effect-none b e);
+      }
+
+-- ---- the whole
+module _ (s : List ℕ) (n : ℕ) (good : lookOver s ≡ Good n) (total : ℕ) (accepted : learnable s ≡ Good total) where
+  accepted-clean : conflictIn s ≡ false
+  accepted-clean =
+      is-false _
+      (λ e.
+      let (num, p, q, h) = learnable-conflict s n good e in
+      let z : _≡_ {A = ℕ} 0 1 = cc in
+      omega arith)
+
+  written : (lent : List ℕ) → length lent ≡ ruleSize * schemaOf s .moves → learnBytes s lent ≡ ruleSheet s
+  unfolding learnBytes kept learn
+  written lent long =
+      let e : learn s (length lent) ≡ Good total =
+      bind-good (learnable s) _ total accepted ∙ refuse-unmet _ 13 0 _ (rw (eq-eqb (length lent) (ruleSize * schemaOf s .moves) long))
+      in
+      rw e
+
+  long : length (ruleSheet s) ≡ ruleSize * schemaOf s .moves
+  unfolding ruleSheet
+  long = length-rows (learnedFrom s) (schemaOf s .moves) 1
+
+-- Demand 2: of every book of good form.
+pub demand2 : (s : List ℕ) (n : ℕ) → lookOver s ≡ Good n → Demand2 s
+demand2 s n good =
+    record {
+      refused = demand3 s n good .learning;
+      learned = λ total accepted.
+          record {
+            long = long s n good total accepted;
+            written = written s n good total accepted;
+            bits = λ b a k low high small. bits s a k low high small n good (accepted-clean s n good total accepted) b;
+          };
+    }

@@ -1,0 +1,3 @@
+-- The demands as statements, for a reader.
+pub mod Demand3
+pub mod Demand2

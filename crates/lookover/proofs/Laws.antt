@@ -1,0 +1,84 @@
+-- What looking over says of a book: what a book of good form is known to have, and bounds of every answer, for packing it.
+use Prim.Native.Nat.{ℕ, _≤_, _<_}
+use mathlib.Core.Path.{_≡_, refl, _∙_}
+use mathlib.Core.Bool.{Bool, true, false}
+use mathlib.Core.List.{List}
+use lib.ListN.{length}
+use native.Mathlib.Omega.{arith}
+use borrow.Author.Tests.{ltb-false}
+use Rattle.answer.specs.declared.Answer.{Answer}
+use Rattle.answer.specs.declared.Answer.the-variants.{Good}
+use Rattle.answer.specs.Answer.{isRefused, number, place}
+use Rattle.answer.specs.Laws.{passed, parted}
+use Rattle.answer.specs.Walk.{walk}
+use Rattle.terms.specs.declared.Sections.{Sections}
+use Rattle.terms.specs.Sections.{sectionsOf}
+use Rattle.format.specs.Limits.{maxLength}
+use Rattle.format.specs.Header.{sections}
+use Rattle.format.specs.Records.{recordAt}
+use Rattle.format.specs.LookOver.{stepTotal, lookOverBy, lookOver}
+use Rattle.sections.proofs.Laws.{SectionsGood, sections-good, sections-place}
+use Rattle.states.proofs.Bounds.{Bounded, bounded-of, bounded-good, bounded-then, bounded-row, bounded-wider, bounded-number, bounded-place}
+use Rattle.records.specs.Parts.{allRecords, look-over-parts}
+use Rattle.records.proofs.Turns.{part-stays, part-follows, walk-within}
+use Rattle.records.proofs.Laws.{record-within}
+use Rattle.records.proofs.Bounds.{records-bounded, total-bounded}
+
+module _ (h : Sections) (s : List ℕ) (is : h ≡ sectionsOf s) (a : Answer) (b : Bool) (first : a ≡ sections h s) (told : b ≡ isRefused a) where
+  pub look-over-stays : b ≡ true → a ≡ lookOver s
+  unfolding lookOver
+  look-over-stays e = rw (← is, look-over-parts) (part-stays _ _ a b first told e)
+
+  pub look-over-records : b ≡ false → (r : Answer) → r ≡ allRecords h s (h .records .count) (h .records .at) → r ≡ lookOver s
+  unfolding lookOver
+  look-over-records e r w =
+      rw (← is, look-over-parts)
+      (w ∙ part-follows _ (λ _. allRecords h s (h .records .count) (h .records .at)) a b _ first told e refl)
+
+-- a book of good form: rows 1 to 5 are not met, its records end it, and n is the sum of their steps
+pub record LookedOver (s : List ℕ) (n : ℕ) : Type 0 where
+  pub sections : SectionsGood (sectionsOf s) s (sectionsOf s .records .at)
+  pub records : walk (recordAt (sectionsOf s) s) (sectionsOf s .records .count) (sectionsOf s .records .at) ≡ Good (length s)
+  pub total : n ≡ stepTotal s (sectionsOf s .records .count) (sectionsOf s .records .at)
+
+pub look-over-good : (s : List ℕ) (n : ℕ) → lookOver s ≡ Good n → LookedOver s n
+unfolding lookOver lookOverBy
+look-over-good s n e =
+    let h = sectionsOf s in
+    let p = parted _ _ _ e in
+    let g = sections-good h s (p .0) (p .1) in
+    let q = parted _ _ _ (p .2) in
+    let r = passed _ _ _ _ _ (q .2) in
+    let last = q .0 in
+    let m : length s ≤ last = ltb-false _ _ (r .0) in
+    let l : last ≤ length s = walk-within _ (length s) (λ at next f. record-within h s at next f .1) _ _ last (g .offsets .within) (q .1) in
+    let w : last ≡ length s = omega arith in
+    let t = r .1 in
+    record { sections = rw (g .start) at g; records = rw w at (q .1); total = cc }
+
+look-over-by-bounded : (h : Sections) (s : List ℕ) → Bounded 10 maxLength (lookOverBy h s)
+unfolding lookOverBy
+look-over-by-bounded h s =
+    bounded-then 10 maxLength _ _
+    (bounded-of 10 maxLength (sections h s)
+    (λ n e. let g = sections-good h s n e in omega (arith, g .start, g .offsets .within, g .size .most))
+    (λ k p e. let w = sections-place h s k p e in (omega arith, omega arith)))
+    (λ n e i.
+    let g = sections-good h s n e in
+    let c = g .counts .records in
+    bounded-then 10 maxLength _ _
+    (bounded-wider 10 _ _ _ (g .size .most) (records-bounded h s (h .records .count) (h .records .at) (g .offsets .within)))
+    (λ last f j.
+    bounded-row 10 maxLength _ _ _ _ (omega arith) j
+    (λ x. let t = total-bounded h s (h .records .count) (h .records .at) last f in bounded-good 10 maxLength _ (omega arith))))
+
+-- every answer of looking over, whatever the bytes
+pub look-over-bounded : (s : List ℕ) → Bounded 10 maxLength (lookOver s)
+unfolding lookOver
+look-over-bounded s = look-over-by-bounded (sectionsOf s) s
+
+pub look-over-number : (s : List ℕ) → number (lookOver s) < 65536
+look-over-number s = let h = bounded-number 10 maxLength _ (look-over-bounded s) in omega arith
+
+pub look-over-place : (s : List ℕ) → place (lookOver s) < 4294967296
+look-over-place s = let h = bounded-place 10 maxLength _ (look-over-bounded s) in omega arith

@@ -1,0 +1,2 @@
+-- The proof of the code, and laws for callers.
+pub mod Laws

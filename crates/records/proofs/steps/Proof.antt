@@ -1,0 +1,68 @@
+-- `steps` meets its contract: the steps still left answer as all of them do, and each ends within the record.
+use Prim.Native.Nat.{_≤_}
+use mathlib.Core.Path.{_≡_, refl, sym, _∙_}
+use native.Mathlib.Omega.{arith}
+use borrow.Author.Needs.{needs}
+use Rattle.answer.specs.Walk.{walk}
+use Rattle.terms.specs.Schema.{schema, hall}
+use Rattle.format.specs.Records.{step}
+use Rattle.records.proofs.Parts.{step-within}
+use Rattle.records.proofs.Turns.{turn-none, turn-refused, turn-good}
+use Rattle.records.proofs.steps.Statement.{statement}
+use Rattle.records.proofs.steps.Tie as tie
+
+abbrev Inv-loop : tie.InvT-loop
+Inv-loop book h objects end n from left₀ at₀ left at =
+    (at ≤ 90000) × (walk (step (schema h book) (hall objects book) book end) left at ≡ walk (step (schema h book) (hall objects book) book end) n from)
+
+abbrev μ-loop : tie.MeasureT-loop
+μ-loop book h objects end n from left₀ at₀ left at = left
+
+loop-holds : tie.Need-loop-holds Inv-loop μ-loop
+loop-holds c = (c .before .pre .1, refl)
+
+step-requires : tie.Need-step-requires Inv-loop μ-loop
+step-requires c κs = search needs
+
+enum-known-k : tie.Need-enum-known-k Inv-loop μ-loop
+enum-known-k c = search needs
+
+returns : tie.Need-returns Inv-loop μ-loop
+returns c =
+    let d = c .before .before .before in
+    turn-refused _ _ _ _ _ _ _ (d .before .before .loop .inv .1) (d .before .loop-test .taken) (d .step .ensures) (c .before .k .given .1)
+
+enum-known-next : tie.Need-enum-known-next Inv-loop μ-loop
+enum-known-next c = search needs
+
+sub-left : tie.Need-sub-left Inv-loop μ-loop
+sub-left c = search needs
+
+loop-less : tie.Need-loop-less Inv-loop μ-loop
+loop-less c = search needs
+
+loop-again : tie.Need-loop-again Inv-loop μ-loop
+loop-again c =
+    let d = c .before .before .before in
+    let e = c .before .next .given .1 in
+    let w = step-within _ _ _ _ _ _ (sym (d .step .ensures) ∙ e) in
+    (omega arith, turn-good _ _ _ _ _ _ (d .before .before .loop .inv .1) (d .before .loop-test .taken) (d .step .ensures) e)
+
+returns-2 : tie.Need-returns-2 Inv-loop μ-loop
+returns-2 c = turn-none _ _ _ _ (c .before .loop .inv .1) (omega arith)
+
+pub steps-spec : {M : Type 1} → statement M
+steps-spec =
+    tie.close
+    (tie.spec
+    Inv-loop
+    μ-loop
+    loop-holds
+    step-requires
+    enum-known-k
+    returns
+    enum-known-next
+    sub-left
+    loop-less
+    loop-again
+    returns-2)

@@ -1,0 +1,44 @@
+-- `trajectory` meets its contract, by what `states::state` and `steps` say.
+use mathlib.Core.Path.{sym, _∙_}
+use native.Mathlib.Omega.{arith}
+use Rattle.states.proofs.Laws.{state-within}
+use Rattle.records.proofs.Turns.{is-good}
+use Rattle.records.proofs.Parts.{trajectory-stays, trajectory-steps}
+use borrow.Author.Needs.{needs}
+use Rattle.records.proofs.trajectory.Statement.{statement}
+use Rattle.records.proofs.trajectory.Tie as tie
+
+state-requires : tie.Need-state-requires
+state-requires c κs = search needs
+
+is-refused-requires : tie.Need-is-refused-requires
+is-refused-requires c κs = search needs
+
+returns : tie.Need-returns
+returns c = trajectory-stays _ _ _ _ _ _ _ _ (c .before .before .state .ensures) (c .before .is-refused .ensures) (c .if1 .taken)
+
+value-of-requires : tie.Need-value-of-requires
+value-of-requires c κs = search needs
+
+steps-requires : tie.Need-steps-requires
+steps-requires c κs =
+    let d = c .before .before .before .state .ensures in
+    let w = state-within _ _ _ _ _ _ (sym d ∙ is-good _ (sym (c .before .before .is-refused .ensures) ∙ c .before .if1 .left)) in
+    let v = c .value-of .ensures in
+    (omega arith, omega arith, omega arith)
+
+returns-2 : tie.Need-returns-2
+returns-2 c =
+    let d = c .before .before in
+    trajectory-steps _ _ _ _ _ _ _ _ _ _ (d .before .before .state .ensures) (d .before .is-refused .ensures) (d .if1 .left) (c .before .value-of .ensures) (c .steps .ensures)
+
+pub trajectory-spec : {M : Type 1} → statement M
+trajectory-spec =
+    tie.close
+    (tie.spec
+    state-requires
+    is-refused-requires
+    returns
+    value-of-requires
+    steps-requires
+    returns-2)

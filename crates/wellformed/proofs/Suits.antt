@@ -1,0 +1,136 @@
+-- What the tests on objects, facts and steps say in plain numbers: both ways for an object, one way for a step.
+-- Uses no bytes: schema, hall and step are any.
+use Prim.Native.Nat.{ℕ, zero, suc, _≤_, _<_}
+use mathlib.Core.Path.{_≡_, refl, sym}
+use mathlib.Core.Logic.{_⊎_, inl, inr}
+use mathlib.Core.Bool.{Bool, true, false, _&&_, _||_, not}
+use native.Mathlib.Omega.{arith}
+use lib.Dec.{eqb, ltb}
+use borrow.Author.Tests.{ltb-true, ltb-false, lt-ltb, le-ltb, le-leb, eqb-true, eq-eqb, not-false}
+use Rattle.answer.specs.Laws.{neither}
+use Rattle.terms.specs.declared.Object.{Object}
+use Rattle.terms.specs.declared.Step.{Step}
+use Rattle.terms.specs.Schema.{Schema, Hall, numberBad, kindSuits, objectBad}
+use Rattle.terms.specs.Steps.{objectOf, argumentBad, stepBad, samePair, repeats}
+use Rattle.model.proofs.Truth.{clash, and-in, decide}
+use Rattle.wellformed.specs.Right.{RightStep}
+
+pub number-out : (count n : ℕ) → numberBad count n ≡ false → (1 ≤ n) × (n ≤ count)
+unfolding numberBad
+number-out count n e =
+    let (low, high) = neither (ltb n 1) (ltb count n) e in
+    (ltb-false n 1 low, ltb-false count n high)
+
+pub number-in : (count n : ℕ) → 1 ≤ n → n ≤ count → numberBad count n ≡ false
+unfolding numberBad
+number-in count n low high = rw (le-ltb n 1 low, le-ltb count n high)
+
+module _ (sch : Schema) (hl : Hall) (named : ℕ) (x : Object) where
+  -- a used place has the number of an object of the kind named; an unused one has 0
+  pub used-out : (used : Bool) → objectBad sch hl used named x ≡ false → used ≡ true → (1 ≤ x .0) × (x .0 ≤ hl .count) × (hl .kind x ≡ named)
+  unfolding objectBad kindSuits
+  used-out true e u =
+      let (wrong, unused) = neither (numberBad (hl .count) (x .0) || not (eqb (hl .kind x) named)) (not true && not (eqb (x .0) 0)) e in
+      let (number, kind) = neither (numberBad (hl .count) (x .0)) (not (eqb (hl .kind x) named)) wrong in
+      let (low, high) = number-out (hl .count) (x .0) number in
+      (low, high, eqb-true (hl .kind x) named (not-false _ kind))
+  used-out false e u = clash false u refl
+
+  pub unused-out : (used : Bool) → objectBad sch hl used named x ≡ false → used ≡ false → x .0 ≡ 0
+  unfolding objectBad
+  unused-out true e u = clash true refl u
+  unused-out false e u = eqb-true (x .0) 0 (not-false _ e)
+
+  -- in either case it counts at most as far as the objects
+  pub object-most : (used : Bool) → objectBad sch hl used named x ≡ false → x .0 ≤ hl .count
+  object-most true e = used-out true e refl .1
+  object-most false e = omega (arith, unused-out false e refl)
+
+  pub used-in : (used : Bool) → used ≡ true → 1 ≤ x .0 → x .0 ≤ hl .count → hl .kind x ≡ named → objectBad sch hl used named x ≡ false
+  unfolding objectBad kindSuits
+  used-in true u low high kind = rw (number-in (hl .count) (x .0) low high, eq-eqb (hl .kind x) named kind)
+  used-in false u low high kind = clash false u refl
+
+  pub unused-in : (used : Bool) → used ≡ false → x .0 ≡ 0 → objectBad sch hl used named x ≡ false
+  unfolding objectBad kindSuits
+  unused-in true u none = clash true refl u
+  unused-in false u none = rw (eq-eqb (x .0) 0 none)
+
+-- what holds of 1, 2, 3 and 4 holds of each number from 1 to 4
+pub four : (Q : ℕ → Type 0) → Q 1 → Q 2 → Q 3 → Q 4 → (i : ℕ) → 1 ≤ i → i ≤ 4 → Q i
+four Q a b c d zero low high = absurd (omega arith)
+four Q a b c d (suc zero) low high = a
+four Q a b c d (suc (suc zero)) low high = b
+four Q a b c d (suc (suc (suc zero))) low high = c
+four Q a b c d (suc (suc (suc (suc zero)))) low high = d
+four Q a b c d (suc (suc (suc (suc (suc i))))) low high = absurd (omega arith)
+
+-- the object of parameter i
+abbrev pub objectAt : Step → ℕ → Object
+objectAt st i = objectOf (st .binding) (record { 0 = i })
+
+module _ (sch : Schema) (hl : Hall) (st : Step) (right : RightStep sch hl st) where
+  -- The move of a right step is there,
+  pub move-known : (1 ≤ st .action .0) × (st .action .0 ≤ sch .moves)
+  unfolding stepBad
+  move-known =
+      let nb : Bool = numberBad (sch .moves) (st .action .0) in
+      let a1 : Bool = argumentBad sch hl st 1 in
+      let a2 : Bool = argumentBad sch hl st 2 in
+      let a3 : Bool = argumentBad sch hl st 3 in
+      let e3 = neither (nb || a1 || a2 || a3) (argumentBad sch hl st 4) (right .suits) .0 in
+      let e2 = neither (nb || a1 || a2) a3 e3 .0 in
+      let e1 = neither (nb || a1) a2 e2 .0 in
+      number-out (sch .moves) (st .action .0) (neither nb a1 e1 .0)
+
+  pub argument-right : (i : ℕ) → 1 ≤ i → i ≤ 4 → argumentBad sch hl st i ≡ false
+  unfolding stepBad
+  argument-right =
+      let nb : Bool = numberBad (sch .moves) (st .action .0) in
+      let a1 : Bool = argumentBad sch hl st 1 in
+      let a2 : Bool = argumentBad sch hl st 2 in
+      let a3 : Bool = argumentBad sch hl st 3 in
+      let e3 = neither (nb || a1 || a2 || a3) (argumentBad sch hl st 4) (right .suits) in
+      let e2 = neither (nb || a1 || a2) a3 (e3 .0) in
+      let e1 = neither (nb || a1) a2 (e2 .0) in
+      four (λ i. argumentBad sch hl st i ≡ false) (neither nb a1 (e1 .0) .1) (e1 .1) (e2 .1) (e3 .1)
+
+  -- its parameters have objects of their kinds,
+  pub argument-used : (i : ℕ) → 1 ≤ i → i ≤ 4 → i ≤ sch .params (st .action)
+      → (1 ≤ objectAt st i .0) × (objectAt st i .0 ≤ hl .count) × (hl .kind (objectAt st i) ≡ sch .paramKind (st .action) (record { 0 = i }))
+  unfolding argumentBad
+  argument-used i low high used = used-out sch hl _ (objectAt st i) _ (argument-right i low high) (le-leb i (sch .params (st .action)) used)
+
+  pair-apart : (i : ℕ) → 1 ≤ i → i ≤ 4 → (j : ℕ) → 1 ≤ j → j ≤ 4 → i < j → samePair st i j ≡ false
+  unfolding repeats
+  pair-apart =
+      let p12 : Bool = samePair st 1 2 in
+      let p13 : Bool = samePair st 1 3 in
+      let p14 : Bool = samePair st 1 4 in
+      let p23 : Bool = samePair st 2 3 in
+      let p24 : Bool = samePair st 2 4 in
+      let e34 = neither (p12 || p13 || p14 || p23 || p24) (samePair st 3 4) (right .different) in
+      let e24 = neither (p12 || p13 || p14 || p23) p24 (e34 .0) in
+      let e23 = neither (p12 || p13 || p14) p23 (e24 .0) in
+      let e14 = neither (p12 || p13) p14 (e23 .0) in
+      let e13 = neither p12 p13 (e14 .0) in
+      four
+      (λ i. (j : ℕ) → 1 ≤ j → j ≤ 4 → i < j → samePair st i j ≡ false)
+      (four (λ j. 1 < j → samePair st 1 j ≡ false) (λ h. absurd (omega arith)) (λ h. e13 .0) (λ h. e13 .1) (λ h. e14 .1))
+      (four (λ j. 2 < j → samePair st 2 j ≡ false) (λ h. absurd (omega arith)) (λ h. absurd (omega arith)) (λ h. e23 .1) (λ h. e24 .1))
+      (four (λ j. 3 < j → samePair st 3 j ≡ false) (λ h. absurd (omega arith)) (λ h. absurd (omega arith)) (λ h. absurd (omega arith)) (λ h. e34 .1))
+      (λ j low high h. absurd (omega arith))
+
+  later-apart : (i j : ℕ) → 1 ≤ i → i < j → j ≤ 4 → 1 ≤ objectAt st j .0 → objectAt st i .0 ≡ objectAt st j .0 → ⊥
+  unfolding samePair
+  later-apart i j low h high some e =
+      clash _ (and-in (ltb 0 (objectAt st j .0)) _ (lt-ltb 0 _ some) (eq-eqb (objectAt st i .0) (objectAt st j .0) e)) (pair-apart i low (omega arith) j (omega arith) high h)
+
+  -- and no object is that of two parameters.
+  pub parameters-apart : (i j : ℕ) → 1 ≤ i → i ≤ 4 → 1 ≤ j → j ≤ 4 → 1 ≤ objectAt st i .0 → objectAt st i .0 ≡ objectAt st j .0 → i ≡ j
+  parameters-apart i j low high low′ high′ some e = go (decide (ltb i j)) (decide (ltb j i))
+    where
+      go : (ltb i j ≡ true) ⊎ (ltb i j ≡ false) → (ltb j i ≡ true) ⊎ (ltb j i ≡ false) → i ≡ j
+      go (inl h) k = absurd (later-apart i j low (ltb-true i j h) high′ (omega arith) e)
+      go (inr h) (inl k) = absurd (later-apart j i low′ (ltb-true j i k) high some (sym e))
+      go (inr h) (inr k) = omega (arith, ltb-false i j h, ltb-false j i k)

@@ -1,0 +1,31 @@
+/* The small hall of the paper from C: looks its book over, whole and with the last byte left out. */
+#include "changeover.h"
+
+#include <inttypes.h>
+#include <stdio.h>
+
+static const uint8_t hall[58] = {
+    0x00, 0x02, 0x00, 0x02, 0x00, 0x01, 0x00, 0x01, 0x00, 0x10, 0x00, 0x18, 0x00, 0x1e, 0x00, 0x3a,
+    0x02, 0x01, 0x02, 0x00, 0x01, 0x02, 0x00, 0x00,
+    0x03, 0x01, 0x02, 0x02, 0x00, 0x00,
+    0x03, 0x01, 0x00, 0x1c, 0x01, 0x02, 0x02,
+    0x00, 0x02, 0x01, 0x01, 0x02, 0x02, 0x03, 0x00,
+    0x01, 0x01, 0x02, 0x03, 0x00,
+    0x00, 0x02, 0x01, 0x01, 0x03, 0x02, 0x02, 0x00,
+};
+
+static void show(const char *what, uint64_t answer)
+{
+    if (changeover_number(answer) == 0)
+        printf("%s: good, %" PRIu32 "\n", what, changeover_place(answer));
+    else
+        printf("%s: refused %u %" PRIu32 "\n", what, changeover_number(answer), changeover_place(answer));
+}
+
+int main(void)
+{
+    show("look over", changeover_look_over(hall, sizeof hall));
+    show("look over, one byte short", changeover_look_over(hall, sizeof hall - 1));
+    show("look over, nothing", changeover_look_over(NULL, 0));
+    return 0;
+}
