@@ -2,3 +2,6 @@
 pub mod Inverse
 pub mod Held
 pub mod Rules
+pub mod Faithful
+pub mod Seen
+pub mod Taught

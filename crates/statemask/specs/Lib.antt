@@ -1,2 +1,3 @@
 -- A plan carried out over a state as a mask of facts, by the rules that come from what is held.
 pub mod Statemask
+pub mod Carrying

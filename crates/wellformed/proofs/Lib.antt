@@ -1,4 +1,5 @@
--- Theorems about good form, from bytes up to the hypotheses of `model`.
+-- Theorems about good form, from bytes up to the hypotheses of `model`. To cite: filed-right (Records), formed (Formed), order-right and grounded (Orders),
+-- fact-of-atom and atom-of-fact (Inverse).
 pub mod Lists
 pub mod Walks
 pub mod States
@@ -9,6 +10,7 @@ pub mod Numbers
 pub mod Atoms
 pub mod Inverse
 pub mod Holding
+pub mod Values
 pub mod Formed
 pub mod Orders
 pub mod Refusals

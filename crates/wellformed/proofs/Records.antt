@@ -37,19 +37,24 @@ module _ (sch : Schema) (hl : Hall) (s : List ℕ) (end : ℕ) where
       let (twice, rest) = passed _ 10 at next _ more in
       (record { suits = neither (cut end at stepSize) (stepBad sch hl (stepAt s at)) test .1; different = twice }, rest)
 
+  -- the first step behind a good state, and the state behind it
+  trajectory-parted : (n at next last : ℕ) → state sch hl s end at ≡ Good next → walk (step sch hl s end) (suc n) next ≡ Good last
+      → (after : ℕ) × RightStep sch hl (stepAt s (stateEnd s at)) × (state sch hl s end (stateEnd s at + stepSize) ≡ Good after) × (walk (step sch hl s end) n after ≡ Good last)
+  trajectory-parted n at next last e w =
+      let (after, good, rest) = walk-parted (step sch hl s end) n next last w in
+      let place = state-end sch hl s end at next e in
+      let (right, behind) = step-parted (stateEnd s at) after (subst (λ (x : ℕ). step sch hl s end x ≡ Good after) place good) in
+      (after, right, behind, rest)
+
   -- The steps of a good trajectory are right, with the states about them.
   pub trajectory-right : (n at next last : ℕ) → state sch hl s end at ≡ Good next → walk (step sch hl s end) n next ≡ Good last
       → (f : Filed) → Mem f (filedAt s n at) → Right sch hl f
   unfolding filedAt
   trajectory-right (suc n) at next last e w f here =
-      let (after, good, rest) = walk-parted (step sch hl s end) n next last w in
-      let place = state-end sch hl s end at next e in
-      let (right, behind) = step-parted (stateEnd s at) after (subst (λ (x : ℕ). step sch hl s end x ≡ Good after) place good) in
+      let (after, right, behind, rest) = trajectory-parted n at next last e w in
       record { step = right; pre = state-right sch hl s end at next e; post = state-right sch hl s end (stateEnd s at + stepSize) after behind }
   trajectory-right (suc n) at next last e w f (there m) =
-      let (after, good, rest) = walk-parted (step sch hl s end) n next last w in
-      let place = state-end sch hl s end at next e in
-      let (right, behind) = step-parted (stateEnd s at) after (subst (λ (x : ℕ). step sch hl s end x ≡ Good after) place good) in
+      let (after, right, behind, rest) = trajectory-parted n at next last e w in
       trajectory-right n (stateEnd s at + stepSize) after last behind rest f m
 
 -- good objects take a byte each

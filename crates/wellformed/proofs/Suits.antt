@@ -70,36 +70,32 @@ abbrev pub objectAt : Step → ℕ → Object
 objectAt st i = objectOf (st .binding) (record { 0 = i })
 
 module _ (sch : Schema) (hl : Hall) (st : Step) (right : RightStep sch hl st) where
+  -- the five parts of the test on a step
+  step-parts : (numberBad (sch .moves) (st .action .0) ≡ false) × ((i : ℕ) → 1 ≤ i → i ≤ 4 → argumentBad sch hl st i ≡ false)
+  unfolding stepBad
+  step-parts =
+      let nb : Bool = numberBad (sch .moves) (st .action .0) in
+      let a1 : Bool = argumentBad sch hl st 1 in
+      let a2 : Bool = argumentBad sch hl st 2 in
+      let a3 : Bool = argumentBad sch hl st 3 in
+      let e4 = neither (nb || a1 || a2 || a3) (argumentBad sch hl st 4) (right .suits) in
+      let e3 = neither (nb || a1 || a2) a3 (e4 .0) in
+      let e2 = neither (nb || a1) a2 (e3 .0) in
+      let e1 = neither nb a1 (e2 .0) in
+      (e1 .0, four (λ i. argumentBad sch hl st i ≡ false) (e1 .1) (e2 .1) (e3 .1) (e4 .1))
+
   -- The move of a right step is there,
   pub move-known : (1 ≤ st .action .0) × (st .action .0 ≤ sch .moves)
-  unfolding stepBad
-  move-known =
-      let nb : Bool = numberBad (sch .moves) (st .action .0) in
-      let a1 : Bool = argumentBad sch hl st 1 in
-      let a2 : Bool = argumentBad sch hl st 2 in
-      let a3 : Bool = argumentBad sch hl st 3 in
-      let e3 = neither (nb || a1 || a2 || a3) (argumentBad sch hl st 4) (right .suits) .0 in
-      let e2 = neither (nb || a1 || a2) a3 e3 .0 in
-      let e1 = neither (nb || a1) a2 e2 .0 in
-      number-out (sch .moves) (st .action .0) (neither nb a1 e1 .0)
+  move-known = number-out (sch .moves) (st .action .0) (step-parts .0)
 
   pub argument-right : (i : ℕ) → 1 ≤ i → i ≤ 4 → argumentBad sch hl st i ≡ false
-  unfolding stepBad
-  argument-right =
-      let nb : Bool = numberBad (sch .moves) (st .action .0) in
-      let a1 : Bool = argumentBad sch hl st 1 in
-      let a2 : Bool = argumentBad sch hl st 2 in
-      let a3 : Bool = argumentBad sch hl st 3 in
-      let e3 = neither (nb || a1 || a2 || a3) (argumentBad sch hl st 4) (right .suits) in
-      let e2 = neither (nb || a1 || a2) a3 (e3 .0) in
-      let e1 = neither (nb || a1) a2 (e2 .0) in
-      four (λ i. argumentBad sch hl st i ≡ false) (neither nb a1 (e1 .0) .1) (e1 .1) (e2 .1) (e3 .1)
+  argument-right = step-parts .1
 
   -- its parameters have objects of their kinds,
   pub argument-used : (i : ℕ) → 1 ≤ i → i ≤ 4 → i ≤ sch .params (st .action)
       → (1 ≤ objectAt st i .0) × (objectAt st i .0 ≤ hl .count) × (hl .kind (objectAt st i) ≡ sch .paramKind (st .action) (record { 0 = i }))
   unfolding argumentBad
-  argument-used i low high used = used-out sch hl _ (objectAt st i) _ (argument-right i low high) (le-leb i (sch .params (st .action)) used)
+  argument-used i low high used = used-out sch hl _ (objectAt st i) _ (step-parts .1 i low high) (le-leb i (sch .params (st .action)) used)
 
   pair-apart : (i : ℕ) → 1 ≤ i → i ≤ 4 → (j : ℕ) → 1 ≤ j → j ≤ 4 → i < j → samePair st i j ≡ false
   unfolding repeats

@@ -1,0 +1,72 @@
+use Prim.Native.Nat.{_-_, _≤_}
+use native.Mathlib.Omega.{arith}
+use mathlib.Core.Logic.{⊎-elim}
+use mathlib.Core.Path.{_≡_, refl, sym, _∙_}
+use borrow.Author.Needs.{needs}
+use Rattle.terms.specs.Schema.{schema}
+use Rattle.terms.specs.Steps.{ground}
+use Rattle.statemask.specs.Statemask.{adds}
+use Rattle.execution.specs.Execution.{ruleAt}
+use Rattle.execution.proofs.Turns.{adds-none, adds-some, adds-skip, adds-by}
+use Rattle.execution.proofs.add_effects.Statement.{statement}
+use Rattle.execution.proofs.add_effects.Tie as tie
+
+abbrev Inv-loop : tie.InvT-loop
+Inv-loop book h b state₀ added n₀ state n = (n ≤ 256) × (state ≡ adds (λ k. added) (ground (schema h book) b) state₀ n)
+
+abbrev μ-loop : tie.MeasureT-loop
+μ-loop book h b state₀ added n₀ state n = 256 - n
+
+array-copy-out-added : tie.Need-array-copy-out-added Inv-loop μ-loop
+array-copy-out-added c = search needs
+
+loop-holds : tie.Need-loop-holds Inv-loop μ-loop
+loop-holds c = (omega arith, adds-none _ _ _)
+
+has32-requires : tie.Need-has32-requires Inv-loop μ-loop
+has32-requires c κs = search needs
+
+ground-requires : tie.Need-ground-requires Inv-loop μ-loop
+ground-requires c κs = search needs
+
+mark512-requires : tie.Need-mark512-requires Inv-loop μ-loop
+mark512-requires c κs = search needs
+
+add-n : tie.Need-add-n Inv-loop μ-loop
+add-n c = search needs
+
+loop-less : tie.Need-loop-less Inv-loop μ-loop
+loop-less c = search needs
+
+loop-again : tie.Need-loop-again Inv-loop μ-loop
+loop-again c =
+    let d = c .before in
+    let was = d .before .before .loop .inv .1 in (
+      omega arith,
+      ⊎-elim
+          (λ w. adds-some _ _ _ _ _ _ _ (sym (d .has32 .ensures) ∙ w .0 .taken) (w .2 .ensures .0) was (w .4 ∙ w .3 .ensures))
+          (λ w. adds-skip _ _ _ _ _ _ (sym (d .has32 .ensures) ∙ w .0 .left) was (w .1))
+          (c .if1 .came),
+    )
+
+returns : tie.Need-returns Inv-loop μ-loop
+unfolding ruleAt
+returns c =
+    let last : c .before .loop .n ≡ 256 = omega arith in
+    (rw last at (c .before .loop .inv .1)) ∙ adds-by _ _ _ refl _ 256
+
+pub add-effects-spec : {M : Type 1} → statement M
+add-effects-spec =
+    tie.close
+    (tie.spec
+    Inv-loop
+    μ-loop
+    array-copy-out-added
+    loop-holds
+    has32-requires
+    ground-requires
+    mark512-requires
+    add-n
+    loop-less
+    loop-again
+    returns)

@@ -1,0 +1,95 @@
+use Prim.Native.Nat.{_+_, _≤_}
+use native.Mathlib.Omega.{arith}
+use mathlib.Core.Path.{_≡_, refl, sym, _∙_}
+use borrow.Author.Needs.{needs}
+use Rattle.terms.specs.Schema.{schema}
+use Rattle.format.specs.Order.{planFrom}
+use Rattle.statemask.specs.Statemask.{carry}
+use Rattle.execution.specs.Execution.{Carriable}
+use Rattle.execution.proofs.Plan.{carriable-move, carriable-next, carry-none, carry-here, carry-more, carries}
+use Rattle.execution.proofs.carry.Statement.{statement}
+use Rattle.execution.proofs.carry.Tie as tie
+
+abbrev Inv-loop : tie.InvT-loop
+Inv-loop book h held o steps from state₀ left₀ at₀ k₀ state left at k =
+    Carriable held o left at × (k + left ≤ 1000000)
+    × (carry (schema h book) held (planFrom o left at) state k ≡ carry (schema h book) held (planFrom o steps from) state₀ 1)
+
+abbrev μ-loop : tie.MeasureT-loop
+μ-loop book h held o steps from state₀ left₀ at₀ k₀ state left at k = left
+
+loop-holds : tie.Need-loop-holds Inv-loop μ-loop
+loop-holds c = (c .before .before .before .pre, omega arith, refl)
+
+read-requires : tie.Need-read-requires Inv-loop μ-loop
+read-requires c κs = search needs
+
+rules-of-requires : tie.Need-rules-of-requires Inv-loop μ-loop
+rules-of-requires c κs =
+    let d = c .before .before in
+    carriable-move _ _ _ _ (d .before .loop .inv .0) (d .loop-test .taken) _ (c .before .read .ensures)
+
+is-stuck-requires : tie.Need-is-stuck-requires Inv-loop μ-loop
+is-stuck-requires c κs = search needs
+
+returns : tie.Need-returns Inv-loop μ-loop
+returns c =
+    let d = c .before in
+    let e = d .before .before in
+    let f = e .before .before in
+    let g = f .before in
+    carries _ _ _ _ _ _
+    (sym
+    (carry-here _ _ _ _ _ _ _ (g .loop-test .taken) _ (f .read .ensures) _ (e .rules-of .ensures) _ (d .is-stuck .ensures) (c .if1 .taken))
+    ∙ g .before .loop .inv .2)
+
+advance-requires : tie.Need-advance-requires Inv-loop μ-loop
+advance-requires c κs = search needs
+
+add-at : tie.Need-add-at Inv-loop μ-loop
+add-at c = search needs
+
+add-k : tie.Need-add-k Inv-loop μ-loop
+add-k c = search needs
+
+sub-left : tie.Need-sub-left Inv-loop μ-loop
+sub-left c = search needs
+
+loop-less : tie.Need-loop-less Inv-loop μ-loop
+loop-less c = search needs
+
+loop-again : tie.Need-loop-again Inv-loop μ-loop
+loop-again c =
+    let b = c .before .before in
+    let d = b .before in
+    let e = d .before .before in
+    let f = e .before .before in
+    let g = f .before in
+    let inv = g .before .loop .inv in (
+      carriable-next _ _ _ _ (inv .0) (g .loop-test .taken),
+      omega arith,
+      carry-more _ _ _ _ _ _ _ (g .loop-test .taken) _ (f .read .ensures) _ (e .rules-of .ensures) _ (d .is-stuck .ensures) _ (b .if1 .left) (c .advance .ensures)
+          ∙ inv .2,
+    )
+
+returns-2 : tie.Need-returns-2 Inv-loop μ-loop
+returns-2 c = carries _ _ _ _ _ _ (sym (carry-none _ _ _ _ _ _ _ (omega arith)) ∙ c .before .loop .inv .2)
+
+pub carry-spec : {M : Type 1} → statement M
+carry-spec =
+    tie.close
+    (tie.spec
+    Inv-loop
+    μ-loop
+    loop-holds
+    read-requires
+    rules-of-requires
+    is-stuck-requires
+    returns
+    advance-requires
+    add-at
+    add-k
+    sub-left
+    loop-less
+    loop-again
+    returns-2)

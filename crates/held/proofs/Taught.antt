@@ -1,0 +1,32 @@
+-- The whole: from faithful steps, what is held teaches sheet, row 11 and row 12 as learning is defined.
+use Prim.Native.Nat.{_≤_}
+use native.Mathlib.Omega.{arith}
+use mathlib.Core.Path.{_≡_, refl}
+use mathlib.Core.List.{List, map}
+use Rattle.terms.specs.Schema.{Schema}
+use Rattle.format.specs.Decode.{Filed}
+use Rattle.model.specs.Quantify.{Mem}
+use Rattle.jobs.specs.Planning.{transition}
+use Rattle.held.specs.Held.{holdAll, nothingSeen}
+use Rattle.held.specs.Faithful.{Faithful}
+use Rattle.held.specs.Taught.{Taught}
+use Rattle.held.proofs.Hold.{seen-held}
+use Rattle.held.proofs.Sheet.{sheet-rows}
+use Rattle.held.proofs.Torn.{torn-same}
+use Rattle.held.proofs.Stray.{stray-held}
+
+none-named : nothingSeen .stray ≡ 0
+unfolding nothingSeen
+none-named = refl
+
+pub taught : (sch : Schema) → sch .relations ≤ 16 → sch .moves ≤ 32 → (fs : List Filed) → ((f : Filed) → Mem f fs → Faithful sch f)
+    → Taught sch fs (holdAll fs nothingSeen)
+taught sch relations moves fs all =
+    let seen = seen-held sch moves fs all in
+    record {
+      sized = seen .sized;
+      bytes = seen .bytes;
+      row11 = stray-held sch fs all nothingSeen none-named;
+      row12 = torn-same sch relations (map (transition sch) fs) (holdAll fs nothingSeen .masks) seen moves;
+      sheet = sheet-rows sch (map (transition sch) fs) (holdAll fs nothingSeen .masks) seen (sch .moves) 1 (omega arith) (omega arith);
+    }

@@ -1,0 +1,8 @@
+-- From good form to steps that are faithful, and so to what is held.
+pub mod Params
+pub mod Atoms
+pub mod States
+pub mod Sorted
+pub mod Unbound
+pub mod Strays
+pub mod HeldRight

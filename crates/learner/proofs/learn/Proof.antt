@@ -1,0 +1,81 @@
+use Prim.Native.Nat.{_*_}
+use mathlib.Core.Path.{sym, ap, _∙_}
+use Rattle.records.proofs.Turns.{is-good}
+use Rattle.wellformed.proofs.Headers.{moves-few}
+use Rattle.learner.proofs.Book.{moves-own, learn-refused, learn-size, learn-done, sheet-by, form-good}
+use borrow.Author.Needs.{needs}
+use Rattle.learner.proofs.learn.Statement.{statement}
+use Rattle.learner.proofs.learn.Tie as tie
+
+read-requires : tie.Need-read-requires
+read-requires c κs = search needs
+
+slice-aggregate-note-book : tie.Need-slice-aggregate-note-book
+slice-aggregate-note-book c = search needs
+
+note-book-requires : tie.Need-note-book-requires
+note-book-requires c κs = search needs
+
+is-refused-requires : tie.Need-is-refused-requires
+is-refused-requires c κs = search needs
+
+returns : tie.Need-returns
+returns c = learn-refused _ _ _ _ (c .before .before .before .note-book .ensures .says) (c .before .is-refused .ensures) (c .if1 .taken)
+
+cast-if2 : tie.Need-cast-if2
+cast-if2 c = search needs
+
+mul-if2 : tie.Need-mul-if2
+mul-if2 c = search needs
+
+returns-2 : tie.Need-returns-2
+returns-2 c =
+    let x = c .before .before in
+    let b = x .before .before .before .note-book in
+    let own = x .before .before .before .before .before .read .ensures in
+    let e = is-good _ (sym (x .before .is-refused .ensures) ∙ x .if1 .left) in
+    let g = sym (b .ensures .says) ∙ e in
+    learn-size _ _ _ g (λ i. c .if2 .taken (i ∙ ap (λ n. 128 * n) (sym (moves-own _ _ own))))
+
+slice-aggregate-write-sheet : tie.Need-slice-aggregate-write-sheet
+slice-aggregate-write-sheet c = search needs
+
+write-sheet-requires : tie.Need-write-sheet-requires
+write-sheet-requires c κs =
+    let x = c .before .before .before .before in
+    let b = x .before .before .before .note-book in
+    let own = x .before .before .before .before .before .read .ensures in
+    let e = is-good _ (sym (x .before .is-refused .ensures) ∙ x .if1 .left) in
+    let g = sym (b .ensures .says) ∙ e in
+    (c .before .before .if2 .left, rw (moves-own _ _ own) (moves-few _ _ (form-good _ _ g .1)), b .kept .1 .1 .0)
+
+same-length : tie.Need-same-length
+same-length c = search needs
+
+returns-3 : tie.Need-returns-3
+returns-3 c =
+    let x = c .before .before .before .before .before .before .before in
+    let b = x .before .before .before .note-book in
+    let own = x .before .before .before .before .before .read .ensures in
+    let e = is-good _ (sym (x .before .is-refused .ensures) ∙ x .if1 .left) in
+    let g = sym (b .ensures .says) ∙ e in
+    rw e
+    (learn-done _ _ _ g _ (c .before .before .before .before .before .if2 .left ∙ ap (λ n. 128 * n) (moves-own _ _ own))
+    (sheet-by _ _ _ _ _ own g (b .ensures .holds _ e) (c .before .before .write-sheet .ensures)))
+
+pub learn-spec : {M : Type 1} → statement M
+learn-spec =
+    tie.close
+    (tie.spec
+    read-requires
+    slice-aggregate-note-book
+    note-book-requires
+    is-refused-requires
+    returns
+    cast-if2
+    mul-if2
+    returns-2
+    slice-aggregate-write-sheet
+    write-sheet-requires
+    same-length
+    returns-3)

@@ -1,0 +1,137 @@
+use Prim.Native.Nat.{_+_, _*_, _≤_}
+use mathlib.Core.Path.{_≡_, refl, sym, _∙_}
+use native.Mathlib.Omega.{arith}
+use borrow.Author.Needs.{needs}
+use lib.ListN.{length}
+use Rattle.answer.specs.Walk.{walk}
+use Rattle.format.specs.Limits.{maxLength}
+use Rattle.format.specs.Records.{recordAt}
+use Rattle.format.specs.LookOver.{stepTotal}
+use Rattle.format.specs.Decode.{recordsFiled}
+use Rattle.held.specs.Held.{heldSize, holdAll}
+use Rattle.records.proofs.Turns.{turn-none, turn-refused, turn-good}
+use Rattle.records.proofs.Laws.{record-within, all-refused, all-left, all-good, total-none, total-more}
+use Rattle.learner.proofs.Steps.{holding}
+use Rattle.learner.proofs.Records.{record-noteable, record-turn, records-done, refused-noted}
+use Rattle.learner.proofs.note_records.Statement.{statement}
+use Rattle.learner.proofs.note_records.Tie as tie
+
+abbrev Inv-loop : tie.InvT-loop
+Inv-loop s h n from held₀ left₀ at₀ total₀ stray₀ held left at total stray =
+    (at ≤ maxLength)
+    × (total + 255 * left ≤ 255 * n)
+    × (walk (recordAt h s) left at ≡ walk (recordAt h s) n from)
+    × (total + stepTotal s left at ≡ stepTotal s n from)
+    × (length held ≡ heldSize)
+    × (holdAll (recordsFiled s left at) (holding held stray) ≡ holdAll (recordsFiled s n from) (holding held₀ 0))
+
+abbrev μ-loop : tie.MeasureT-loop
+μ-loop s h n from held₀ left₀ at₀ total₀ stray₀ held left at total stray = left
+
+loop-holds : tie.Need-loop-holds Inv-loop μ-loop
+loop-holds c = let p = c .before .before .pre in (p .1, omega arith, refl, omega arith, p .4, refl)
+
+record-at-requires : tie.Need-record-at-requires Inv-loop μ-loop
+record-at-requires c κs = search needs
+
+enum-known-k : tie.Need-enum-known-k Inv-loop μ-loop
+enum-known-k c = search needs
+
+same-length : tie.Need-same-length Inv-loop μ-loop
+same-length c = search needs
+
+returns : tie.Need-returns Inv-loop μ-loop
+returns c =
+    let d = c .before .before .before in
+    refused-noted _ _ _ _ _ _ _ _ _
+    (all-refused _ _ _ _ _ _
+    (turn-refused _ _ _ _ _ _ _ (d .before .before .loop .inv .2) (d .before .loop-test .taken) (d .record-at .ensures) (c .before .k .given .1)))
+
+enum-known-next : tie.Need-enum-known-next Inv-loop μ-loop
+enum-known-next c = search needs
+
+note-record-requires : tie.Need-note-record-requires Inv-loop μ-loop
+note-record-requires c κs =
+    let x = c .before .before in
+    let d = x .before .before in
+    let i = d .before .before .loop .inv in
+    let p = d .before .before .before .before .before .pre in
+    (i .0, i .4, record-noteable _ _ (p .0) (p .3) _ _ (sym (d .record-at .ensures) ∙ x .next .given .1))
+
+add-byte-at : tie.Need-add-byte-at Inv-loop μ-loop
+add-byte-at c = search needs
+
+byte-at-requires : tie.Need-byte-at-requires Inv-loop μ-loop
+byte-at-requires c κs = search needs
+
+cast-total : tie.Need-cast-total Inv-loop μ-loop
+cast-total c = search needs
+
+add-total : tie.Need-add-total Inv-loop μ-loop
+add-total c = search needs
+
+sub-left : tie.Need-sub-left Inv-loop μ-loop
+sub-left c = search needs
+
+loop-less : tie.Need-loop-less Inv-loop μ-loop
+loop-less c = search needs
+
+loop-again : tie.Need-loop-again Inv-loop μ-loop
+loop-again c =
+    let x = c .before .before .before .before .before .before in
+    let d = x .before .before in
+    let i = d .before .before .loop .inv in
+    let p = d .before .before .before .before .before .pre in
+    let e = x .next .given .1 in
+    let w = record-within _ _ _ _ (sym (d .record-at .ensures) ∙ e) in (
+      omega (arith, p .0, w .1),
+      omega arith,
+      turn-good _ _ _ _ _ _ (i .2) (d .before .loop-test .taken) (d .record-at .ensures) e,
+      total-more _ _ _ _ _ _ _ (i .3) (d .before .loop-test .taken) (c .byte-at .ensures) (w .0),
+      c .before .before .before .note-record .kept .1 .1 .0 ∙ i .4,
+      record-turn _ _ _ _ _ _ _ _ _ (d .before .loop-test .taken) (w .0) (c .before .before .before .note-record .ensures) (i .5),
+    )
+
+same-length-2 : tie.Need-same-length-2 Inv-loop μ-loop
+same-length-2 c = search needs
+
+returns-2 : tie.Need-returns-2 Inv-loop μ-loop
+returns-2 c =
+    refused-noted _ _ _ _ _ _ _ _ _
+    (all-left _ _ _ _ _ (turn-none _ _ _ _ (c .before .before .loop .inv .2) (omega arith)) (c .if1 .taken))
+
+same-length-3 : tie.Need-same-length-3 Inv-loop μ-loop
+same-length-3 c = search needs
+
+returns-3 : tie.Need-returns-3 Inv-loop μ-loop
+returns-3 c =
+    let i = c .before .before .loop .inv in
+    record {
+      says = all-good _ _ _ _ _ _ (turn-none _ _ _ _ (i .2) (omega arith)) (omega arith) (total-none _ _ _ _ _ (i .3) (omega arith));
+      holds = λ m e. records-done _ _ _ _ _ _ (omega arith) (i .5);
+    }
+
+pub note-records-spec : {M : Type 1} → statement M
+note-records-spec =
+    tie.close
+    (tie.spec
+    Inv-loop
+    μ-loop
+    loop-holds
+    record-at-requires
+    enum-known-k
+    same-length
+    returns
+    enum-known-next
+    note-record-requires
+    add-byte-at
+    byte-at-requires
+    cast-total
+    add-total
+    sub-left
+    loop-less
+    loop-again
+    same-length-2
+    returns-2
+    same-length-3
+    returns-3)

@@ -1,0 +1,2 @@
+-- Names for what the functions of notes compute on the way to the definitions of held.
+pub mod Notes

@@ -1,0 +1,34 @@
+-- Sets laid over an empty one: how a set that is lent, and a difference, come by value.
+use Prim.Native.Nat.{ℕ, zero, suc, _+_, _-_, _≤_}
+use native.Mathlib.Omega.{arith}
+use mathlib.Core.Path.{_≡_, refl, _∙_, ap}
+use mathlib.Core.List.{List, [], _∷_}
+use lib.ListN.{length, take, drop, length-drop}
+use lib.Seq.{length-take-le}
+use Rattle.mask.specs.Sets.{bytewise, union, difference, empty}
+use Rattle.mask.proofs.Laws.{length-difference}
+use Rattle.held.specs.Held.{setAt}
+use Rattle.held.specs.Rules.{heldSet}
+
+pub union-empty : (len : ℕ) (m : List ℕ) → length m ≡ len → union (empty len) m ≡ m
+unfolding union empty bytewise
+union-empty zero [] e = refl
+union-empty zero (x ∷ m) e = absurd (omega arith)
+union-empty (suc len) [] e = absurd (omega arith)
+union-empty (suc len) (x ∷ m) e = ap (λ (l : List ℕ). x ∷ l) (union-empty len m (omega arith))
+
+pub difference-by : (a b m r : List ℕ) → length a ≡ 32 → m ≡ empty 32 → r ≡ union m (difference a b) → r ≡ difference a b
+difference-by a b m r l e f = f ∙ rw e (union-empty 32 (difference a b) (length-difference a b ∙ l))
+
+pub held-set-by : (l : List ℕ) (a k at end : ℕ) (e r : List ℕ)
+    → at ≡ setAt a k
+    → end ≡ at + 32
+    → end ≤ length l
+    → e ≡ empty 32
+    → r ≡ union e (take (end - at) (drop at l))
+    → r ≡ heldSet l a k
+unfolding heldSet
+held-set-by l a k at end e r f g h j u =
+    let n : end - at ≡ 32 = omega arith in
+    let len : length (take 32 (drop at l)) ≡ 32 = length-take-le 32 (drop at l) (omega (arith, length-drop at l)) in
+    u ∙ rw (j, n) (union-empty 32 (take 32 (drop at l)) len ∙ ap (λ (x : ℕ). take 32 (drop x l)) f)

@@ -1,0 +1,126 @@
+-- A plan over masks comes to what it comes to under the model, and so do rows 19 and 20.
+use Prim.Native.Nat.{ℕ, zero, suc, _≤_}
+use native.Mathlib.Omega.{arith}
+use mathlib.Core.Path.{_≡_, refl, sym, ap, ap₂, subst, subst₂, _∙_}
+use mathlib.Core.Logic.{_⊎_, inl, inr}
+use mathlib.Core.Bool.{Bool, true, false, not}
+use mathlib.Core.List.{List, [], _∷_, map}
+use Rattle.terms.specs.declared.Fact.{Fact}
+use Rattle.terms.specs.declared.Step.{Step}
+use Rattle.terms.specs.Schema.{Schema}
+use Rattle.terms.specs.Facts.{factNumber}
+use Rattle.format.specs.Order.{GoalEntry}
+use Rattle.mask.specs.Sets.{maskOf}
+use Rattle.model.specs.Quantify.{same, first, later, here, there}
+use Rattle.model.specs.Domain.{Domain, State, Step as GroundAction}
+use Rattle.model.specs.Model.{Model, Valid, Run, stopped, ended, stuck, next, run}
+use Rattle.model.specs.Judge.{wrong}
+use Rattle.model.proofs.Truth.{decide}
+use Rattle.model.proofs.Lockstep.{run-stop, run-go}
+use Rattle.jobs.specs.Planning.{holding, groundAction, goalEntry}
+use Rattle.jobs.specs.Check.{endSize, runAnswer, endSheet}
+use Rattle.held.specs.Rules.{ruleSet}
+use Rattle.statemask.specs.Statemask.{startMask, stepStuck, stepNext, Carried, carry, missed}
+use Rattle.statemask.specs.Carrying.{setNumbers, Under, Ruled, Fitting, Carrying, Agrees, carriedAnswer}
+use Rattle.statemask.proofs.Masks.{test-mask, start-mask}
+use Rattle.statemask.proofs.Step.{next-under, stuck-mask, next-mask}
+
+module _ (sch : Schema) (l : List ℕ) (st : Step) (plan : List Step) (m : List ℕ) (k : ℕ) where
+  pub carry-stop : stepStuck sch l st m ≡ true → carry sch l (st ∷ plan) m k ≡ record { stop = k; mask = m }
+  unfolding carry
+  carry-stop e = rw (e, carry)
+
+  pub carry-go : stepStuck sch l st m ≡ false → carry sch l (st ∷ plan) m k ≡ carry sch l plan (stepNext sch l st m) (suc k)
+  unfolding carry
+  carry-go e = rw (e, carry)
+
+module _ (D : Domain) (M : Model) (sch : Schema) (l : List ℕ) where
+  module _ (few : D .atoms ≤ setNumbers) (valid : Valid D M) (s : Step) (fits : Fitting D (groundAction sch s)) (st : State) (under : Under st) where
+    step-stuck : Ruled M (s .action .0) (ruleSet sch l (s .action .0)) → stepStuck sch l s (maskOf endSize st) ≡ stuck D M (groundAction sch s) st
+    unfolding stepStuck groundAction
+    step-stuck ruled = stuck-mask D M few valid (groundAction sch s) fits (ruleSet sch l (s .action .0)) ruled st under
+
+    step-next : Ruled M (s .action .0) (ruleSet sch l (s .action .0)) → stepNext sch l s (maskOf endSize st) ≡ maskOf endSize (next D M (groundAction sch s) st)
+    unfolding stepNext groundAction
+    step-next ruled = next-mask D M few valid (groundAction sch s) fits (ruleSet sch l (s .action .0)) ruled st under
+
+  -- The plan over the mask of a state comes to what it comes to from the state.
+  pub carry-run : (plan : List Step) → Carrying D M sch l plan → (st : State) → Under st → (k : ℕ) → 1 ≤ k
+      → Agrees (carry sch l plan (maskOf endSize st) k) (run D M (map (groundAction sch) plan) st k)
+  unfolding carry run
+  carry-run [] c st under k h = (refl, refl, under)
+  carry-run (s ∷ plan) c st under k h =
+      go (decide (stuck D M t st)) (carry-run plan rest (next D M t st) (next-under D M (c .few) (c .valid) t fits st under) (suc k) (omega arith))
+    where
+      t : GroundAction
+      t = groundAction sch s
+
+      fits : Fitting D t
+      fits = c .fitting s here
+
+      rest : Carrying D M sch l plan
+      rest = record { few = c .few; valid = c .valid; ruled = λ r m. c .ruled r (there m); fitting = λ r m. c .fitting r (there m) }
+
+      halts : stepStuck sch l s (maskOf endSize st) ≡ stuck D M t st
+      halts = step-stuck (c .few) (c .valid) s fits st under (c .ruled s here)
+
+      moves : stepNext sch l s (maskOf endSize st) ≡ maskOf endSize (next D M t st)
+      moves = step-next (c .few) (c .valid) s fits st under (c .ruled s here)
+
+      go : (stuck D M t st ≡ true) ⊎ (stuck D M t st ≡ false)
+          → Agrees (carry sch l plan (maskOf endSize (next D M t st)) (suc k)) (run D M (map (groundAction sch) plan) (next D M t st) (suc k))
+          → Agrees (carry sch l (s ∷ plan) (maskOf endSize st) k) (run D M (t ∷ map (groundAction sch) plan) st k)
+      go (inl e) deeper =
+          subst₂ Agrees (sym (carry-stop sch l s plan (maskOf endSize st) k (halts ∙ e))) (sym (run-stop D M t (map (groundAction sch) plan) st k e)) (refl, h)
+      go (inr e) deeper =
+          subst₂ Agrees
+          (sym (carry-go sch l s plan (maskOf endSize st) k (halts ∙ e) ∙ ap (λ m. carry sch l plan m (suc k)) moves))
+          (sym (run-go D M t (map (groundAction sch) plan) st k e))
+          deeper
+
+-- the first of a list mapped, where each member passes as it does mapped
+first-map : {A B : Type 0} (p : A → Bool) (q : B → Bool) (f : A → B) → ((x : A) → p x ≡ q (f x)) → (xs : List A) → first p xs ≡ first q (map f xs)
+unfolding first
+first-map p q f h [] = refl
+first-map p q f h (x ∷ xs) = ap₂ (λ (b : Bool) (k : ℕ). elim b as (λ c. ℕ) [ true ↦ 1 | false ↦ later k ]) (h x) (first-map p q f h xs)
+
+-- The first goal entry that the mask misses is the first that is wrong in the state.
+pub missed-first : (end : State) → Under end → (goal : List GoalEntry) → missed (maskOf endSize end) goal ≡ first (wrong end) (map goalEntry goal)
+unfolding missed wrong goalEntry
+missed-first end under goal =
+    first-map _ _ goalEntry (λ e. ap (λ (t : Bool). not (same t (e .wanted))) (test-mask end under (factNumber (e .fact)))) goal
+
+-- ---- rows 19 and 20
+-- What the check answers to a run it answers to the masks that agree with it.
+pub agrees-answer : (steps : ℕ) (goal : List GoalEntry) (c : Carried) (r : Run) → Agrees c r → runAnswer steps (map goalEntry goal) r ≡ carriedAnswer steps goal c
+unfolding runAnswer carriedAnswer
+agrees-answer steps goal c (stopped zero) a = absurd (omega arith)
+agrees-answer steps goal c (stopped (suc k)) a = rw (a .0)
+agrees-answer steps goal c (ended end) a = rw (a .0, a .1, missed-first end (a .2) goal)
+
+-- Where no step stops, the run ends in the state of the mask,
+pub agrees-ended : (c : Carried) (r : Run) → Agrees c r → c .stop ≡ 0 → (end : State) × (r ≡ ended end) × (c .mask ≡ maskOf endSize end) × Under end
+agrees-ended c (stopped k) a e = absurd (omega arith)
+agrees-ended c (ended end) a e = (end, refl, a .1, a .2)
+
+-- and the end sheet is the mask.
+pub agrees-sheet : (c : Carried) (r : Run) → Agrees c r → c .stop ≡ 0 → c .mask ≡ endSheet r
+unfolding endSheet
+agrees-sheet c (stopped k) a e = absurd (omega arith)
+agrees-sheet c (ended end) a e = a .1
+
+-- Where a step stops, the run stops at it.
+pub agrees-stopped : (c : Carried) (r : Run) (k : ℕ) → Agrees c r → c .stop ≡ suc k → r ≡ stopped (suc k)
+agrees-stopped c (stopped j) k a e = ap stopped (sym (a .0) ∙ e)
+agrees-stopped c (ended end) k a e = absurd (omega arith)
+
+-- ---- from the start facts
+module _ (D : Domain) (M : Model) (sch : Schema) (l : List ℕ) (plan : List Step) (c : Carrying D M sch l plan) (fs : List Fact) (under : Under (holding fs)) where
+  pub carry-start : Agrees (carry sch l plan (startMask fs) 1) (run D M (map (groundAction sch) plan) (holding fs) 1)
+  carry-start =
+      subst (λ (m : List ℕ). Agrees (carry sch l plan m 1) (run D M (map (groundAction sch) plan) (holding fs) 1)) (sym (start-mask fs))
+      (carry-run D M sch l plan c (holding fs) under 1 (omega arith))
+
+  pub carry-answer : (steps : ℕ) (goal : List GoalEntry)
+      → runAnswer steps (map goalEntry goal) (run D M (map (groundAction sch) plan) (holding fs) 1) ≡ carriedAnswer steps goal (carry sch l plan (startMask fs) 1)
+  carry-answer steps goal = agrees-answer steps goal _ _ carry-start
