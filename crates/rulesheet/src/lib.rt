@@ -131,7 +131,7 @@ pub fn rules_of(book: &[u8], h: Sections, held: &[u8], m: Move) -> [[u8; 32]; 4]
 
 // ---- the sheet
 
-fn write_bytes(part: &mut [u8], at: usize, bytes: &[u8])
+pub fn write_bytes(part: &mut [u8], at: usize, bytes: &[u8])
     requires { ⌜ at + length (now bytes) ≤ length (now part) ⌝ }
     ensures { λ _. ⌜ now (part .exit) ≡ written (now (part .entry)) at (now (bytes .entry)) ⌝ }
 {

@@ -1,0 +1,87 @@
+-- The bytes and the header of the new book, by those of the old one and of the record.
+use Prim.Native.Nat.{ℕ, _+_, _≤_, _<_}
+use mathlib.Core.Path.{_≡_, refl, _∙_}
+use mathlib.Core.Bool.{false}
+use mathlib.Core.List.{List, _++_}
+use native.Mathlib.Omega.{arith}
+use borrow.Author.Tests.{eqb-false, ne-eqb}
+use lib.Dec.{eqb}
+use lib.ListN.{length, drop, length-append, length-drop, List·getD-append}
+use lib.Seq.{getD-append-add, getD-drop, ext-getD}
+use Rattle.answer.specs.Laws.{neither}
+use Rattle.input.specs.Bytes.{byteAt, two}
+use Rattle.terms.specs.Sections.{sectionsOf}
+use Rattle.format.specs.Limits.{headerSize}
+use Rattle.jobs.specs.Add.{added}
+use Rattle.adding.specs.ReadBack.{renewed, oneMore}
+use Rattle.adding.proofs.Written.{two-elsewhere, two-there}
+use Rattle.adding.proofs.Formed.{added-written, counted, length-counted, length-added}
+
+-- behind the header nothing is renewed
+pub not-renewed : (i : ℕ) → headerSize ≤ i → renewed i ≡ false
+unfolding renewed
+not-renewed i h =
+    rw (ne-eqb i 6 (λ e. omega arith), ne-eqb i 7 (λ e. omega arith), ne-eqb i 14 (λ e. omega arith), ne-eqb i 15 (λ e. omega arith))
+
+two-by : (t s : List ℕ) (at : ℕ) → byteAt t at ≡ byteAt s at → byteAt t (at + 1) ≡ byteAt s (at + 1) → two t at ≡ two s at
+unfolding two
+two-by t s at p q = rw (p, q)
+
+module _ (s r : List ℕ) (h : headerSize ≤ length s) where
+  whole-length : length (s ++ r) ≡ length s + length r
+  whole-length = length-append s r
+
+  elsewhere : (i : ℕ) → renewed i ≡ false → byteAt (added s r) i ≡ byteAt (s ++ r) i
+  unfolding renewed
+  elsewhere i e =
+      let a = neither _ _ e in
+      let b = neither _ _ (a .0) in
+      let c = neither (eqb i 6) (eqb i 7) (b .0) in
+      let l = whole-length in
+      let m = length-counted s r h in
+      rw (← added-written s r h)
+      (two-elsewhere (counted s r h) 14 (length s + length r) (omega arith) i (eqb-false i 14 (b .1)) (eqb-false i 15 (a .1))
+      ∙ two-elsewhere (s ++ r) 6 (two s 6 + 1) (omega arith) i (eqb-false i 6 (c .0)) (eqb-false i 7 (c .1)))
+
+  pub byte-kept : (i : ℕ) → i < length s → renewed i ≡ false → byteAt (added s r) i ≡ byteAt s i
+  unfolding byteAt
+  byte-kept i l e = elsewhere i e ∙ List·getD-append s r 0 i l
+
+  pub byte-added : (i : ℕ) → byteAt (added s r) (length s + i) ≡ byteAt r i
+  unfolding byteAt
+  byte-added i = elsewhere (length s + i) (not-renewed (length s + i) (omega arith)) ∙ getD-append-add s r i 0
+
+  pub bytes-behind : drop (length s) (added s r) ≡ r
+  unfolding byteAt
+  bytes-behind =
+      let l = length-added s r h in
+      ext-getD 0 (drop (length s) (added s r)) r (simp length-drop (omega arith)) (λ i k. getD-drop (length s) (added s r) i 0 ∙ byte-added i)
+
+  two-kept : (at : ℕ) → at + 2 ≤ headerSize → renewed at ≡ false → renewed (at + 1) ≡ false → two (added s r) at ≡ two s at
+  two-kept at l e f = two-by (added s r) s at (byte-kept at (omega arith) e) (byte-kept (at + 1) (omega arith) f)
+
+  two-count : two s 6 < 65535 → two (added s r) 6 ≡ two s 6 + 1
+  two-count l =
+      let w = whole-length in
+      let m = length-counted s r h in
+      let c = counted s r h in
+      let before-end : (i : ℕ) → i < 14 → byteAt (added s r) i ≡ byteAt c i =
+      λ i k. rw (← added-written s r h) (two-elsewhere c 14 _ (omega arith) i (λ e. omega arith) (λ e. omega arith)) in
+      two-by (added s r) c 6 (before-end 6 (omega arith)) (before-end 7 (omega arith)) ∙ two-there (s ++ r) 6 (two s 6 + 1) (omega arith) (omega arith)
+
+  two-end : length s + length r < 65536 → two (added s r) 14 ≡ length s + length r
+  two-end l = let m = length-counted s r h in rw (← added-written s r h) (two-there (counted s r h) 14 (length s + length r) (omega arith) l)
+
+  pub header-added : two s 6 < 65535 → length s + length r < 65536 → sectionsOf (added s r) ≡ oneMore (sectionsOf s) (length s + length r)
+  unfolding sectionsOf oneMore renewed
+  header-added l m =
+      rw (
+        two-kept 0 (omega arith) refl refl,
+        two-kept 2 (omega arith) refl refl,
+        two-kept 4 (omega arith) refl refl,
+        two-kept 8 (omega arith) refl refl,
+        two-kept 10 (omega arith) refl refl,
+        two-kept 12 (omega arith) refl refl,
+        two-count l,
+        two-end m,
+      )

@@ -1,0 +1,84 @@
+-- Each return of `add`, with the lent output, put together from what the calls before it return.
+use Prim.Native.Nat.{ℕ, _+_, _≤_, _<_}
+use mathlib.Core.Path.{_≡_, refl, sym, ap, _∙_}
+use mathlib.Core.Bool.{Bool, true, false}
+use mathlib.Core.List.{List}
+use borrow.Author.Tests.{lt-ltb, le-ltb}
+use lib.Dec.{ltb}
+use lib.ListN.{length, take}
+use lib.Seq.{take-at}
+use Rattle.answer.specs.declared.Answer.{Answer}
+use Rattle.answer.specs.declared.Answer.the-variants.{Good, Refused}
+use Rattle.answer.specs.Answer.{_>>=_, refuse, isRefused, valueOf}
+use Rattle.answer.specs.Laws.{clash, stays, follows, refuse-met, refuse-unmet}
+use Rattle.format.specs.Limits.{headerSize, maxLength}
+use Rattle.format.specs.LookOver.{lookOver}
+use Rattle.jobs.specs.Learn.{kept}
+use Rattle.jobs.specs.Add.{added, add, addBytes}
+use Rattle.records.proofs.Turns.{is-good, part-stays}
+use Rattle.lookover.proofs.Laws.{look-over-good}
+use Rattle.adding.specs.Written.{written}
+use Rattle.adding.specs.Outcome.{Outcome}
+use Rattle.adding.proofs.Written.{front-written}
+use Rattle.adding.proofs.Formed.{length-added}
+
+-- a book that was looked over has a whole header
+pub long-enough : (s : List ℕ) (a : Answer) (b : Bool) → a ≡ lookOver s → b ≡ isRefused a → b ≡ false → headerSize ≤ length s
+long-enough s a b e f g = look-over-good s _ (sym e ∙ is-good a (sym f ∙ g)) .sections .size .least
+
+module _ (s r old : List ℕ) where
+  kept-old : (a : Answer) → a ≡ add s r (length old) → isRefused a ≡ true → Outcome s r old old a
+  unfolding addBytes kept isRefused
+  kept-old (Good n) e f = clash false f refl
+  kept-old (Refused n p) e f = record { says = e; bytes = rw (← e) }
+
+  pub first-refused : (a : Answer) (b : Bool) → a ≡ lookOver s → b ≡ isRefused a → b ≡ true → Outcome s r old old a
+  unfolding add
+  first-refused a b e f g = kept-old a (part-stays _ _ a b e f g) (sym f ∙ g)
+
+  module _ (a : Answer) (b : Bool) (e : a ≡ lookOver s) (f : b ≡ isRefused a) (g : b ≡ false) where
+    first-good : lookOver s ≡ Good (valueOf a)
+    first-good = sym e ∙ is-good a (sym f ∙ g)
+
+    long : headerSize ≤ length s
+    long = long-enough s a b e f g
+
+    pub too-long : maxLength < length s + length r → Outcome s r old old (Refused 1 0)
+    unfolding add _>>=_ refuse isRefused
+    too-long h = kept-old _ (rw (first-good, lt-ltb maxLength (length s + length r) h)) refl
+
+    -- what lookover is shown of the memory that `form` filled
+    module _ (d new : List ℕ) (m : length s + length r ≤ maxLength) (w : new ≡ written d 0 (added s r)) where
+      pub formed : take (length s + length r) new ≡ added s r
+      formed = rw (w, front-written d (added s r)) (take-at (added s r) _ (length s + length r) (length-added s r long))
+
+      module _ (a₂ : Answer) (b₂ : Bool) (e₂ : a₂ ≡ lookOver (take (length s + length r) new)) (f₂ : b₂ ≡ isRefused a₂) where
+        is₂ : a₂ ≡ lookOver (added s r)
+        is₂ = e₂ ∙ ap lookOver formed
+
+        behind : a₂ >>= (λ _. refuse (ltb (length old) (length s + length r)) 13 0 >>= λ _. Good (length s + length r)) ≡ add s r (length old)
+        unfolding add _>>=_ refuse
+        behind = rw (is₂, first-good, le-ltb maxLength (length s + length r) m)
+
+        pub new-refused : b₂ ≡ true → Outcome s r old old a₂
+        new-refused g₂ = kept-old a₂ (stays a₂ _ (sym f₂ ∙ g₂) ∙ behind) (sym f₂ ∙ g₂)
+
+        module _ (g₂ : b₂ ≡ false) where
+          room : (refuse (ltb (length old) (length s + length r)) 13 0 >>= λ _. Good (length s + length r)) ≡ add s r (length old)
+          room = follows a₂ (λ _. refuse (ltb (length old) (length s + length r)) 13 0 >>= λ _. Good (length s + length r)) (sym f₂ ∙ g₂) ∙ behind
+
+          pub no-room : length old < length s + length r → Outcome s r old old (Refused 13 0)
+          unfolding isRefused
+          no-room h = kept-old _ (sym (refuse-met _ _ _ _ (lt-ltb _ _ h)) ∙ room) refl
+
+          pub stored : (out : List ℕ)
+              → length s + length r ≤ length old
+              → out ≡ written old 0 (take (length s + length r) new)
+              → Outcome s r old out (Good (length s + length r))
+          unfolding addBytes kept
+          stored out h v =
+              let says : Good (length s + length r) ≡ add s r (length old) = sym (refuse-unmet _ _ _ _ (le-ltb _ _ h)) ∙ room in
+              record {
+                says = says;
+                bytes = rw (← says, v, formed, front-written old (added s r), length-added s r long);
+              }

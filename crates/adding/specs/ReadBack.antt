@@ -1,0 +1,87 @@
+-- What adding does to a book, where it succeeds: the record is read back as it was filed, and the rest of the book stays.
+use Prim.Native.Nat.{ℕ, _+_, _≤_, _<_}
+use mathlib.Core.Path.{_≡_}
+use mathlib.Core.Bool.{Bool, false, _||_}
+use mathlib.Core.List.{List, _++_, map}
+use lib.Dec.{eqb}
+use lib.ListN.{length, take, drop}
+use Rattle.answer.specs.declared.Answer.the-variants.{Good, Refused}
+use Rattle.input.specs.Bytes.{byteAt}
+use Rattle.terms.specs.declared.Param.{Param}
+use Rattle.terms.specs.declared.Relation.{Relation}
+use Rattle.terms.specs.declared.Move.{Move}
+use Rattle.terms.specs.declared.Sections.{Sections}
+use Rattle.terms.specs.Sections.{sectionsOf}
+use Rattle.terms.specs.Schema.{Schema}
+use Rattle.format.specs.Limits.{maxPlaces, maxParams}
+use Rattle.format.specs.Records.{stepsIn, recordAt}
+use Rattle.format.specs.LookOver.{lookOver}
+use Rattle.format.specs.Decode.{Filed, recordFiled, filed}
+use Rattle.jobs.specs.Planning.{schemaOf}
+use Rattle.jobs.specs.Add.{added, add, addBytes}
+
+-- the bytes of the record count and of the end
+unfoldable pub renewed : ℕ → Bool
+renewed i = eqb i 6 || eqb i 7 || eqb i 14 || eqb i 15
+
+-- a header with one record more and another end
+unfoldable pub oneMore : Sections → ℕ → Sections
+oneMore h end =
+    record {
+      kinds = h .kinds;
+      relations = h .relations;
+      moves = h .moves;
+      records = record { count = h .records .count + 1; at = h .records .at };
+      end = end;
+    }
+
+-- filed steps whose places lie so many bytes further on
+unfoldable pub movedBy : ℕ → List Filed → List Filed
+movedBy k = map (λ f. record { place = k + f .place; step = f .step; pre = f .pre; post = f .post })
+
+-- two schemas say the same of each relation and each move
+pub record SchemaKept (old new : Schema) : Type 0 where
+  pub kinds : new .kinds ≡ old .kinds
+  pub relations : new .relations ≡ old .relations
+  pub moves : new .moves ≡ old .moves
+  pub places : (x : Relation) → 1 ≤ x .0 → x .0 ≤ old .relations → new .places x ≡ old .places x
+  pub placeKind : (x : Relation) → 1 ≤ x .0 → x .0 ≤ old .relations → (i : ℕ) → i ≤ maxPlaces → new .placeKind x i ≡ old .placeKind x i
+  pub params : (m : Move) → 1 ≤ m .0 → m .0 ≤ old .moves → new .params m ≡ old .params m
+  pub paramKind : (m : Move) → 1 ≤ m .0 → m .0 ≤ old .moves → (p : Param) → p .0 ≤ maxParams → new .paramKind m p ≡ old .paramKind m p
+
+-- `s` the old book, `r` the bytes of the record, n the place of the success
+pub record ReadBack (s r : List ℕ) (n : ℕ) : Type 0 where
+  -- the place is the new length
+  pub place : n ≡ length s + length r
+  pub size : length (added s r) ≡ n
+  -- the old book was of good form, and the new one is: its steps are the old ones and those of the record
+  pub old : ℕ
+  pub was : lookOver s ≡ Good old
+  pub is : lookOver (added s r) ≡ Good (old + stepsIn r 0)
+  -- the old book's bytes stand where they stood, but for the record count and the end
+  pub kept : (i : ℕ) → i < length s → renewed i ≡ false → byteAt (added s r) i ≡ byteAt s i
+  pub header : sectionsOf (added s r) ≡ oneMore (sectionsOf s) n
+  pub schema : SchemaKept (schemaOf s) (schemaOf (added s r))
+  -- the record's bytes stand behind them, unchanged, and are one record of good form to their end
+  pub behind : drop (length s) (added s r) ≡ r
+  pub whole : recordAt (sectionsOf (added s r)) (added s r) (length s) ≡ Good n
+  -- all steps filed are the old book's, then the record's ..
+  pub steps : filed (sectionsOf (added s r)) (added s r) ≡ filed (sectionsOf s) s ++ recordFiled (added s r) (length s)
+  -- .. and these are what the record's bytes say by themselves, with their places in the new book
+  pub asFiled : recordFiled (added s r) (length s) ≡ movedBy (length s) (recordFiled r 0)
+
+-- a record that was added is read back as it was filed
+abbrev pub AddedIsReadBack : Type 0
+AddedIsReadBack = (s r : List ℕ) (size n : ℕ) → add s r size ≡ Good n → ReadBack s r n
+
+-- what a call's lent output holds afterwards: the new book and then its own bytes, or what it held
+pub record Stored (s r out : List ℕ) (n : ℕ) : Type 0 where
+  pub book : take n (addBytes s r out) ≡ added s r
+  pub beyond : drop n (addBytes s r out) ≡ drop n out
+  pub size : length (addBytes s r out) ≡ length out
+
+abbrev pub AddedIsStored : Type 0
+AddedIsStored = (s r out : List ℕ) (n : ℕ) → add s r (length out) ≡ Good n → Stored s r out n
+
+abbrev pub RefusedIsUntouched : Type 0
+RefusedIsUntouched = (s r out : List ℕ) (k p : ℕ) → add s r (length out) ≡ Refused k p → addBytes s r out ≡ out

@@ -1,0 +1,81 @@
+// Adding a record to a book: the fourth job. The new book is formed beside the lent output and looked over there, so that a refusal leaves
+// the output untouched. Uses answer, input, lookover and the definitions of jobs.
+use answer::Answer;
+ghost use mathlib.Core.Path.{_≡_};
+ghost use Prim.Native.Nat.{_+_, _≤_};
+ghost use lib.ListN.{length};
+ghost use Rattle.format.specs.Limits.{headerSize, maxLength};
+ghost use Rattle.jobs.specs.Add.{twoBytes, added};
+ghost use Rattle.adding.specs.Written.{written};
+ghost use Rattle.adding.specs.Outcome.{Outcome};
+
+const MAX_LENGTH: usize = 60000;
+
+const COUNT_AT: usize = 6;
+
+const END_AT: usize = 14;
+
+fn copy_in(dst: &mut [u8], at: usize, src: &[u8])
+    requires { ⌜ at + length (now src) ≤ length (now dst) ⌝ }
+    ensures { λ _. ⌜ now (dst .exit) ≡ written (now (dst .entry)) at (now (src .entry)) ⌝ }
+{
+    let mut i = 0;
+    while i < src.len() {
+        dst[at + i] = src[i];
+        i += 1;
+    }
+}
+
+// High byte first.
+fn put_two(dst: &mut [u8], at: usize, n: usize)
+    requires { ⌜ at + 2 ≤ length (now dst) ⌝ }
+    ensures { λ _. ⌜ now (dst .exit) ≡ written (now (dst .entry)) at (twoBytes n) ⌝ }
+{
+    dst[at] = (n / 256 % 256) as u8;
+    dst[at + 1] = (n % 256) as u8;
+}
+
+// The new book: the old one with the record behind it, record count and end renewed.
+fn form(new: &mut [u8], book: &[u8], bytes: &[u8])
+    requires { ⌜ (headerSize ≤ length (now book)) × (length (now book) + length (now bytes) ≤ length (now new)) ⌝ }
+    ensures { λ _. ⌜ now (new .exit) ≡ written (now (new .entry)) 0 (added (now (book .entry)) (now (bytes .entry))) ⌝ }
+{
+    let count = input::two_at(book, COUNT_AT) as usize;
+    copy_in(new, 0, book);
+    copy_in(new, book.len(), bytes);
+    put_two(new, COUNT_AT, count + 1);
+    put_two(new, END_AT, book.len() + bytes.len());
+}
+
+// The job, by way of memory in which the new book is formed.
+fn add_by(new: &mut [u8], book: &[u8], bytes: &[u8], out: &mut [u8]) -> Answer
+    requires { ⌜ maxLength ≤ length (now new) ⌝ }
+    ensures { λ r. ⌜ Outcome (now (book .entry)) (now (bytes .entry)) (now (out .entry)) (now (out .exit)) r ⌝ }
+{
+    let old = lookover::look_over(book);
+    if answer::is_refused(old) {
+        return old;
+    }
+    let size = book.len() + bytes.len();
+    if MAX_LENGTH < size {
+        return Answer::Refused(1, 0);
+    }
+    form(new, book, bytes);
+    let looked = lookover::look_over(&new[..size]);
+    if answer::is_refused(looked) {
+        return looked;
+    }
+    if out.len() < size {
+        return Answer::Refused(13, 0);
+    }
+    copy_in(out, 0, &new[..size]);
+    Answer::Good(size)
+}
+
+// The old book is looked over, then the new length, the new book and the room in `out`; each may refuse.
+pub fn add(book: &[u8], bytes: &[u8], out: &mut [u8]) -> Answer
+    ensures { λ r. ⌜ Outcome (now (book .entry)) (now (bytes .entry)) (now (out .entry)) (now (out .exit)) r ⌝ }
+{
+    let mut new = [0u8; MAX_LENGTH];
+    add_by(&mut new, book, bytes, out)
+}

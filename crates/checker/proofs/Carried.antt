@@ -1,0 +1,132 @@
+-- For a book that learns and an order of good form, masks by what is held come to what the plan comes to under the learned model.
+use Prim.Native.Nat.{ℕ, zero, suc, _+_, _*_, _≤_, _<_}
+use mathlib.Core.Path.{_≡_, refl, sym, ap, _∙_, subst}
+use mathlib.Core.Bool.{Bool, true, false}
+use mathlib.Core.Logic.{_⊎_, inl, inr}
+use mathlib.Core.List.{List, _∷_}
+use native.Mathlib.Omega.{arith}
+use lib.ListN.{length}
+use Rattle.answer.specs.declared.Answer.{Answer}
+use Rattle.answer.specs.declared.Answer.the-variants.{Good, Refused}
+use Rattle.answer.specs.Laws.{parted}
+use Rattle.input.specs.Bytes.{byteAt}
+use Rattle.terms.specs.declared.Step.{Step}
+use Rattle.terms.specs.Schema.{Schema}
+use Rattle.terms.specs.Steps.{stepAt}
+use Rattle.format.specs.Limits.{maxMoves, stepSize}
+use Rattle.format.specs.LookOver.{lookOver}
+use Rattle.format.specs.Order.{stepCount, stepsAt, orderForm, startFacts, goal, plan, planFrom}
+use Rattle.model.specs.Quantify.{Mem, here, there}
+use Rattle.model.specs.Domain.{Transition}
+use Rattle.model.specs.Model.{Run, run}
+use Rattle.model.specs.Learned.{learned}
+use Rattle.model.proofs.Truth.{decide}
+use Rattle.model.proofs.Impossible.{learned-consistent}
+use Rattle.jobs.specs.Planning.{domain, schemaOf, filedIn, transitionsOf, groundAction, startState, planOf, goalOf}
+use Rattle.jobs.specs.Learn.{learnable, learnedFrom}
+use Rattle.jobs.specs.Check.{planRun, runAnswer, endSheet}
+use Rattle.held.specs.Held.{heldSize, holdAll, nothingSeen}
+use Rattle.held.specs.Rules.{ruleSet, heldSet}
+use Rattle.held.specs.Seen.{Seen, shown}
+use Rattle.held.proofs.Hold.{seen-held}
+use Rattle.held.proofs.Sheet.{atoms-in, atoms-out}
+use Rattle.heldright.proofs.HeldRight.{filed-faithful}
+use Rattle.wellformed.proofs.Headers.{relations-few, moves-few}
+use Rattle.wellformed.proofs.Formed.{formed}
+use Rattle.wellformed.proofs.Atoms.{atom-below, ground-below}
+use Rattle.wellformed.proofs.Suits.{move-known}
+use Rattle.wellformed.proofs.Orders.{order-right, start-under}
+use Rattle.wellformed.specs.Right.{orderHall}
+use Rattle.demand.proofs.Rows.{conflictIn, learnable-conflict}
+use Rattle.statemask.specs.Statemask.{carry, startMask}
+use Rattle.statemask.specs.Carrying.{Ruled, Fitting, Carrying, carriedAnswer}
+use Rattle.statemask.proofs.Plan.{carry-start, carry-answer, agrees-sheet}
+use Rattle.orders.proofs.Laws.{order-good}
+use Rattle.execution.specs.Execution.{Carriable}
+use Rattle.learner.specs.Learner.{heldOf}
+
+-- the sets of a move's rules are its learned ones
+ruled : (sch : Schema) (ts : List Transition) (l : List ℕ) → Seen sch ts l → (a : ℕ) → 1 ≤ a → a ≤ 32 → Ruled (learned (domain sch) ts) a (ruleSet sch l a)
+unfolding ruleSet learned domain shown
+ruled sch ts l seen a h h′ =
+    record {
+      hold = atoms-in sch a (heldSet l a 0) (shown ts 0 a) (λ n. seen .says 0 (omega arith) a h h′ n);
+      bar = atoms-out sch a (heldSet l a 1) (shown ts 1 a) (λ n. seen .says 1 (omega arith) a h h′ n);
+      added = atoms-in sch a (heldSet l a 4) (shown ts 4 a) (λ n. seen .says 4 (omega arith) a h h′ n);
+      removed = atoms-in sch a (heldSet l a 5) (shown ts 5 a) (λ n. seen .says 5 (omega arith) a h h′ n);
+    }
+
+-- a book that learns has no conflict
+clean : (s : List ℕ) (n m : ℕ) → lookOver s ≡ Good n → learnable s ≡ Good m → conflictIn s ≡ false
+clean s n m good e = go (decide (conflictIn s))
+  where
+    go : (conflictIn s ≡ true) ⊎ (conflictIn s ≡ false) → conflictIn s ≡ false
+    go (inl h) = let (num, p, q, r) = learnable-conflict s n good h in absurd (let z : _≡_ {A = ℕ} 0 1 = cc in omega arith)
+    go (inr h) = h
+
+-- a step of the plan is one of its members
+mem-plan : (o : List ℕ) (n at i : ℕ) → i < n → Mem (stepAt o (at + stepSize * i)) (planFrom o n at)
+unfolding planFrom
+mem-plan o zero at i h = absurd (omega arith)
+mem-plan o (suc n) at zero h =
+    let e : at + stepSize * 0 ≡ at = omega arith in
+    rw e here
+mem-plan o (suc n) at (suc i) h =
+    let e : at + stepSize * suc i ≡ at + stepSize + stepSize * i = omega arith in
+    rw e (there (mem-plan o n (at + stepSize) i (omega arith)))
+
+module _ (s o : List ℕ) (n m k : ℕ) (good : lookOver s ≡ Good n) (learns : learnable s ≡ Good m) (order : orderForm (schemaOf s) o ≡ Good k) where
+  pub moves-known : (st : Step) → Mem st (plan o) → (1 ≤ st .action .0) × (st .action .0 ≤ maxMoves)
+  moves-known st i =
+      let (a, b) = move-known (schemaOf s) (orderHall o) st (order-right (schemaOf s) o k order .steps st i) in
+      let c = moves-few s n good in
+      (a, omega arith)
+
+  pub carriable : (l : List ℕ) → length l ≡ heldSize → Carriable l o (stepCount o) (stepsAt o)
+  unfolding stepAt plan
+  carriable l size =
+      let g = order-good (schemaOf s) o k order .header in
+      record {
+        size = size;
+        end = omega (arith, g .size, g .most);
+        moves = λ i h. moves-known (stepAt o (stepsAt o + stepSize * i)) (mem-plan o (stepCount o) (stepsAt o) i h);
+      }
+
+  carrying : Carrying (domain (schemaOf s)) (learnedFrom s) (schemaOf s) (heldOf s .masks) (plan o)
+  unfolding heldOf learnedFrom transitionsOf domain groundAction
+  carrying =
+      let sch = schemaOf s in
+      let seen = seen-held sch (moves-few s n good) (filedIn s) (filed-faithful s n good) in
+      let right = order-right sch o k order in
+      let few = relations-few s n good in
+      record {
+        few = omega arith;
+        valid = learned-consistent (domain sch) (transitionsOf s) (formed s n good) (clean s n m good learns) .valid;
+        ruled = λ st i. let (a, b) = moves-known st i in ruled sch (transitionsOf s) _ seen (st .action .0) a b;
+        fitting =
+            λ st i.
+            record {
+              ranged = λ j atom. atom-below sch (st .action .0) j atom;
+              under =
+                  λ j atom.
+                  let h = ground-below sch (orderHall o) st (right .steps st i) (right .few) j atom in
+                  omega arith;
+            };
+      }
+
+  -- rows 19 and 20, and the end sheet where no step stops
+  pub plan-answer : runAnswer (stepCount o) (goalOf o) (planRun s o) ≡ carriedAnswer (stepCount o) (goal o) (carry (schemaOf s) (heldOf s .masks) (plan o) (startMask (startFacts o)) 1)
+  unfolding goalOf planRun planOf startState
+  plan-answer =
+      let few = relations-few s n good in
+      carry-answer (domain (schemaOf s)) (learnedFrom s) (schemaOf s) (heldOf s .masks) (plan o) carrying (startFacts o)
+      (λ f h. start-under (schemaOf s) o k order f (omega arith)) (stepCount o) (goal o)
+
+  pub plan-sheet : carry (schemaOf s) (heldOf s .masks) (plan o) (startMask (startFacts o)) 1 .stop ≡ 0
+      → carry (schemaOf s) (heldOf s .masks) (plan o) (startMask (startFacts o)) 1 .mask ≡ endSheet (planRun s o)
+  unfolding planRun planOf startState
+  plan-sheet e =
+      let few = relations-few s n good in
+      agrees-sheet _ _
+      (carry-start (domain (schemaOf s)) (learnedFrom s) (schemaOf s) (heldOf s .masks) (plan o) carrying (startFacts o)
+      (λ f h. start-under (schemaOf s) o k order f (omega arith))) e
