@@ -1,31 +1,134 @@
-/* The small hall of the paper from C: looks its book over, whole and with the last byte left out. */
+/*
+ * The small hall of the paper from C: its book is looked over, its rules are
+ * learned and printed, a plan is checked, a record is added.
+ */
 #include "changeover.h"
 
 #include <inttypes.h>
 #include <stdio.h>
+#include <string.h>
 
+/*
+ * Kind 1 is a bank, 2 a spot; relation 1 "bank at spot", 2 "spot clear";
+ * move 1 rolls a bank from spot to spot.
+ */
 static const uint8_t hall[58] = {
-    0x00, 0x02, 0x00, 0x02, 0x00, 0x01, 0x00, 0x01, 0x00, 0x10, 0x00, 0x18, 0x00, 0x1e, 0x00, 0x3a,
-    0x02, 0x01, 0x02, 0x00, 0x01, 0x02, 0x00, 0x00,
-    0x03, 0x01, 0x02, 0x02, 0x00, 0x00,
-    0x03, 0x01, 0x00, 0x1c, 0x01, 0x02, 0x02,
-    0x00, 0x02, 0x01, 0x01, 0x02, 0x02, 0x03, 0x00,
-    0x01, 0x01, 0x02, 0x03, 0x00,
-    0x00, 0x02, 0x01, 0x01, 0x03, 0x02, 0x02, 0x00,
+    0, 2, 0, 2, 0, 1, 0, 1, 0, 16, 0, 24, 0, 30, 0, 58, /* counts, offsets */
+    2, 1, 2, 0, 1, 2, 0, 0,                             /* relations */
+    3, 1, 2, 2, 0, 0,                                   /* the move */
+    3, 1, 0, 28, 1, 2, 2,                               /* a record: head, objects */
+    0, 2, 1, 1, 2, 2, 3, 0,                             /* bank at 2, spot 3 clear */
+    1, 1, 2, 3, 0,                                      /* roll 1 from 2 to 3 */
+    0, 2, 1, 1, 3, 2, 2, 0,                             /* bank at 3, spot 2 clear */
+};
+enum { RECORD_AT = 30, RECORD_LEN = sizeof hall - RECORD_AT };
+
+static const uint8_t order[43] = {
+    0, 4, 0, 3, 0, 1, 0, 2, 0, 16, 0, 20, 0, 29, 0, 33, /* counts, offsets */
+    1, 2, 2, 2,                                         /* bank 1, spots 2, 3, 4 */
+    1, 1, 2, 2, 3, 0, 2, 4, 0,                          /* bank at 2, spots 3 and 4 clear */
+    1, 1, 1, 4,                                         /* goal: bank at 4 */
+    1, 1, 2, 3, 0, 1, 1, 3, 4, 0,                       /* roll 1 2 3, roll 1 3 4 */
 };
 
-static void show(const char *what, uint64_t answer)
+/* Says what a call answered; 1 for success. */
+static int show(const char *job, uint64_t answer)
 {
-    if (changeover_number(answer) == 0)
-        printf("%s: good, %" PRIu32 "\n", what, changeover_place(answer));
+    uint32_t place = changeover_place(answer);
+
+    if (changeover_ok(answer))
+        printf("%s: good, %" PRIu32 "\n", job, place);
     else
-        printf("%s: refused %u %" PRIu32 "\n", what, changeover_number(answer), changeover_place(answer));
+        printf("%s: refused %u %" PRIu32 "\n", job, changeover_number(answer), place);
+    return changeover_ok(answer);
+}
+
+/* Whether a parameter of the move (0: none) fills a place of this kind (0: unused). */
+static int fills(const uint8_t *move, unsigned parameter, uint8_t kind)
+{
+    return parameter == 0 ? kind == 0 : kind != 0 && move[parameter] == kind;
+}
+
+static void print_rule(const uint8_t *sheet, unsigned move, unsigned relation, unsigned first,
+                       unsigned second)
+{
+    int in[4];
+
+    for (int set = 0; set < 4; set++)
+        in[set] = changeover_in_rules(sheet, move, (enum changeover_set)set, relation, first,
+                                      second);
+    printf("%u %u %u %u %c %c\n", move, relation, first, second,
+           "FHNB"[in[CHANGEOVER_NEEDED_TO_HOLD] + 2 * in[CHANGEOVER_NEEDED_NOT_TO_HOLD]],
+           "KAR"[in[CHANGEOVER_ADDED] + 2 * in[CHANGEOVER_REMOVED]]);
+}
+
+/* One line for each bound fact of a move, in the order of the sheet. */
+static void print_rules(const uint8_t *book, const uint8_t *sheet, unsigned number)
+{
+    const uint8_t *move = book + 16 + 4 * book[3] + 6 * (number - 1);
+
+    for (unsigned relation = 1; relation <= book[3]; relation++) {
+        const uint8_t *kinds = book + 16 + 4 * (relation - 1) + 1;
+        for (unsigned first = 0; first <= move[0]; first++)
+            for (unsigned second = 0; second <= move[0]; second++)
+                if (fills(move, first, kinds[0]) && fills(move, second, kinds[1]))
+                    print_rule(sheet, number, relation, first, second);
+    }
+}
+
+static int learn(void)
+{
+    uint8_t sheet[CHANGEOVER_SHEET_MAX];
+    size_t sheet_len = changeover_sheet_len(hall, sizeof hall);
+    uint64_t answer = changeover_learn(hall, sizeof hall, sheet, sheet_len);
+
+    if (!show("learn", answer))
+        return 0;
+    printf("moves %u records %u steps %" PRIu32 "\n", hall[5], hall[7], changeover_place(answer));
+    for (unsigned number = 1; number <= hall[5]; number++)
+        print_rules(hall, sheet, number);
+    return 1;
+}
+
+static int check(void)
+{
+    uint8_t end[CHANGEOVER_END_LEN];
+
+    if (!show("check",
+              changeover_check(hall, sizeof hall, order, sizeof order, end, sizeof end)))
+        return 0;
+    for (unsigned spot = 2; spot <= 4; spot++) {
+        if (changeover_in_end(end, 1, 1, spot))
+            printf("at the end the bank is at %u\n", spot);
+        if (changeover_in_end(end, 2, spot, 0))
+            printf("at the end spot %u is clear\n", spot);
+    }
+    return 1;
+}
+
+/* Takes the record out of the book (record count 0, end 30), then adds it again. */
+static int add(void)
+{
+    uint8_t before[RECORD_AT], out[sizeof hall];
+    const uint8_t *record = hall + RECORD_AT;
+    int same;
+
+    memcpy(before, hall, sizeof before);
+    before[7] = 0;
+    before[15] = RECORD_AT;
+    if (!show("add", changeover_add(before, sizeof before, record, RECORD_LEN, out, sizeof out)))
+        return 0;
+    same = memcmp(out, hall, sizeof hall) == 0;
+    printf("the new book is %s\n", same ? "the small hall" : "another");
+    return same;
 }
 
 int main(void)
 {
-    show("look over", changeover_look_over(hall, sizeof hall));
-    show("look over, one byte short", changeover_look_over(hall, sizeof hall - 1));
+    int good = show("look over", changeover_look_over(hall, sizeof hall)) && learn() &&
+               check() && add();
+
+    show("look over, cut to 15 bytes", changeover_look_over(hall, 15));
     show("look over, nothing", changeover_look_over(NULL, 0));
-    return 0;
+    return good ? 0 : 1;
 }

@@ -1,4 +1,4 @@
-//! Finds the built static library for the bins `compare` and `bench`.
+//! Finds the built static library for the bins.
 //!
 //! Without an archive the bins still build and say that there is nothing to
 //! compare with, so that the library and its tests never depend on it.

@@ -6,6 +6,7 @@
 
 pub mod add;
 pub mod answer;
+pub mod calls;
 pub mod check;
 pub mod compare;
 pub mod form;
@@ -15,5 +16,6 @@ pub mod learn;
 pub mod limits;
 pub mod listing;
 pub mod mask;
+pub mod vectors;
 
 pub use answer::{Answer, Refusal};

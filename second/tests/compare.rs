@@ -1,6 +1,7 @@
 //! The comparison itself: it passes this implementation, meets every refusal
 //! and every aimed fault often, and finds implementations that are wrong.
 
+use second::calls::{Job, Second};
 use second::compare::{self, Difference, Run, Tally};
 use second::{add, check, form, learn, Answer, Refusal};
 
@@ -15,26 +16,14 @@ fn assert_met(outcome: Result<Tally, Box<Difference>>, numbers: impl IntoIterato
     assert_eq!(tally.missing(numbers), Vec::<String>::new());
 }
 
+/// This implementation against itself: the run meets every number that the call
+/// can answer with, and every fault that it is aimed at.
 #[test]
-fn look_over_meets_every_row_and_fault() {
-    assert_met(compare::look_over(RUN, |book| form::look_over(book).packed()), 0..=10);
-}
-
-#[test]
-fn learn_meets_every_row() {
-    assert_met(compare::learn(RUN, |book, sheet| learn::learn(book, sheet).packed()), 0..=13);
-}
-
-#[test]
-fn check_meets_every_row_and_fault() {
-    let other = |book: &[u8], order: &[u8], end: &mut [u8]| check::check(book, order, end).packed();
-    assert_met(compare::check(RUN, other), 0..=20);
-}
-
-#[test]
-fn add_meets_every_row() {
-    let other = |book: &[u8], record: &[u8], out: &mut [u8]| add::add(book, record, out).packed();
-    assert_met(compare::add(RUN, other), (0..=10).chain([13]));
+fn every_row_and_fault_is_met() {
+    for call in Job::ALL {
+        let other = |book: &[u8], other: &[u8], out: &mut [u8]| call.run(&Second, book, other, out);
+        assert_met(compare::job(call, RUN, other), call.numbers());
+    }
 }
 
 /// The short way of adding agrees with the paper's: form the new book, look it over.
@@ -59,7 +48,7 @@ fn add_is_as_defined() {
         out[..new.len()].copy_from_slice(&new);
         Answer::success(new.len()).packed()
     };
-    assert_met(compare::add(RUN, other), (0..=10).chain([13]));
+    assert_met(compare::job(Job::Add, RUN, other), Job::Add.numbers());
 }
 
 /// Changes the right answer for a book.
@@ -94,21 +83,22 @@ fn look_over_finds_wrong_readings() {
         }),
     ];
     for (reading, change) in wrong {
-        let other = |book: &[u8]| change(book, form::look_over(book)).packed();
-        assert!(compare::look_over(RUN, other).is_err(), "not found: {reading}");
+        let other =
+            |book: &[u8], _: &[u8], _: &mut [u8]| change(book, form::look_over(book)).packed();
+        assert!(compare::job(Job::LookOver, RUN, other).is_err(), "not found: {reading}");
     }
 }
 
 #[test]
 fn learn_finds_a_touched_sheet() {
-    let other = |book: &[u8], sheet: &mut [u8]| {
+    let other = |book: &[u8], _: &[u8], sheet: &mut [u8]| {
         let answer = learn::learn(book, sheet);
         if answer.number == 13 && !sheet.is_empty() {
             sheet[0] ^= 1;
         }
         answer.packed()
     };
-    assert!(compare::learn(RUN, other).is_err());
+    assert!(compare::job(Job::Learn, RUN, other).is_err());
 }
 
 #[test]
@@ -120,5 +110,5 @@ fn check_finds_a_wrong_end_sheet() {
         }
         answer.packed()
     };
-    assert!(compare::check(RUN, other).is_err());
+    assert!(compare::job(Job::Check, RUN, other).is_err());
 }

@@ -1,67 +1,57 @@
 //! Demand 3 on tiny halls: learning and checking give the judge's verdict.
 
-use second::gen::{tiny, Rng};
+use second::calls::{unpacked, Calls, Second};
+use second::compare::{judge, Run};
 use second::judge::{verdict, Verdict};
-use second::{check, learn, Answer, Refusal};
-
-const HALLS: u64 = 8_000;
-
-/// The end sheet with just these facts.
-fn sheet_of(facts: &[[u8; 3]]) -> Vec<u8> {
-    let mut sheet = vec![0; 512];
-    for &[relation, first, second] in facts {
-        let from_zero = |number: u8| usize::from(number.max(1)) - 1;
-        let fact = 256 * from_zero(relation) + 16 * from_zero(first) + from_zero(second);
-        sheet[fact / 8] |= 1 << (fact % 8);
-    }
-    sheet
-}
+use second::{check, Answer, Refusal};
 
 #[test]
 fn learn_and_check_give_the_judges_verdict() {
-    let mut met = [0; 5];
-    for seed in 0..HALLS {
-        let plan = tiny::draw(&mut Rng::new(seed));
-        let (book, order) = (plan.book.bytes(), plan.order.bytes());
-        let mut end = vec![0xa5; 512];
-        let answer = check::check(&book, &order, &mut end);
-        let mut sheet = vec![0x5a; 128 * plan.book.moves.len()];
-        let learned = learn::learn(&book, &mut sheet);
-        let verdict = verdict(&book, &order);
-        let context = || format!("seed {seed}: {verdict:?}, checked {answer}, learned {learned}");
-        match &verdict {
-            Verdict::Impossible => {
-                assert!(matches!(answer.number, 11 | 12), "{}", context());
-                assert_eq!(learned, answer, "{}", context());
-                assert!(sheet.iter().all(|&byte| byte == 0x5a), "{}", context());
-                met[0] += 1;
-            }
-            Verdict::Stops { step } => {
-                assert_eq!(answer, Refusal::NeedUnmet.at(*step as usize), "{}", context());
-                met[1] += 1;
-            }
-            Verdict::Misses { entry } => {
-                assert_eq!(answer, Refusal::GoalMissed.at(*entry as usize), "{}", context());
-                met[2] += 1;
-            }
-            Verdict::Passes { steps, end: facts } => {
-                assert_eq!(answer, Answer::success(*steps as usize), "{}", context());
-                assert_eq!(end, sheet_of(facts), "{}", context());
-                met[if *steps == 0 { 3 } else { 4 }] += 1;
-            }
-        }
-        if answer.number != 0 {
-            assert!(end.iter().all(|&byte| byte == 0xa5), "{}", context());
-        }
-        if verdict != Verdict::Impossible {
-            assert_eq!(learned, Answer::success(plan.book.steps()), "{}", context());
-        }
+    let run = Run { seed: 0, count: 8_000 };
+    let met = judge(run, &Second).unwrap_or_else(|difference| panic!("{difference}"));
+    println!("{met}");
+    assert!(met.least() >= 500, "{met}");
+}
+
+/// Each is right but for one cheat that the paper names.
+struct Cheat(fn(Answer) -> Answer);
+
+impl Calls for Cheat {
+    fn look_over(&self, book: &[u8]) -> u64 {
+        Second.look_over(book)
     }
-    println!(
-        "impossible {} 19: {} 20: {} pass without steps {} with {}",
-        met[0], met[1], met[2], met[3], met[4]
-    );
-    assert!(met.iter().all(|&times| times >= 500), "{met:?}");
+
+    fn learn(&self, book: &[u8], sheet: &mut [u8]) -> u64 {
+        Second.learn(book, sheet)
+    }
+
+    fn check(&self, book: &[u8], order: &[u8], end: &mut [u8]) -> u64 {
+        self.0(unpacked(Second.check(book, order, end))).packed()
+    }
+
+    fn add(&self, book: &[u8], record: &[u8], out: &mut [u8]) -> u64 {
+        Second.add(book, record, out)
+    }
+}
+
+#[test]
+fn cheats_are_found() {
+    let run = Run { seed: 3, count: 500 };
+    let stops_at_step_1 = Cheat(|answer| match answer.number {
+        19 => Refusal::NeedUnmet.at(1),
+        _ => answer,
+    });
+    let refuses_every_plan = Cheat(|answer| match answer.number {
+        0 => Refusal::NeedUnmet.at(1),
+        _ => answer,
+    });
+    let passes_every_plan = Cheat(|answer| match answer.number {
+        19 | 20 => Answer::success(1),
+        _ => answer,
+    });
+    for cheat in [stops_at_step_1, refuses_every_plan, passes_every_plan] {
+        assert!(judge(run, &cheat).is_err());
+    }
 }
 
 /// An effect is a change seen: what held after a step because it held before

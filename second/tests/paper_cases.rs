@@ -101,6 +101,14 @@ fn m2_passes() {
     passes(&small_hall(), &order(&START, &[AT_4], &ROLLS), 2, &[at(4), clear(2), clear(3)]);
 }
 
+/// The files for the two programs are M1's book and M2's order.
+#[test]
+fn example_files() {
+    assert_eq!(include_bytes!("../../examples/small_hall/book").to_vec(), small_hall());
+    let order = order(&START, &[AT_4], &ROLLS);
+    assert_eq!(include_bytes!("../../examples/small_hall/order").to_vec(), order);
+}
+
 #[test]
 fn m3_a_need_that_does_not_hold() {
     let start = [[1, 1, 2], [2, 2, 0], [2, 3, 0], [2, 4, 0]];

@@ -9,7 +9,7 @@ use Rattle.answer.specs.declared.Answer.the-variants.{Good, Refused}
 use Rattle.answer.specs.Answer.{number, place}
 use Rattle.format.specs.Limits.{maxLength}
 use Rattle.jobs.specs.Add.{added, add}
-use Rattle.states.proofs.Bounds.{Bounded, bounded-good, bounded-then, bounded-row, bounded-number, bounded-place}
+use Rattle.answer.specs.Bounds.{Bounded, bounded-good, bounded-then, bounded-row, bounded-number, bounded-place}
 use Rattle.lookover.proofs.Laws.{look-over-bounded}
 
 -- the highest number

@@ -1,10 +1,16 @@
--- The proofs of the code, and laws: Written, Formed and Returns for this crate's functions; NewBook, Reading and Moved for ReadBack, which has
--- the theorems of specs/ReadBack.antt; Bounds for callers; Cases by computation.
+-- The proofs of the code, and laws: Written, Formed and Returns for this crate's functions; Suits, Again, Front and OneRecord for looking over
+-- the record alone, which has the theorem of specs/OneRecord.antt; NewBook, Kept, Reading and Moved for ReadBack, which has those of
+-- specs/ReadBack.antt; Bounds for callers; Cases by computation.
 pub mod Written
 pub mod Formed
-pub mod Returns
 pub mod NewBook
+pub mod Kept
 pub mod Reading
+pub mod Suits
+pub mod Again
+pub mod Front
+pub mod OneRecord
+pub mod Returns
 pub mod Moved
 pub mod ReadBack
 pub mod Bounds

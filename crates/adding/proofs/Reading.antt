@@ -25,15 +25,15 @@ use Rattle.records.proofs.Laws.{head-limits, record-within}
 
 -- s the book that was looked over, t the one that is read
 module _ (s t : List ℕ) (same : (i : ℕ) → headerSize ≤ i → i < length s → byteAt t i ≡ byteAt s i) where
-  two-same : (at : ℕ) → headerSize ≤ at → at + 2 ≤ length s → two t at ≡ two s at
+  pub two-same : (at : ℕ) → headerSize ≤ at → at + 2 ≤ length s → two t at ≡ two s at
   unfolding two
   two-same at h l = rw (same at h (omega arith), same (at + 1) (omega arith) (omega arith))
 
-  fact-same : (at : ℕ) → headerSize ≤ at → at + factSize ≤ length s → factAt t at ≡ factAt s at
+  pub fact-same : (at : ℕ) → headerSize ≤ at → at + factSize ≤ length s → factAt t at ≡ factAt s at
   unfolding factAt
   fact-same at h l = rw (same at h (omega arith), same (at + 1) (omega arith) (omega arith), same (at + 2) (omega arith) (omega arith))
 
-  step-same : (at : ℕ) → headerSize ≤ at → at + stepSize ≤ length s → stepAt t at ≡ stepAt s at
+  pub step-same : (at : ℕ) → headerSize ≤ at → at + stepSize ≤ length s → stepAt t at ≡ stepAt s at
   unfolding stepAt
   step-same at h l =
       rw (
@@ -106,7 +106,7 @@ module _ (s t : List ℕ) (same : (i : ℕ) → headerSize ≤ i → i < length 
 
   module _ (h : Sections) where
     -- the head of a good record
-    head-same : (at next : ℕ)
+    pub head-same : (at next : ℕ)
         → headerSize ≤ at
         → recordAt h s at ≡ Good next
         → (objectsIn t at ≡ objectsIn s at) × (stepsIn t at ≡ stepsIn s at) × (lengthIn t at ≡ lengthIn s at)
@@ -154,34 +154,3 @@ module _ (s t : List ℕ) (same : (i : ℕ) → headerSize ≤ i → i < length 
         let more : stepTotal t (suc n) (at + lengthIn s at) ≡ stepTotal s n (at + lengthIn s at) + stepsIn t (length s) =
         rw q at (total-more n (p .0) (omega arith) (p .2)) in
         rw (i .2, i .1, more) (omega arith)
-
-    -- and it is the one that a walk over the longer book reaches last
-    last-record : (g : Sections) (n at last : ℕ)
-        → headerSize ≤ at
-        → walk (recordAt h s) n at ≡ Good (length s)
-        → walk (recordAt g t) (suc n) at ≡ Good last
-        → recordAt g t (length s) ≡ Good last
-    unfolding walk
-    last-record g zero at last l e f =
-        let p : at ≡ length s = cc in
-        let q = parted _ _ _ f in
-        let a = q .1 in
-        let b = q .2 in
-        cc
-    last-record g (suc n) at last l e f =
-        let p = parted _ _ _ e in
-        let q = parted _ _ _ f in
-        let x = record-within h s at (p .0) (p .1) .0 in
-        let y = record-within g t at (q .0) (q .1) .0 in
-        let i = head-same at _ l (p .1) .2 in
-        let z : q .0 ≡ p .0 = omega arith in
-        last-record g n (p .0) last (omega arith) (p .2) (rw z at (q .2))
-
-    pub last-by : (g : Sections) (n at m start last : ℕ)
-        → m ≡ suc n
-        → start ≡ at
-        → headerSize ≤ at
-        → walk (recordAt h s) n at ≡ Good (length s)
-        → walk (recordAt g t) m start ≡ Good last
-        → recordAt g t (length s) ≡ Good last
-    last-by g n at m start last p q l e f = last-record g n at last l e (rw (p, q) at f)

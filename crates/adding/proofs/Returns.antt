@@ -1,6 +1,6 @@
 -- Each return of `add`, with the lent output, put together from what the calls before it return.
 use Prim.Native.Nat.{ℕ, _+_, _≤_, _<_}
-use mathlib.Core.Path.{_≡_, refl, sym, ap, _∙_}
+use mathlib.Core.Path.{_≡_, refl, sym, _∙_}
 use mathlib.Core.Bool.{Bool, true, false}
 use mathlib.Core.List.{List}
 use borrow.Author.Tests.{lt-ltb, le-ltb}
@@ -11,20 +11,30 @@ use Rattle.answer.specs.declared.Answer.{Answer}
 use Rattle.answer.specs.declared.Answer.the-variants.{Good, Refused}
 use Rattle.answer.specs.Answer.{_>>=_, refuse, isRefused, valueOf}
 use Rattle.answer.specs.Laws.{clash, stays, follows, refuse-met, refuse-unmet}
-use Rattle.format.specs.Limits.{headerSize, maxLength}
+use Rattle.terms.specs.declared.Sections.{Sections}
+use Rattle.terms.specs.Sections.{sectionsOf}
+use Rattle.format.specs.Limits.{headerSize, maxLength, maxRecords}
 use Rattle.format.specs.LookOver.{lookOver}
 use Rattle.jobs.specs.Learn.{kept}
 use Rattle.jobs.specs.Add.{added, add, addBytes}
-use Rattle.records.proofs.Turns.{is-good, part-stays}
+use Rattle.records.specs.Parts.{allRecords}
+use Rattle.answer.specs.Turns.{is-good, part-stays}
 use Rattle.lookover.proofs.Laws.{look-over-good}
 use Rattle.adding.specs.Written.{written}
 use Rattle.adding.specs.Outcome.{Outcome}
 use Rattle.adding.proofs.Written.{front-written}
 use Rattle.adding.proofs.Formed.{length-added}
+use Rattle.adding.proofs.OneRecord.{book-full, record-alone}
 
 -- a book that was looked over has a whole header
 pub long-enough : (s : List ℕ) (a : Answer) (b : Bool) → a ≡ lookOver s → b ≡ isRefused a → b ≡ false → headerSize ≤ length s
 long-enough s a b e f g = look-over-good s _ (sym e ∙ is-good a (sym f ∙ g)) .sections .size .least
+
+-- what hangs on no sum of steps
+sum-then : (a : Answer) (n : ℕ) (k : Answer) → (a >>= λ _. k) ≡ (a >>= (λ m. Good (n + m)) >>= λ _. k)
+unfolding _>>=_
+sum-then (Good m) n k = refl
+sum-then (Refused m p) n k = refl
 
 module _ (s r old : List ℕ) where
   kept-old : (a : Answer) → a ≡ add s r (length old) → isRefused a ≡ true → Outcome s r old old a
@@ -47,38 +57,43 @@ module _ (s r old : List ℕ) where
     unfolding add _>>=_ refuse isRefused
     too-long h = kept-old _ (rw (first-good, lt-ltb maxLength (length s + length r) h)) refl
 
-    -- what lookover is shown of the memory that `form` filled
-    module _ (d new : List ℕ) (m : length s + length r ≤ maxLength) (w : new ≡ written d 0 (added s r)) where
-      pub formed : take (length s + length r) new ≡ added s r
-      formed = rw (w, front-written d (added s r)) (take-at (added s r) _ (length s + length r) (length-added s r long))
+    module _ (h : Sections) (is : h ≡ sectionsOf s) (m : length s + length r ≤ maxLength) where
+      pub book-is-full : maxRecords ≤ h .records .count → Outcome s r old old (Refused 2 0)
+      unfolding add _>>=_ refuse isRefused
+      book-is-full i = kept-old _ (rw (first-good, le-ltb maxLength (length s + length r) m, book-full s r _ first-good m (rw is at i))) refl
 
-      module _ (a₂ : Answer) (b₂ : Bool) (e₂ : a₂ ≡ lookOver (take (length s + length r) new)) (f₂ : b₂ ≡ isRefused a₂) where
-        is₂ : a₂ ≡ lookOver (added s r)
-        is₂ = e₂ ∙ ap lookOver formed
+      -- what the memory that `form` filled holds of the new book
+      module _ (i : h .records .count < maxRecords) (d new : List ℕ) (w : new ≡ written d 0 (added s r)) where
+        pub formed : take (length s + length r) new ≡ added s r
+        formed = rw (w, front-written d (added s r)) (take-at (added s r) _ (length s + length r) (length-added s r long))
 
-        behind : a₂ >>= (λ _. refuse (ltb (length old) (length s + length r)) 13 0 >>= λ _. Good (length s + length r)) ≡ add s r (length old)
-        unfolding add _>>=_ refuse
-        behind = rw (is₂, first-good, le-ltb maxLength (length s + length r) m)
+        module _ (a₂ : Answer) (b₂ : Bool) (e₂ : a₂ ≡ allRecords (sectionsOf (take (length s + length r) new)) (take (length s + length r) new) 1 (length s)) (f₂ : b₂ ≡ isRefused a₂) where
+          is₂ : lookOver (added s r) ≡ (a₂ >>= λ n. Good (valueOf a + n))
+          is₂ = rw (e₂, formed) (record-alone s r _ first-good m (rw is at i))
 
-        pub new-refused : b₂ ≡ true → Outcome s r old old a₂
-        new-refused g₂ = kept-old a₂ (stays a₂ _ (sym f₂ ∙ g₂) ∙ behind) (sym f₂ ∙ g₂)
+          behind : (a₂ >>= λ _. refuse (ltb (length old) (length s + length r)) 13 0 >>= λ _. Good (length s + length r)) ≡ add s r (length old)
+          unfolding add _>>=_ refuse
+          behind = rw (first-good, le-ltb maxLength (length s + length r) m, is₂) (sum-then a₂ _ _)
 
-        module _ (g₂ : b₂ ≡ false) where
-          room : (refuse (ltb (length old) (length s + length r)) 13 0 >>= λ _. Good (length s + length r)) ≡ add s r (length old)
-          room = follows a₂ (λ _. refuse (ltb (length old) (length s + length r)) 13 0 >>= λ _. Good (length s + length r)) (sym f₂ ∙ g₂) ∙ behind
+          pub new-refused : b₂ ≡ true → Outcome s r old old a₂
+          new-refused g₂ = kept-old a₂ (stays a₂ _ (sym f₂ ∙ g₂) ∙ behind) (sym f₂ ∙ g₂)
 
-          pub no-room : length old < length s + length r → Outcome s r old old (Refused 13 0)
-          unfolding isRefused
-          no-room h = kept-old _ (sym (refuse-met _ _ _ _ (lt-ltb _ _ h)) ∙ room) refl
+          module _ (g₂ : b₂ ≡ false) where
+            room : (refuse (ltb (length old) (length s + length r)) 13 0 >>= λ _. Good (length s + length r)) ≡ add s r (length old)
+            room = follows a₂ (λ _. refuse (ltb (length old) (length s + length r)) 13 0 >>= λ _. Good (length s + length r)) (sym f₂ ∙ g₂) ∙ behind
 
-          pub stored : (out : List ℕ)
-              → length s + length r ≤ length old
-              → out ≡ written old 0 (take (length s + length r) new)
-              → Outcome s r old out (Good (length s + length r))
-          unfolding addBytes kept
-          stored out h v =
-              let says : Good (length s + length r) ≡ add s r (length old) = sym (refuse-unmet _ _ _ _ (le-ltb _ _ h)) ∙ room in
-              record {
-                says = says;
-                bytes = rw (← says, v, formed, front-written old (added s r), length-added s r long);
-              }
+            pub no-room : length old < length s + length r → Outcome s r old old (Refused 13 0)
+            unfolding isRefused
+            no-room l = kept-old _ (sym (refuse-met _ _ _ _ (lt-ltb _ _ l)) ∙ room) refl
+
+            pub stored : (out : List ℕ)
+                → length s + length r ≤ length old
+                → out ≡ written old 0 (take (length s + length r) new)
+                → Outcome s r old out (Good (length s + length r))
+            unfolding addBytes kept
+            stored out l v =
+                let says : Good (length s + length r) ≡ add s r (length old) = sym (refuse-unmet _ _ _ _ (le-ltb _ _ l)) ∙ room in
+                record {
+                  says = says;
+                  bytes = rw (← says, v, formed, front-written old (added s r), length-added s r long);
+                }

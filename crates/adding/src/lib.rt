@@ -1,6 +1,7 @@
-// Adding a record to a book: the fourth job. The new book is formed beside the lent output and looked over there, so that a refusal leaves
-// the output untouched. Uses answer, input, lookover and the definitions of jobs.
+// Adding a record to a book: the fourth job. The new book is formed beside the lent output and its record looked over there, so that a refusal
+// leaves the output untouched. Uses answer, input, terms, records, lookover and the definitions of jobs. Each record of the new book is read once.
 use answer::Answer;
+use terms::Sections;
 ghost use mathlib.Core.Path.{_≡_};
 ghost use Prim.Native.Nat.{_+_, _≤_};
 ghost use lib.ListN.{length};
@@ -10,6 +11,8 @@ ghost use Rattle.adding.specs.Written.{written};
 ghost use Rattle.adding.specs.Outcome.{Outcome};
 
 const MAX_LENGTH: usize = 60000;
+
+const MAX_RECORDS: u16 = 64;
 
 const COUNT_AT: usize = 6;
 
@@ -47,7 +50,7 @@ fn form(new: &mut [u8], book: &[u8], bytes: &[u8])
     put_two(new, END_AT, book.len() + bytes.len());
 }
 
-// The job, by way of memory in which the new book is formed.
+// The job, by way of memory in which the new book is formed. Behind a good old book only the record count and the record itself can be refused.
 fn add_by(new: &mut [u8], book: &[u8], bytes: &[u8], out: &mut [u8]) -> Answer
     requires { ⌜ maxLength ≤ length (now new) ⌝ }
     ensures { λ r. ⌜ Outcome (now (book .entry)) (now (bytes .entry)) (now (out .entry)) (now (out .exit)) r ⌝ }
@@ -60,8 +63,12 @@ fn add_by(new: &mut [u8], book: &[u8], bytes: &[u8], out: &mut [u8]) -> Answer
     if MAX_LENGTH < size {
         return Answer::Refused(1, 0);
     }
+    let h = Sections::read(book);
+    if MAX_RECORDS <= h.records.count {
+        return Answer::Refused(2, 0);
+    }
     form(new, book, bytes);
-    let looked = lookover::look_over(&new[..size]);
+    let looked = lookover::records(&new[..size], 1, book.len());
     if answer::is_refused(looked) {
         return looked;
     }

@@ -52,10 +52,6 @@ unfolding _>>=_
 parted (Good n) m k e = (n, refl, e)
 parted (Refused n p) m k e = absurd (let z : _≡_ {A = ℕ} 0 1 = cc in omega arith)
 
--- a good answer has one value
-pub good-same : (a : Answer) (m n : ℕ) → a ≡ Good m → a ≡ Good n → m ≡ n
-good-same a m n p q = cc
-
 -- neither of two tests holds
 pub neither : (a b : Bool) → (a || b) ≡ false → (a ≡ false) × (b ≡ false)
 neither true b e = clash true refl e

@@ -2,3 +2,6 @@
 pub mod Answer
 pub mod Laws
 pub mod Walk
+pub mod Turns
+pub mod Bounds
+pub mod Refusals

@@ -19,7 +19,7 @@ use Rattle.format.specs.Records.{recordAt, stepsIn, objectsIn, lengthIn}
 use Rattle.format.specs.LookOver.{lookOver}
 use Rattle.format.specs.Decode.{Filed, stateEnd, filedAt, recordFiled, recordsFiled, filed}
 use Rattle.format.specs.Order.{GoalEntry, stepCount, goalCount, orderForm, goal, goalFrom, plan}
-use Rattle.states.proofs.Bounds.{Bounded, bounded-of, bounded-good, bounded-then, bounded-row, bounded-number, bounded-place}
+use Rattle.answer.specs.Bounds.{Bounded, bounded-of, bounded-good, bounded-then, bounded-row, bounded-number, bounded-place}
 use Rattle.lookover.proofs.Laws.{look-over-good, look-over-bounded}
 use Rattle.model.specs.Quantify.{Mem, here, there, first, later, least}
 use Rattle.model.specs.Domain.{Domain, State, Step, Transition, Entry}
@@ -51,8 +51,8 @@ wider most more size room (Refused m p) l k h = (omega (arith, h .0), omega (ari
 -- ---- row 11: the place of a step lies within the book
 steps-placed : (s : List ℕ) (n at : ℕ) {f : Filed} → Noteable s n at → Mem f (filedAt s n at) → f .place ≤ maxLength
 unfolding Noteable filedAt
-steps-placed s (suc n) at h here = h .1
-steps-placed s (suc n) at h (there m) = steps-placed s n (stateEnd s at + stepSize) (h .4) m
+steps-placed s (suc n) at h here = h .2
+steps-placed s (suc n) at h (there m) = steps-placed s n (stateEnd s at + stepSize) (h .5) m
 
 records-placed : (h : Sections) (s : List ℕ) → length s ≤ maxLength → h .moves .count ≤ maxMoves → (n at last : ℕ) {f : Filed}
     → walk (recordAt h s) n at ≡ Good last → Mem f (recordsFiled s n at) → f .place ≤ maxLength

@@ -21,7 +21,7 @@ use Rattle.jobs.specs.Learn.{learnable, kept}
 use Rattle.jobs.specs.Check.{planRun, runAnswer, check, checkBytes, endSheet}
 use Rattle.statemask.specs.Statemask.{carry, startMask}
 use Rattle.statemask.specs.Carrying.{carriedAnswer}
-use Rattle.records.proofs.Turns.{is-good}
+use Rattle.answer.specs.Turns.{is-good}
 use Rattle.learner.specs.Learner.{heldOf}
 use Rattle.learner.proofs.Book.{schema-own, form-good}
 use Rattle.checker.specs.Checker.{CarriedOut, Checked}

@@ -1,18 +1,24 @@
 -- The loops, one turn at a time, in the shape that each loop's proof asks: facts put into a mask, bound facts tested, effects laid down, goal entries.
-use Prim.Native.Nat.{ℕ, zero, suc, _+_, _-_, _<_}
+use Prim.Native.Nat.{ℕ, zero, suc, _+_, _-_, _*_, _/_, _%_, _<_, _≤_}
 use native.Mathlib.Numerals.{add-one, sub-one}
 use native.Mathlib.Omega.{arith}
-use mathlib.Core.Path.{_≡_, refl, ap, _∙_}
-use mathlib.Core.Bool.{Bool, true, false}
+use mathlib.Core.Path.{_≡_, refl, sym, ap, _∙_}
+use mathlib.Core.Bool.{Bool, true, false, _&&_}
 use mathlib.Core.List.{List, [], _∷_}
+use borrow.Author.Tests.{eqb-true}
+use lib.Dec.{eqb}
+use lib.ListN.{getD}
+use Rattle.answer.specs.Laws.{clash}
+use Rattle.input.specs.Bytes.{byteAt}
 use Rattle.terms.specs.declared.Fact.{Fact}
 use Rattle.terms.specs.Facts.{factAt, factNumber}
 use Rattle.format.specs.Limits.{factSize, entrySize}
 use Rattle.format.specs.Decode.{factsAt}
 use Rattle.format.specs.Order.{goalFrom}
 use Rattle.mask.specs.Bits.{testBit, setBit, clearBit}
+use Rattle.mask.proofs.Numbers.{bit-none}
 use Rattle.model.specs.Quantify.{below, later, first}
-use Rattle.statemask.specs.Statemask.{withFacts, deletes, adds, nextIn, missed}
+use Rattle.statemask.specs.Statemask.{withFacts, unmet, deletes, adds, nextIn, missed}
 use Rattle.execution.specs.Execution.{entryAt, misses}
 
 -- ---- facts put into a mask
@@ -30,10 +36,46 @@ unfolding withFacts factsAt
 facts-more o zero at k f m m′ h p q r = absurd (omega arith)
 facts-more o (suc n) at k f m m′ h p q r = rw (sub-one, r, q, p)
 
+-- ---- a byte with nothing in it: the numbers from n to the next byte's first are not in the set
+near-none : (m : List ℕ) (n k : ℕ) → eqb (byteAt m (n / 8)) 0 ≡ true → n ≤ k → k < n / 8 * 8 + 8 → testBit m k ≡ false
+unfolding testBit byteAt
+near-none m n k e l h =
+    let q : k / 8 ≡ n / 8 = omega arith in
+    rw (q, eqb-true (getD m (n / 8) 0) 0 e) (bit-none (k % 8))
+
 -- ---- no bound fact so far
 pub below-more : (n : ℕ) (p : ℕ → Bool) → below n p ≡ false → p n ≡ false → below (n + 1) p ≡ false
 unfolding below
 below-more n p e f = rw (add-one, below, e, f)
+
+below-run : (p : ℕ → Bool) (n d : ℕ) → below n p ≡ false → ((k : ℕ) → n ≤ k → k < n + d → p k ≡ false) → below (n + d) p ≡ false
+below-run p n zero e f =
+    let o : n + 0 ≡ n = omega arith in
+    rw o e
+below-run p n (suc d) e f =
+    let o : n + suc d ≡ n + d + 1 = omega arith in
+    rw o (below-more (n + d) p (below-run p n d e (λ k l h. f k l (omega arith))) (f (n + d) (omega arith) (omega arith)))
+
+both-true : (a b : Bool) → (a && b) ≡ true → (a ≡ true) × (b ≡ true)
+both-true true true e = (refl, refl)
+both-true true false e = (refl, e)
+both-true false b e = clash false e refl
+
+pub below-past : (R : ℕ → List ℕ) (g : ℕ → ℕ) (m : List ℕ) (n : ℕ) (hold bar : List ℕ) (t u : Bool)
+    → hold ≡ R 0
+    → bar ≡ R 1
+    → t ≡ eqb (byteAt hold (n / 8)) 0
+    → u ≡ eqb (byteAt bar (n / 8)) 0
+    → (t && u) ≡ true
+    → below n (unmet R g m) ≡ false
+    → below (n / 8 * 8 + 8) (unmet R g m) ≡ false
+unfolding unmet
+below-past R g m n hold bar t u p q d e w i =
+    let o : n / 8 * 8 + 8 ≡ n + (n / 8 * 8 + 8 - n) = omega arith in
+    let (x, y) = both-true t u w in
+    let z = rw p at (sym d ∙ x) in
+    let v = rw q at (sym e ∙ y) in
+    rw o (below-run (unmet R g m) n (n / 8 * 8 + 8 - n) i (λ k l h. rw (near-none (R 0) n k z l (omega arith), near-none (R 1) n k v l (omega arith))))
 
 -- ---- effects laid down; one of the four sets counts
 module _ (R : ℕ → List ℕ) (g : ℕ → ℕ) (m : List ℕ) where
@@ -49,6 +91,21 @@ module _ (R : ℕ → List ℕ) (g : ℕ → ℕ) (m : List ℕ) where
   unfolding deletes
   deletes-skip n l l′ e q r = rw (add-one n, e, ← q) r
 
+  deletes-run : (n d : ℕ) → ((k : ℕ) → n ≤ k → k < n + d → testBit (R 3) k ≡ false) → deletes R g m (n + d) ≡ deletes R g m n
+  deletes-run n zero f =
+      let o : n + 0 ≡ n = omega arith in
+      ap (deletes R g m) o
+  deletes-run n (suc d) f =
+      let o : n + suc d ≡ n + d + 1 = omega arith in
+      ap (deletes R g m) o
+      ∙ sym (deletes-skip (n + d) _ _ (f (n + d) (omega arith) (omega arith)) refl refl)
+      ∙ deletes-run n d (λ k l h. f k l (omega arith))
+
+  pub deletes-past : (n : ℕ) (l : List ℕ) → eqb (byteAt (R 3) (n / 8)) 0 ≡ true → l ≡ deletes R g m n → l ≡ deletes R g m (n / 8 * 8 + 8)
+  deletes-past n l e i =
+      let o : n / 8 * 8 + 8 ≡ n + (n / 8 * 8 + 8 - n) = omega arith in
+      i ∙ sym (ap (deletes R g m) o ∙ deletes-run n (n / 8 * 8 + 8 - n) (λ k j h. near-none (R 3) n k e j (omega arith)))
+
   pub adds-none : m ≡ adds R g m 0
   unfolding adds
   adds-none = refl
@@ -60,6 +117,21 @@ module _ (R : ℕ → List ℕ) (g : ℕ → ℕ) (m : List ℕ) where
   pub adds-skip : (n : ℕ) (l l′ : List ℕ) → testBit (R 2) n ≡ false → l ≡ adds R g m n → l′ ≡ l → l′ ≡ adds R g m (n + 1)
   unfolding adds
   adds-skip n l l′ e q r = rw (add-one n, e, ← q) r
+
+  adds-run : (n d : ℕ) → ((k : ℕ) → n ≤ k → k < n + d → testBit (R 2) k ≡ false) → adds R g m (n + d) ≡ adds R g m n
+  adds-run n zero f =
+      let o : n + 0 ≡ n = omega arith in
+      ap (adds R g m) o
+  adds-run n (suc d) f =
+      let o : n + suc d ≡ n + d + 1 = omega arith in
+      ap (adds R g m) o
+      ∙ sym (adds-skip (n + d) _ _ (f (n + d) (omega arith) (omega arith)) refl refl)
+      ∙ adds-run n d (λ k l h. f k l (omega arith))
+
+  pub adds-past : (n : ℕ) (l : List ℕ) → eqb (byteAt (R 2) (n / 8)) 0 ≡ true → l ≡ adds R g m n → l ≡ adds R g m (n / 8 * 8 + 8)
+  adds-past n l e i =
+      let o : n / 8 * 8 + 8 ≡ n + (n / 8 * 8 + 8 - n) = omega arith in
+      i ∙ sym (ap (adds R g m) o ∙ adds-run n (n / 8 * 8 + 8 - n) (λ k j h. near-none (R 2) n k e j (omega arith)))
 
 pub next-laid : (R : ℕ → List ℕ) (g : ℕ → ℕ) (m l l′ : List ℕ) → l ≡ deletes R g m 256 → l′ ≡ adds R g l 256 → l′ ≡ nextIn R g m
 unfolding nextIn

@@ -2,7 +2,9 @@
 // plan by the rules that come from what is held, and the goal at the end. Uses input, terms, mask and rulesheet, and the definitions of
 // statemask; each function is proved equal to the one of its name there, in terms or in specs/.
 ghost use mathlib.Core.Path.{_≡_};
-ghost use Prim.Native.Nat.{_+_, _-_, _*_, _≤_, _<_};
+ghost use Prim.Native.Nat.{_+_, _-_, _*_, _/_, _≤_, _<_};
+ghost use lib.Dec.{eqb};
+ghost use Rattle.input.specs.Bytes.{byteAt};
 ghost use Rattle.terms.specs.Schema.{schema};
 ghost use Rattle.terms.specs.Facts.{factNumber};
 ghost use Rattle.terms.specs.Steps.{placed, ground};
@@ -26,20 +28,10 @@ const STEP_SIZE: usize = 5;
 
 const ENTRY_SIZE: usize = 4;
 
-// A number from 1 as one from 0.
-fn index(n: u8) -> usize
-    ensures { λ r. ⌜ (r ≡ n - 1) × (r ≤ 254) ⌝ }
-{
-    if n == 0 {
-        return 0;
-    }
-    n as usize - 1
-}
-
 fn fact_number(f: Fact) -> usize
     ensures { λ r. ⌜ (r ≡ factNumber f) × (r < 70000) ⌝ }
 {
-    256 * index(f.relation.0) + 16 * index(f.first.0) + index(f.second.0)
+    256 * terms::index(f.relation.0) + 16 * terms::index(f.first.0) + terms::index(f.second.0)
 }
 
 // The state in which a list of facts holds, and no other.
@@ -70,7 +62,7 @@ fn placed(book: &[u8], h: Sections, b: Binding, r: Relation, i: u8, p: Param) ->
         return 0;
     }
     let x = b.object(p);
-    index(x.0)
+    terms::index(x.0)
 }
 
 fn ground(book: &[u8], h: Sections, b: Binding, n: usize) -> usize
@@ -80,7 +72,14 @@ fn ground(book: &[u8], h: Sections, b: Binding, n: usize) -> usize
     let r = (n / 16 + 1) as u8;
     let first = placed(book, h, b, Relation(r), 1, Param((n / 4 % 4 + 1) as u8));
     let second = placed(book, h, b, Relation(r), 2, Param((n % 4 + 1) as u8));
-    256 * index(r) + 16 * first + second
+    256 * terms::index(r) + 16 * first + second
+}
+
+// Nothing is in the set of those numbers that share a byte with n.
+fn none_near(set: [u8; 32], n: usize) -> bool
+    ensures { λ r. ⌜ r ≡ eqb (byteAt set (n / 8)) 0 ⌝ }
+{
+    input::byte_at(&set, n / 8) == 0
 }
 
 // A need of bound fact n is unmet. Most are not needed at all, and then no fact is looked up.
@@ -113,8 +112,14 @@ pub fn is_stuck(
 ) -> bool
     ensures { λ r. ⌜ r ≡ stuckIn (ruleAt rules) (ground (schema h (now (book .entry))) b) (now (state .entry)) ⌝ }
 {
+    let hold = rules[0];
+    let bar = rules[1];
     let mut n = 0;
     while n < ATOMS {
+        if none_near(hold, n) & none_near(bar, n) {
+            n = n / 8 * 8 + 8;
+            continue;
+        }
         if unmet(book, h, b, rules, state, n) {
             return true;
         }
@@ -129,6 +134,10 @@ fn delete_effects(book: &[u8], h: Sections, b: Binding, rules: [[u8; 32]; 4], st
     let removed = rules[3];
     let mut n = 0;
     while n < ATOMS {
+        if none_near(removed, n) {
+            n = n / 8 * 8 + 8;
+            continue;
+        }
         if mask::has32(removed, n) {
             mask::unmark512(state, ground(book, h, b, n));
         }
@@ -142,6 +151,10 @@ fn add_effects(book: &[u8], h: Sections, b: Binding, rules: [[u8; 32]; 4], state
     let added = rules[2];
     let mut n = 0;
     while n < ATOMS {
+        if none_near(added, n) {
+            n = n / 8 * 8 + 8;
+            continue;
+        }
         if mask::has32(added, n) {
             mask::mark512(state, ground(book, h, b, n));
         }

@@ -19,7 +19,7 @@ use Rattle.format.specs.LookOver.{lookOver}
 use Rattle.format.specs.LookOver.{lookOverBy}
 use Rattle.format.specs.Decode.{filed}
 use Rattle.records.specs.Parts.{allRecords, look-over-parts}
-use Rattle.records.proofs.Turns.{is-good}
+use Rattle.answer.specs.Turns.{is-good}
 use Rattle.jobs.specs.Planning.{schemaOf, filedIn, transitionsOf}
 use Rattle.jobs.specs.Learn.{strays, tornMove, learnable, learn, kept, learnBytes, ruleSheet}
 use Rattle.held.specs.Held.{Held, holdAll, nothingSeen}
@@ -72,6 +72,10 @@ module _ (s : List ℕ) (h : Sections) (own : h ≡ sectionsOf s) where
   pub torn-own : (bytes : List ℕ) (d : Answer) → d ≡ tornAmong (schema h s) bytes (h .moves .count) → d ≡ tornAmong (schemaOf s) bytes (schemaOf s .moves)
   unfolding schemaOf schema
   torn-own bytes d e = rw own at e
+
+  -- the records by the header that was read
+  pub noted-own : (n from : ℕ) (before : Held) (bytes : List ℕ) (w : Walked) → RecordsNoted (sectionsOf s) s n from before bytes w → RecordsNoted h s n from before bytes w
+  noted-own n from before bytes w e = rw own e
 
   -- rows 6 to 10
   pub at-records : (first bytes : List ℕ) (w : Walked) (a : Answer) (b : Bool)

@@ -32,23 +32,25 @@ use Rattle.learner.specs.Learner.{Noteable, RecordsNoted}
 use Rattle.learner.proofs.Steps.{holding, holds-path}
 
 -- the steps behind a good state, if they are good
-noteable-steps : (sch : Schema) (hl : Hall) (s : List ℕ) (end : ℕ) → end ≤ maxLength → sch .moves ≤ maxMoves
+noteable-steps : (sch : Schema) (hl : Hall) (s : List ℕ) (end : ℕ) → end ≤ length s → length s ≤ maxLength → sch .moves ≤ maxMoves
     → (n at mid last : ℕ) → at ≤ maxLength → state sch hl s end at ≡ Good mid → walk (step sch hl s end) n mid ≡ Good last → Noteable s n at
 unfolding Noteable stateEnd
-noteable-steps sch hl s end long few zero at mid last l e f = l
-noteable-steps sch hl s end long few (suc n) at mid last l e f =
+noteable-steps sch hl s end short long few zero at mid last l e f =
+    (l, omega (arith, state-end sch hl s end at mid e, state-within sch hl s end at mid e))
+noteable-steps sch hl s end short long few (suc n) at mid last l e f =
     let m : mid ≡ stateEnd s at = state-end sch hl s end at mid e in
     let w = state-within sch hl s end at mid e in
     let (next, good, rest) = walk-parted (step sch hl s end) n mid last f in
     let (right, behind) = step-parted sch hl s end mid next good in
     let k = move-known sch hl (stepAt s mid) right in
     let v = state-within sch hl s end (mid + stepSize) next behind in
+    let i : mid ≤ length s = omega arith in
     let x : mid ≤ maxLength = omega arith in
     let y : stepAt s mid .action .0 ≤ maxMoves = omega (arith, k .1) in
     let z : mid + stepSize ≤ maxLength = omega (arith, state-end sch hl s end (mid + stepSize) next behind) in
-    let d = noteable-steps sch hl s end long few n (mid + stepSize) next last z behind rest in
-    subst (λ (p : ℕ). (at ≤ maxLength) × (p ≤ maxLength) × (1 ≤ stepAt s p .action .0) × (stepAt s p .action .0 ≤ maxMoves) × Noteable s n (p + stepSize)) m
-    (l, x, k .0, y, d)
+    let d = noteable-steps sch hl s end short long few n (mid + stepSize) next last z behind rest in
+    subst (λ (p : ℕ). (at ≤ maxLength) × (p ≤ length s) × (p ≤ maxLength) × (1 ≤ stepAt s p .action .0) × (stepAt s p .action .0 ≤ maxMoves) × Noteable s n (p + stepSize)) m
+    (l, i, x, k .0, y, d)
 
 module _ (h : Sections) (s : List ℕ) (long : length s ≤ maxLength) (few : h .moves .count ≤ maxMoves) where
   pub record-noteable : (at next : ℕ) → recordAt h s at ≡ Good next → Noteable s (stepsIn s at) (at + headSize + objectsIn s at)
@@ -64,9 +66,9 @@ module _ (h : Sections) (s : List ℕ) (long : length s ≤ maxLength) (few : h 
       let w = state-within (schema h s) (hall (objectsOf s at) s) s end first after start in
       let v = state-end (schema h s) (hall (objectsOf s at) s) s end first after start in
       let x : first ≤ maxLength = omega arith in
-      let z : end ≤ maxLength = omega arith in
+      let z : end ≤ length s = omega arith in
       subst (λ (p : ℕ). Noteable s (stepsIn s at) p) m
-      (noteable-steps (schema h s) (hall (objectsOf s at) s) s end z few (stepsIn s at) first after last x start steps)
+      (noteable-steps (schema h s) (hall (objectsOf s at) s) s end z long few (stepsIn s at) first after last x start steps)
 
 -- one record, by what the code has read of its head
 pub record-ready : (s : List ℕ) (at o n : ℕ) → o ≡ byteAt s at → n ≡ byteAt s (at + 1)

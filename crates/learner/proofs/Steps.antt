@@ -4,6 +4,7 @@ use mathlib.Core.Path.{_≡_, refl, sym, ap, _∙_}
 use mathlib.Core.List.{List, [], _∷_, _++_}
 use native.Mathlib.Numerals.{sub-one}
 use native.Mathlib.Omega.{arith}
+use lib.ListN.{length}
 use Rattle.answer.specs.declared.Answer.{Answer}
 use Rattle.answer.specs.declared.Answer.the-variants.{Good}
 use Rattle.answer.specs.Walk.{walk}
@@ -44,14 +45,14 @@ module _ (s : List ℕ) (whole : Held) where
       let j = rw e at i in
       record { masks = ap (λ h. h .masks) j; stray = ap (λ h. h .stray) j }
 
-pub noteable-at : (s : List ℕ) (n at : ℕ) → Noteable s n at → at ≤ maxLength
+pub noteable-at : (s : List ℕ) (n at : ℕ) → Noteable s n at → (at ≤ maxLength) × (stateEnd s at ≤ length s)
 unfolding Noteable
 noteable-at s zero at h = h
-noteable-at s (suc n) at h = h .0
+noteable-at s (suc n) at h = (h .0, h .1)
 
 -- what the next step of a noteable record is
 pub noteable-next : (s : List ℕ) (n at mid : ℕ) → 0 < n → mid ≡ stateEnd s at → Noteable s n at
     → (mid ≤ maxLength) × (1 ≤ stepAt s mid .action .0) × (stepAt s mid .action .0 ≤ maxMoves) × Noteable s (n - 1) (mid + stepSize)
 unfolding Noteable
 noteable-next s zero at mid h e i = absurd (omega arith)
-noteable-next s (suc n) at mid h e i = rw (e, sub-one) (i .1, i .2, i .3, i .4)
+noteable-next s (suc n) at mid h e i = rw (e, sub-one) (i .2, i .3, i .4, i .5)

@@ -17,11 +17,12 @@ use Rattle.jobs.specs.Planning.{filedIn}
 use Rattle.jobs.specs.Learn.{learnable, learn, learnBytes}
 use Rattle.learner.specs.declared.Walked.{Walked}
 
--- a number of steps behind the state at an offset lie within a book, each of a move that there may be
+-- a state and a number of steps behind it lie within a book, each step of a move that there may be
 unfoldable pub Noteable : List ℕ → ℕ → ℕ → Type 0
-Noteable s zero at = at ≤ maxLength
+Noteable s zero at = (at ≤ maxLength) × (stateEnd s at ≤ length s)
 Noteable s (suc n) at =
     (at ≤ maxLength)
+    × (stateEnd s at ≤ length s)
     × (stateEnd s at ≤ maxLength)
     × (1 ≤ stepAt s (stateEnd s at) .action .0)
     × (stepAt s (stateEnd s at) .action .0 ≤ maxMoves)

@@ -1,5 +1,5 @@
 // Learning: the records of a book walked once, each looked over and noted; then rows 11 to 13 and the rule sheet from what is held.
-// Uses sections and records for the rows of the form, notes for one step, rulesheet for what comes of it.
+// Uses sections and the reader of records for the rows of the form, notes for one step, rulesheet for what comes of it.
 use answer::Answer;
 use terms::Sections;
 ghost use mathlib.Core.Path.{_≡_};
@@ -62,16 +62,16 @@ fn note_record(s: &[u8], at: usize, held: &mut [u8], stray: usize) -> usize
 }
 
 // A number of records, which end the book: each looked over, then noted, before the next.
-fn note_records(s: &[u8], h: Sections, n: usize, from: usize, held: &mut [u8]) -> Walked
-    requires { ⌜ (length (now s) ≤ maxLength) × (from ≤ maxLength) × (n ≤ maxRecords) × (h .moves .count ≤ maxMoves) × (length (now held) ≡ heldSize) ⌝ }
-    ensures { λ r. ⌜ RecordsNoted h (now (s .entry)) n from (record { masks = now (held .entry); stray = 0 }) (now (held .exit)) r ⌝ }
+fn note_records(s: &[u8], n: usize, from: usize, held: &mut [u8]) -> Walked
+    requires { ⌜ (length (now s) ≤ maxLength) × (from ≤ maxLength) × (n ≤ maxRecords) × (sectionsOf (now s) .moves .count ≤ maxMoves) × (length (now held) ≡ heldSize) ⌝ }
+    ensures { λ r. ⌜ RecordsNoted (sectionsOf (now (s .entry))) (now (s .entry)) n from (record { masks = now (held .entry); stray = 0 }) (now (held .exit)) r ⌝ }
 {
     let mut left = n;
     let mut at = from;
     let mut total: usize = 0;
     let mut stray: usize = 0;
     while 0 < left {
-        match records::record_at(s, h, at) {
+        match reader::record_from(s, at) {
             Answer::Refused(k, p) => {
                 return Walked {
                     answer: Answer::Refused(k, p),
@@ -111,7 +111,7 @@ fn note_form(s: &[u8], h: Sections, held: &mut [u8]) -> Walked
         };
     }
     notes::nothing_seen(held);
-    note_records(s, h, h.records.count as usize, h.records.at as usize, held)
+    note_records(s, h.records.count as usize, h.records.at as usize, held)
 }
 
 // Rows 1 to 12: then what rows 11 and 12 say of what is held.

@@ -18,11 +18,15 @@ use Rattle.format.specs.Header.{sections}
 use Rattle.format.specs.Records.{recordAt}
 use Rattle.format.specs.LookOver.{stepTotal, lookOverBy, lookOver}
 use Rattle.sections.proofs.Laws.{SectionsGood, sections-good, sections-place}
-use Rattle.states.proofs.Bounds.{Bounded, bounded-of, bounded-good, bounded-then, bounded-row, bounded-wider, bounded-number, bounded-place}
+use Rattle.answer.specs.Bounds.{Bounded, bounded-of, bounded-good, bounded-then, bounded-row, bounded-wider, bounded-number, bounded-place}
 use Rattle.records.specs.Parts.{allRecords, look-over-parts}
-use Rattle.records.proofs.Turns.{part-stays, part-follows, walk-within}
+use Rattle.answer.specs.Turns.{part-stays, part-follows, walk-within}
 use Rattle.records.proofs.Laws.{record-within}
 use Rattle.records.proofs.Bounds.{records-bounded, total-bounded}
+
+-- the records by the header that was read
+pub records-own : (h : Sections) (s : List ℕ) → h ≡ sectionsOf s → (n from : ℕ) {r : Answer} → r ≡ allRecords (sectionsOf s) s n from → r ≡ allRecords h s n from
+records-own h s is n from e = rw is e
 
 module _ (h : Sections) (s : List ℕ) (is : h ≡ sectionsOf s) (a : Answer) (b : Bool) (first : a ≡ sections h s) (told : b ≡ isRefused a) where
   pub look-over-stays : b ≡ true → a ≡ lookOver s

@@ -1,9 +1,40 @@
 // Looking over a book: rows 1 to 10 of the refusal table, for any bytes; the count of all steps is good.
-// Uses answer, terms, sections and records, and the definitions of format. The book is read once.
+// Uses answer, terms, sections and the reader of records, and the definitions of format. The book is read once.
 use answer::Answer;
 use terms::Sections;
 ghost use mathlib.Core.Path.{_≡_};
+ghost use Prim.Native.Nat.{_≤_};
+ghost use lib.ListN.{length};
+ghost use Rattle.terms.specs.Sections.{sectionsOf};
+ghost use Rattle.format.specs.Limits.{maxLength, maxRecords};
 ghost use Rattle.format.specs.LookOver.{lookOver};
+ghost use Rattle.records.specs.Parts.{allRecords};
+
+// A number of records, which end the book; the count of all steps is good.
+pub fn records(s: &[u8], n: usize, from: usize) -> Answer
+    requires { ⌜ (length (now s) ≤ maxLength) × (from ≤ maxLength) × (n ≤ maxRecords) ⌝ }
+    ensures { λ r. ⌜ r ≡ allRecords (sectionsOf (now (s .entry))) (now (s .entry)) n from ⌝ }
+{
+    let mut left = n;
+    let mut at = from;
+    let mut total: usize = 0;
+    while 0 < left {
+        match reader::record_from(s, at) {
+            Answer::Refused(k, p) => {
+                return Answer::Refused(k, p);
+            }
+            Answer::Good(next) => {
+                total += input::byte_at(s, at + 1) as usize;
+                at = next;
+            }
+        }
+        left -= 1;
+    }
+    if at < s.len() {
+        return Answer::Refused(6, at);
+    }
+    Answer::Good(total)
+}
 
 pub fn look_over(s: &[u8]) -> Answer
     ensures { λ r. ⌜ r ≡ lookOver (now (s .entry)) ⌝ }
@@ -13,5 +44,5 @@ pub fn look_over(s: &[u8]) -> Answer
     if answer::is_refused(a) {
         return a;
     }
-    records::records(s, h, h.records.count as usize, h.records.at as usize)
+    records(s, h.records.count as usize, h.records.at as usize)
 }

@@ -11,14 +11,15 @@ use borrow.Author.Tests.{eq-eqb, ne-eqb}
 use borrow.Rule.Slice.PartMut.{midOf, putMid}
 use lib.ListN.{take, drop}
 use lib.Seq.{drop-drop}
-use Rattle.mask.specs.Sets.{intersection, union, difference}
+use Rattle.mask.specs.Sets.{empty, intersection, union, difference}
 use Rattle.terms.specs.declared.Step.{Step}
 use Rattle.terms.specs.Steps.{stepAt}
 use Rattle.format.specs.Limits.{stepSize}
 use Rattle.format.specs.Decode.{stateAt, stateEnd, filedAt}
 use Rattle.held.specs.Inverse.{atomsIn, strayed}
 use Rattle.held.specs.Held.{setAt, onSet, noted, hold, holdAll}
-use Rattle.notes.specs.Notes.{narrowed, widened, filedStep, heldStep, Holds}
+use Rattle.notes.specs.declared.Cursor.{Cursor}
+use Rattle.notes.specs.Notes.{rest, BothMarked, narrowed, widened, filedStep, heldStep, Holds}
 
 set-back : (f : List ℕ → List ℕ) (at k : ℕ) (l m : List ℕ) → k ≡ 32 → m ≡ f (midOf at k l) → putMid at k l m ≡ onSet at f l
 unfolding onSet
@@ -60,26 +61,31 @@ module _ (a : ℕ) (before after l l₁ l₂ l₃ l₄ l₅ l₆ : List ℕ) whe
       rw (e₆, e₅, e₄, e₃, e₂, e₁, o₅, o₄, o₃, o₂, o₁, o₀)
 
 module _
-    (s : List ℕ) (pre at : ℕ) (masks : List ℕ) (stray : ℕ) (step : Step) (is : step ≡ stepAt s at) (before after new : List ℕ)
-    (then : before ≡ atomsIn (step .binding) (stateAt s pre))
-    (next : after ≡ atomsIn (step .binding) (stateAt s (at + stepSize)))
+    (s : List ℕ) (pre at : ℕ) (masks : List ℕ) (stray : ℕ) (step : Step) (is : step ≡ stepAt s at) (p q : Cursor) (m₀ n₀ before after new : List ℕ) (t : Bool)
+    (none-before : m₀ ≡ empty 32)
+    (none-after : n₀ ≡ empty 32)
+    (from : rest s p ≡ stateAt s pre)
+    (to : rest s q ≡ stateAt s (at + stepSize))
+    (both : BothMarked s (step .binding) p q m₀ n₀ before after t)
     (noting : new ≡ noted (step .action .0) before after masks) where
   new-masks : new ≡ heldStep s pre at masks stray .masks
-  unfolding heldStep hold filedStep
-  new-masks = rw (noting, then, next, is)
+  unfolding heldStep hold filedStep atomsIn
+  new-masks = rw (noting, both .before, both .after, none-before, none-after, from, to, is)
+
+  says : t ≡ strayed (stepAt s at .binding) (stateAt s pre) (stateAt s (at + stepSize))
+  says = both .says ∙ rw (from, to, is)
 
   pub hold-before : (stray ≡ 0 → ⊥) → Holds (heldStep s pre at masks stray) new stray
   unfolding heldStep hold filedStep
   hold-before d = record { masks = new-masks; stray = rw (ne-eqb stray 0 d) }
 
-  module _ (none : stray ≡ 0) (t : Bool) (says : t ≡ strayed (step .binding) (stateAt s pre) (stateAt s (at + stepSize))) where
-    pub hold-here : t ≡ true → Holds (heldStep s pre at masks stray) new at
-    unfolding heldStep hold filedStep
-    hold-here e = record { masks = new-masks; stray = rw (eq-eqb stray 0 none, ← is, ← says, e) }
+  pub hold-here : stray ≡ 0 → t ≡ true → Holds (heldStep s pre at masks stray) new at
+  unfolding heldStep hold filedStep
+  hold-here d e = record { masks = new-masks; stray = rw (eq-eqb stray 0 d, ← says, e) }
 
-    pub hold-none : t ≡ false → Holds (heldStep s pre at masks stray) new 0
-    unfolding heldStep hold filedStep
-    hold-none e = record { masks = new-masks; stray = rw (eq-eqb stray 0 none, ← is, ← says, e) }
+  pub hold-none : stray ≡ 0 → t ≡ false → Holds (heldStep s pre at masks stray) new 0
+  unfolding heldStep hold filedStep
+  hold-none d e = record { masks = new-masks; stray = rw (eq-eqb stray 0 d, ← says, e) }
 
 -- For a walk over a record's steps: what `Holds` after one step is held after the steps that are left.
 pub held-turn : (s : List ℕ) (n at : ℕ) (masks bytes : List ℕ) (stray offset : ℕ)

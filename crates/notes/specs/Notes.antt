@@ -2,40 +2,63 @@
 use Prim.Native.Nat.{ℕ, _+_, _-_, _*_, _/_, _%_, _<_, _≤_}
 use mathlib.Core.Path.{_≡_}
 use mathlib.Core.Bool.{Bool, false, cond, _||_, not}
-use mathlib.Core.List.{List}
+use mathlib.Core.List.{List, [], _∷_}
 use lib.Dec.{eqb}
+use lib.ListN.{length, getD, replicate}
 use Rattle.mask.specs.Sets.{intersection, union}
-use Rattle.terms.specs.declared.Param.{Param}
 use Rattle.terms.specs.declared.Object.{Object}
-use Rattle.terms.specs.declared.Relation.{Relation}
 use Rattle.terms.specs.declared.Binding.{Binding}
 use Rattle.terms.specs.declared.Fact.{Fact}
 use Rattle.terms.specs.Facts.{factAt}
 use Rattle.terms.specs.Steps.{stepAt}
 use Rattle.format.specs.Limits.{factSize, stepSize}
 use Rattle.format.specs.Decode.{Filed, factsAt, stateAt}
-use Rattle.held.specs.Inverse.{factBound, unbound}
+use Rattle.held.specs.Inverse.{paramOf, placeBound, factBound, marks, sameFact, strayed}
 use Rattle.held.specs.Held.{Held, onSet, hold}
 use Rattle.notes.specs.declared.Cursor.{Cursor}
 
--- a place with its parameter, 0 where no parameter has its object: the place is unused, or its object is the parameter's
-unfoldable pub placeFilled : Object → Param → Bool
-placeFilled x p = eqb (x .0) 0 || not (eqb (p .0) 0)
+-- What an object adds to a bound fact's number in the second place: the object's parameter, counted from 0, and nothing in an unused place.
+-- 16, the number of pairs of parameters, where no parameter has the object.
+unfoldable pub share : Binding → Object → ℕ
+share b x = cond (placeBound b x) (paramOf b x - 1) 16
 
--- the number n of the bound fact of a relation and the parameters in its places
-unfoldable pub atomNumber : Relation → Param → Param → ℕ
-atomNumber r p q = 16 * (r .0 - 1) + 4 * (p .0 - 1) + (q .0 - 1)
+-- what both places add: below 16 for a bound fact alone
+unfoldable pub placeOf : Binding → Fact → ℕ
+placeOf b f = 4 * share b (f .first) + share b (f .second)
+
+unfoldable pub noShares : List ℕ
+noShares = replicate 256 16
+
+-- a table of the shares, by the number of the object
+pub record Inverts (b : Binding) (t : List ℕ) : Type 0 where
+  pub long : length t ≡ 256
+  pub gives : (x : ℕ) → x < 256 → getD t x 0 ≡ share b (record { 0 = x })
 
 -- the facts that are yet to come
 unfoldable pub rest : List ℕ → Cursor → List Fact
 rest s c = factsAt s (c .left) (c .at)
 
--- r stands where c does or behind bound facts, and what comes next, if anything, is no bound fact
-pub record AtUnbound (s : List ℕ) (b : Binding) (c r : Cursor) : Type 0 where
-  pub same : unbound b (rest s r) ≡ unbound b (rest s c)
-  pub next : 0 < r .left → factBound b (factAt s (r .at)) ≡ false
-  pub fewer : r .left ≤ c .left
-  pub end : r .at + factSize * r .left ≡ c .at + factSize * c .left
+-- they lie within the bytes
+pub record Ahead (s : List ℕ) (c : Cursor) : Type 0 where
+  pub within : c .at + factSize * c .left ≤ length s
+  pub near : c .at + factSize * c .left ≤ 500000
+
+-- some fact is no bound fact
+unfoldable pub strays : Binding → List Fact → Bool
+strays b [] = false
+strays b (f ∷ fs) = not (factBound b f) || strays b fs
+
+-- nothing is to come of one of two states, or the next facts differ and are no bound facts
+unfoldable pub Apart : List ℕ → Binding → Cursor → Cursor → Type 0
+Apart s b p q =
+    (0 < p .left) → (0 < q .left)
+    → (sameFact (factAt s (p .at)) (factAt s (q .at)) ≡ false) × (factBound b (factAt s (p .at)) ≡ false) × (factBound b (factAt s (q .at)) ≡ false)
+
+-- the facts to come of two states are marked, and r is row 11 of them
+pub record BothMarked (s : List ℕ) (b : Binding) (p q : Cursor) (m₀ n₀ m n : List ℕ) (r : Bool) : Type 0 where
+  pub before : m ≡ marks b m₀ (rest s p)
+  pub after : n ≡ marks b n₀ (rest s q)
+  pub says : r ≡ strayed b (rest s p) (rest s q)
 
 -- the set at an offset, intersected and united with another
 unfoldable pub narrowed : ℕ → List ℕ → List ℕ → List ℕ

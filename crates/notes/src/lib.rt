@@ -1,14 +1,15 @@
 // What the learner notes of a step: which of its bound facts (lifted atoms) hold before and after it, and whether any other fact changed.
 // Uses terms for facts and bindings, mask for the sets; the contracts cite held and format, and specs/Notes.antt for the parts.
 ghost use mathlib.Core.Path.{_≡_};
-ghost use Prim.Native.Nat.{_+_, _-_, _*_, _≤_};
-ghost use lib.ListN.{length};
+ghost use Prim.Native.Nat.{_+_, _-_, _*_, _≤_, _<_};
+ghost use lib.ListN.{length, set};
 ghost use Rattle.mask.specs.Sets.{difference};
+ghost use Rattle.terms.specs.Facts.{factAt};
 ghost use Rattle.terms.specs.Steps.{stepAt};
-ghost use Rattle.format.specs.Decode.{factsAt, stateAt};
-ghost use Rattle.held.specs.Inverse.{gives, paramOf, factBound, atomOf, mark, marks, atomsIn, sameFact, strayed};
+ghost use Rattle.format.specs.Decode.{stateAt, stateEnd};
+ghost use Rattle.held.specs.Inverse.{mark, marks, sameFact};
 ghost use Rattle.held.specs.Held.{noted, nothingSeen};
-ghost use Rattle.notes.specs.Notes.{placeFilled, atomNumber, rest, AtUnbound, narrowed, widened, heldStep, Holds, firstByte};
+ghost use Rattle.notes.specs.Notes.{noShares, Inverts, placeOf, rest, Ahead, strays, Apart, BothMarked, narrowed, widened, heldStep, Holds, firstByte};
 use terms::Binding;
 use terms::Fact;
 use terms::Move;
@@ -21,6 +22,9 @@ const FACT_SIZE: usize = 3;
 
 const STEP_SIZE: usize = 5;
 
+// A relation has so many bound facts, one for each pair of parameters.
+const UNBOUND: usize = 16;
+
 const SET_SIZE: usize = 32;
 
 const SETS: usize = 6;
@@ -29,112 +33,61 @@ const MOVE_SETS: usize = SET_SIZE * SETS;
 
 // ---- from a fact to its bound fact
 
-fn gives(b: Binding, i: u8, x: Object) -> bool
-    requires { ⌜ i ≤ 4 ⌝ }
-    ensures { λ r. ⌜ r ≡ gives b i x ⌝ }
+// A table with no parameter's object in it.
+fn no_shares() -> [u8; 256]
+    ensures { λ r. ⌜ r ≡ noShares ⌝ }
 {
-    let y = b.object(Param(i));
-    y.0 == x.0
+    [16u8; 256]
 }
 
-// The parameter that has the object, 0 where none has.
-pub fn param_of(b: Binding, x: Object) -> Param
-    ensures { λ r. ⌜ (r .0 ≡ paramOf b x) × (r .0 ≤ 4) ⌝ }
+fn give(t: &mut [u8], x: Object, share: u8)
+    ensures { λ _. ⌜ now (t .exit) ≡ set (now (t .entry)) (x .0) share ⌝ }
 {
-    if x.0 == 0 {
-        return Param(0);
-    }
-    if gives(b, 1, x) {
-        return Param(1);
-    }
-    if gives(b, 2, x) {
-        return Param(2);
-    }
-    if gives(b, 3, x) {
-        return Param(3);
-    }
-    if gives(b, 4, x) {
-        return Param(4);
-    }
-    Param(0)
-}
-
-fn place_filled(x: Object, p: Param) -> bool
-    ensures { λ r. ⌜ r ≡ placeFilled x p ⌝ }
-{
-    (x.0 == 0) | (p.0 != 0)
-}
-
-// A number from 1 as one from 0.
-fn index(n: u8) -> usize
-    ensures { λ r. ⌜ (r ≡ n - 1) × (r ≤ 254) ⌝ }
-{
-    if n == 0 {
-        return 0;
-    }
-    n as usize - 1
-}
-
-fn atom_number(r: Relation, p: Param, q: Param) -> usize
-    requires { ⌜ (p .0 ≤ 4) × (q .0 ≤ 4) ⌝ }
-    ensures { λ n. ⌜ (n ≡ atomNumber r p q) × (n ≤ 4079) ⌝ }
-{
-    16 * index(r.0) + 4 * index(p.0) + index(q.0)
-}
-
-pub fn fact_bound(b: Binding, f: Fact) -> bool
-    ensures { λ r. ⌜ r ≡ factBound b f ⌝ }
-{
-    let first = param_of(b, f.first);
-    let second = param_of(b, f.second);
-    place_filled(f.first, first) & place_filled(f.second, second)
-}
-
-pub fn atom_of(b: Binding, f: Fact) -> usize
-    ensures { λ r. ⌜ (r ≡ atomOf b f) × (r ≤ 4079) ⌝ }
-{
-    let first = param_of(b, f.first);
-    let second = param_of(b, f.second);
-    atom_number(f.relation, first, second)
-}
-
-// ---- the bound facts of a state
-
-// As `fact_bound` and `atom_of`, with each object looked up once.
-fn mark(m: &mut [u8], b: Binding, f: Fact)
-    ensures { λ _. ⌜ now (m .exit) ≡ mark b (now (m .entry)) f ⌝ }
-{
-    let first = param_of(b, f.first);
-    let second = param_of(b, f.second);
-    if !(place_filled(f.first, first) & place_filled(f.second, second)) {
+    let i = x.0 as usize;
+    if t.len() <= i {
         return;
     }
-    mask::set_bit(m, atom_number(f.relation, first, second));
+    t[i] = share;
 }
 
-fn mark_all(m: &mut [u8], s: &[u8], b: Binding, n: u16, from: usize)
-    requires { ⌜ from ≤ 300000 ⌝ }
-    ensures { λ _. ⌜ now (m .exit) ≡ marks b (now (m .entry)) (factsAt (now (s .entry)) n from) ⌝ }
+// What each object adds to a bound fact's number in the second place, by the object's number. A parameter of a lower number is put in
+// later, and so counts; an unused place, object 0, adds nothing.
+fn invert(t: &mut [u8], b: Binding)
+    requires { ⌜ now t ≡ noShares ⌝ }
+    ensures { λ _. ⌜ Inverts b (now (t .exit)) ⌝ }
 {
-    let mut left = n;
-    let mut at = from;
-    while 0 < left {
-        mark(m, b, Fact::read(s, at));
-        at += FACT_SIZE;
-        left -= 1;
+    give(t, b.object(Param(4)), 3);
+    give(t, b.object(Param(3)), 2);
+    give(t, b.object(Param(2)), 1);
+    give(t, b.object(Param(1)), 0);
+    give(t, Object(0), 0);
+}
+
+fn wide(n: u8) -> usize
+    ensures { λ r. ⌜ (r ≡ n) × (r < 256) ⌝ }
+{
+    n as usize
+}
+
+// What both places add, UNBOUND or more for a fact that is no bound fact. The table `t` is that of the binding `b`, here and below.
+fn place(t: &[u8], b: Binding, f: Fact) -> usize
+    requires { ⌜ Inverts b (now t) ⌝ }
+    ensures { λ r. ⌜ r ≡ placeOf b f ⌝ }
+{
+    4 * wide(t[f.first.0 as usize]) + wide(t[f.second.0 as usize])
+}
+
+fn mark(m: &mut [u8], b: Binding, f: Fact, place: usize)
+    requires { ⌜ place ≡ placeOf b f ⌝ }
+    ensures { λ _. ⌜ now (m .exit) ≡ mark b (now (m .entry)) f ⌝ }
+{
+    if UNBOUND <= place {
+        return;
     }
+    mask::set_bit(m, UNBOUND * terms::index(f.relation.0) + place);
 }
 
-pub fn atoms_in(s: &[u8], b: Binding, at: usize) -> [u8; 32]
-    requires { ⌜ at ≤ 200000 ⌝ }
-    ensures { λ r. ⌜ r ≡ atomsIn b (stateAt (now (s .entry)) at) ⌝ }
-{
-    let mut m = mask::empty32();
-    mark_all(&mut m, s, b, input::two_at(s, at), at + 2);
-    m
-}
-
-// ---- the facts of two states that are no bound facts
+// ---- the facts of a state
 
 // The facts of a state that are yet to come: how many, from which offset.
 struct Cursor {
@@ -150,12 +103,24 @@ fn same_fact(f: Fact, g: Fact) -> bool
 
 impl Cursor {
     fn of_state(s: &[u8], at: usize) -> Cursor
-        requires { ⌜ at ≤ 200000 ⌝ }
-        ensures { λ r. ⌜ (rest (now (s .entry)) r ≡ stateAt (now (s .entry)) at) × (r .at + 3 * r .left ≤ 500000) ⌝ }
+        requires { ⌜ (at ≤ 200000) × (stateEnd (now s) at ≤ length (now s)) ⌝ }
+        ensures { λ r. ⌜ (rest (now (s .entry)) r ≡ stateAt (now (s .entry)) at) × Ahead (now (s .entry)) r ⌝ }
     {
         Cursor {
             at: at + 2,
             left: input::two_at(s, at),
+        }
+    }
+
+    fn fact(self, s: &[u8]) -> Fact
+        requires { ⌜ (0 < self .left) × Ahead (now s) self ⌝ }
+        ensures { λ r. ⌜ r ≡ factAt (now (s .entry)) (self .at) ⌝ }
+    {
+        let at = self.at;
+        Fact {
+            relation: Relation(s[at]),
+            first: Object(s[at + 1]),
+            second: Object(s[at + 2]),
         }
     }
 
@@ -168,71 +133,118 @@ impl Cursor {
             left: self.left - 1,
         }
     }
-
-    // Behind the bound facts that come next.
-    fn to_unbound(self, s: &[u8], b: Binding) -> Cursor
-        requires { ⌜ self .at + 3 * self .left ≤ 500000 ⌝ }
-        ensures { λ r. ⌜ AtUnbound (now (s .entry)) b self r ⌝ }
-    {
-        let mut c = self;
-        while 0 < c.left {
-            if !fact_bound(b, Fact::read(s, c.at)) {
-                return c;
-            }
-            c = c.next();
-        }
-        c
-    }
 }
 
-// Row 11 of one step: facts stand in order, so what is no bound fact stayed as it was if it comes in the same order in both states.
-pub fn strayed(s: &[u8], b: Binding, pre: usize, post: usize) -> bool
-    requires { ⌜ (pre ≤ 200000) × (post ≤ 200000) ⌝ }
-    ensures { λ r. ⌜ r ≡ strayed b (stateAt (now (s .entry)) pre) (stateAt (now (s .entry)) post) ⌝ }
+// Marks the facts to come, and says whether any is no bound fact.
+fn mark_rest(m: &mut [u8], s: &[u8], t: &[u8], b: Binding, from: Cursor) -> bool
+    requires { ⌜ Inverts b (now t) × Ahead (now s) from ⌝ }
+    ensures { λ r. ⌜ (now (m .exit) ≡ marks b (now (m .entry)) (rest (now (s .entry)) from)) × (r ≡ strays b (rest (now (s .entry)) from)) ⌝ }
 {
-    let mut p = Cursor::of_state(s, pre).to_unbound(s, b);
-    let mut q = Cursor::of_state(s, post).to_unbound(s, b);
+    let mut c = from;
+    let mut stray = false;
+    while 0 < c.left {
+        let f = c.fact(s);
+        let x = place(t, b, f);
+        mark(m, b, f, x);
+        stray = stray | (UNBOUND <= x);
+        c = c.next();
+    }
+    stray
+}
+
+// ---- the facts of two states
+
+// Where one of two states is at its end, or facts come next that differ and are no bound facts: the others come to what any one unbound says.
+fn mark_rests(
+    before: &mut [u8],
+    after: &mut [u8],
+    s: &[u8],
+    t: &[u8],
+    b: Binding,
+    p: Cursor,
+    q: Cursor,
+) -> bool
+    requires { ⌜ Inverts b (now t) × Ahead (now s) p × Ahead (now s) q × Apart (now s) b p q ⌝ }
+    ensures { λ r. ⌜ BothMarked (now (s .entry)) b p q (now (before .entry)) (now (after .entry)) (now (before .exit)) (now (after .exit)) r ⌝ }
+{
+    let lost = mark_rest(before, s, t, b, p);
+    let won = mark_rest(after, s, t, b, q);
+    lost | won
+}
+
+// Row 11 of one step, and its bound facts before and after. Facts stand in order, so what is no bound fact stayed as it was if it comes in
+// the same order in both states. A fact that comes next in both is looked at once.
+fn mark_both(
+    before: &mut [u8],
+    after: &mut [u8],
+    s: &[u8],
+    t: &[u8],
+    b: Binding,
+    pre: Cursor,
+    post: Cursor,
+) -> bool
+    requires { ⌜ Inverts b (now t) × Ahead (now s) pre × Ahead (now s) post ⌝ }
+    ensures { λ r. ⌜ BothMarked (now (s .entry)) b pre post (now (before .entry)) (now (after .entry)) (now (before .exit)) (now (after .exit)) r ⌝ }
+{
+    let mut p = pre;
+    let mut q = post;
     while (0 < p.left) & (0 < q.left) {
-        if !same_fact(Fact::read(s, p.at), Fact::read(s, q.at)) {
-            return true;
+        let f = p.fact(s);
+        let g = q.fact(s);
+        let x = place(t, b, f);
+        if same_fact(f, g) {
+            mark(before, b, f, x);
+            mark(after, b, g, x);
+            p = p.next();
+            q = q.next();
+            continue;
         }
-        p = p.next().to_unbound(s, b);
-        q = q.next().to_unbound(s, b);
+        if x < UNBOUND {
+            mark(before, b, f, x);
+            p = p.next();
+            continue;
+        }
+        let y = place(t, b, g);
+        if UNBOUND <= y {
+            return mark_rests(before, after, s, t, b, p, q);
+        }
+        mark(after, b, g, y);
+        q = q.next();
     }
-    (0 < p.left) | (0 < q.left)
+    mark_rests(before, after, s, t, b, p, q)
 }
 
-// ---- what is held
+// ---- what is held: the sets of a step come by value, so that they share no memory with what is held
 
-fn narrow(held: &mut [u8], at: usize, m: &[u8])
+fn narrow(held: &mut [u8], at: usize, m: [u8; 32])
     requires { ⌜ at + 32 ≤ length (now held) ⌝ }
-    ensures { λ _. ⌜ now (held .exit) ≡ narrowed at (now (m .entry)) (now (held .entry)) ⌝ }
+    ensures { λ _. ⌜ now (held .exit) ≡ narrowed at m (now (held .entry)) ⌝ }
 {
     let end = at + SET_SIZE;
-    mask::intersect(&mut held[at..end], m);
+    mask::intersect(&mut held[at..end], &m);
 }
 
-fn widen(held: &mut [u8], at: usize, m: &[u8])
+fn widen(held: &mut [u8], at: usize, m: [u8; 32])
     requires { ⌜ at + 32 ≤ length (now held) ⌝ }
-    ensures { λ _. ⌜ now (held .exit) ≡ widened at (now (m .entry)) (now (held .entry)) ⌝ }
+    ensures { λ _. ⌜ now (held .exit) ≡ widened at m (now (held .entry)) ⌝ }
 {
     let end = at + SET_SIZE;
-    mask::unite(&mut held[at..end], m);
+    mask::unite(&mut held[at..end], &m);
 }
 
 // Only what is in `to` and not in `from` changed: an effect is a change seen.
-fn widen_by_change(held: &mut [u8], at: usize, from: &[u8], to: &[u8])
+fn widen_by_change(held: &mut [u8], at: usize, from: [u8; 32], to: [u8; 32])
     requires { ⌜ at + 32 ≤ length (now held) ⌝ }
-    ensures { λ _. ⌜ now (held .exit) ≡ widened at (difference (now (to .entry)) (now (from .entry))) (now (held .entry)) ⌝ }
+    ensures { λ _. ⌜ now (held .exit) ≡ widened at (difference to from) (now (held .entry)) ⌝ }
 {
     let end = at + SET_SIZE;
-    mask::unite_difference(&mut held[at..end], to, from);
+    mask::unite_difference(&mut held[at..end], &to, &from);
 }
 
 // One step of a move, by its bound facts before and after it, in the move's six sets.
-pub fn note(held: &mut [u8], a: Move, before: &[u8], after: &[u8])
+pub fn note(held: &mut [u8], a: Move, before: [u8; 32], after: [u8; 32])
     requires { ⌜ (1 ≤ a .0) × (a .0 ≤ 32) × (length (now held) ≡ 6144) ⌝ }
-    ensures { λ _. ⌜ now (held .exit) ≡ noted (a .0) (now (before .entry)) (now (after .entry)) (now (held .entry)) ⌝ }
+    ensures { λ _. ⌜ now (held .exit) ≡ noted (a .0) before after (now (held .entry)) ⌝ }
 {
     let at = MOVE_SETS * (a.0 as usize - 1);
     narrow(held, at, before);
@@ -247,18 +259,30 @@ pub fn note(held: &mut [u8], a: Move, before: &[u8], after: &[u8])
 pub fn hold(s: &[u8], pre: usize, at: usize, held: &mut [u8], stray: usize) -> usize
     requires { ⌜ (pre ≤ 100000) × (at ≤ 100000) × (length (now held) ≡ 6144) ⌝ }
     requires { ⌜ (1 ≤ stepAt (now s) at .action .0) × (stepAt (now s) at .action .0 ≤ 32) ⌝ }
+    requires { ⌜ (stateEnd (now s) pre ≤ length (now s)) × (stateEnd (now s) (at + 5) ≤ length (now s)) ⌝ }
     ensures { λ r. ⌜ Holds (heldStep (now (s .entry)) pre at (now (held .entry)) stray) (now (held .exit)) r ⌝ }
 {
     let step = Step::read(s, at);
     let b = step.binding;
     let post = at + STEP_SIZE;
-    let before = atoms_in(s, b, pre);
-    let after = atoms_in(s, b, post);
-    note(held, step.action, &before, &after);
+    let mut t = no_shares();
+    invert(&mut t, b);
+    let mut before = mask::empty32();
+    let mut after = mask::empty32();
+    let strayed = mark_both(
+        &mut before,
+        &mut after,
+        s,
+        &t,
+        b,
+        Cursor::of_state(s, pre),
+        Cursor::of_state(s, post),
+    );
+    note(held, step.action, before, after);
     if stray != 0 {
         return stray;
     }
-    if strayed(s, b, pre, post) {
+    if strayed {
         return at;
     }
     0

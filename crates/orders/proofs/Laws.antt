@@ -19,7 +19,7 @@ use Rattle.format.specs.States.{facts}
 use Rattle.format.specs.Order.{objectCount, startCount, goalCount, stepCount, startAt, goalAt, stepsAt, orderCountsBad, orderOffsetsBad}
 use Rattle.format.specs.Order.{orderObjects, orderObject, entries, planStep, orderForm}
 use Rattle.states.proofs.Laws.{facts-end}
-use Rattle.states.proofs.Bounds.{Bounded}
+use Rattle.answer.specs.Bounds.{Bounded}
 use Rattle.orders.proofs.Turns.{objects-end, entries-end, steps-end}
 use Rattle.orders.proofs.Places.{Placed, placed-row, placed-then, placed-bounded, objects-placed, start-placed, goal-placed, plan-placed}
 

@@ -12,7 +12,7 @@ use Rattle.terms.specs.declared.Fact.{Fact}
 use Rattle.terms.specs.Schema.{Schema, Hall}
 use Rattle.format.specs.Limits.{factSize, entrySize, stepSize}
 use Rattle.format.specs.States.{facts}
-use Rattle.states.proofs.Bounds.{Bounded}
+use Rattle.answer.specs.Bounds.{Bounded}
 use Rattle.format.specs.Order.{orderObject, entries, planStep}
 
 -- numbers from 14 to 18, places up to `size`; what is good counts as a place

@@ -33,6 +33,10 @@ module _ (o : List ℕ) where
   unfolding orderObjects
   objects-within objects e = rw e (omega arith)
 
+  pub objects-few : (objects : Objects) → objects ≡ orderObjects o → objectCount o ≤ maxObjects → objects .count ≤ maxObjects
+  unfolding orderObjects
+  objects-few objects e l = rw e l
+
   pub counts-bad-by : (a b c d : ℕ)
       → a ≡ objectCount o
       → b ≡ startCount o

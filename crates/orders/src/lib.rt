@@ -1,5 +1,5 @@
 // Rows 14 to 18 of the refusal table: the header, the objects, the start facts, the goal entries and the plan steps of an order.
-// Uses answer, input, terms, states and the definitions of format. `book` has the schema, by its header `h`; `o` is the order.
+// Uses answer, input, terms, tables, states and the definitions of format. `book` has the schema, by its header `h`; `o` is the order.
 use answer::Answer;
 use terms::Fact;
 use terms::Objects;
@@ -139,19 +139,12 @@ fn objects(o: &[u8], kinds: u16) -> Answer
 
 // Row 16: the start section, whose facts are looked at as those of a state are.
 fn start(book: &[u8], h: Sections, o: &[u8], objects: Objects) -> Answer
-    requires { ⌜ (objects .at ≤ 100000) × (startCount (now o) ≤ maxFacts) ⌝ }
+    requires { ⌜ (objects .at ≤ 100000) × (objects .count ≤ maxObjects) × (startCount (now o) ≤ maxFacts) ⌝ }
     ensures { λ r. ⌜ r ≡ facts 16 (schema h (now (book .entry))) (hall objects (now (o .entry))) (now (o .entry)) (length (now (o .entry))) (startCount (now (o .entry))) noFact (startAt (now (o .entry))) ⌝ }
 {
-    states::facts(
-        16,
-        book,
-        h,
-        o,
-        objects,
-        o.len(),
-        start_count(o) as usize,
-        start_at(o),
-    )
+    let kinds = tables::kinds_of(o, objects);
+    let table = tables::table_of(book, h, &kinds);
+    states::facts(16, o, &table, o.len(), start_count(o) as usize, start_at(o))
 }
 
 // Goal entries still to be looked at: from where, how many, and the fact of the one before them.

@@ -14,7 +14,7 @@ use Rattle.format.specs.Limits.{headSize, maxSteps}
 use Rattle.format.specs.States.{cut}
 use Rattle.format.specs.Records.{lengthIn, object, step, trajectory, body, recordAt}
 use Rattle.format.specs.LookOver.{stepTotal}
-use Rattle.states.proofs.Bounds.{Bounded, bounded-good, bounded-then, bounded-row, bounded-walk, bounded-wider}
+use Rattle.answer.specs.Bounds.{Bounded, bounded-good, bounded-then, bounded-row, bounded-walk, bounded-wider}
 use Rattle.states.proofs.Laws.{state-bounded}
 use Rattle.records.proofs.Laws.{head-limits, record-within, record-steps}
 

@@ -21,7 +21,7 @@ use Rattle.format.specs.States.{cut}
 use Rattle.format.specs.Records.{objectsIn, stepsIn, lengthIn, headBad, object, objectsOf, trajectory, body, recordAt}
 use Rattle.format.specs.LookOver.{stepTotal}
 use Rattle.records.specs.Parts.{closed, allRecords}
-use Rattle.records.proofs.Turns.{part-stays, part-follows}
+use Rattle.answer.specs.Turns.{part-stays, part-follows}
 
 module _ (s : List ℕ) where
   pub head-bad-by : (at a b n : ℕ)
@@ -41,6 +41,13 @@ module _ (s : List ℕ) where
       let q = neither _ _ (p .0) in
       let r = neither (ltb (length s) (at + headSize) || ltb maxObjects (objectsIn s at)) _ (q .0) in
       (ltb-false _ _ (r .1), ltb-false _ _ (q .1), ltb-false _ _ (p .1))
+
+  pub head-objects : (at : ℕ) → headBad s at ≡ false → objectsIn s at ≤ maxObjects
+  unfolding headBad cut
+  head-objects at e =
+      let q = neither _ _ (neither _ _ e .0) in
+      let r = neither (ltb (length s) (at + headSize) || ltb maxObjects (objectsIn s at)) _ (q .0) in
+      ltb-false _ _ (neither (ltb (length s) (at + headSize)) _ (r .0) .1)
 
 module _ (h : Sections) (s : List ℕ) (at end : ℕ) where
   pub body-stays : (n : ℕ) (a : Answer) (b : Bool)

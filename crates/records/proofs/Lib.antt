@@ -1,5 +1,4 @@
--- The proofs of the code, and laws: Turns and Parts for this crate's functions, Laws and Bounds for callers too.
-pub mod Turns
+-- The proofs of the code, and laws: Parts for this crate's functions, Laws and Bounds for callers too.
 pub mod Parts
 pub mod Laws
 pub mod Bounds

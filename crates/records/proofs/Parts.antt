@@ -1,11 +1,11 @@
 -- Laws of objects, steps and the trajectory of a record: each row met or not, and where each good part ends.
-use Prim.Native.Nat.{ℕ, zero, suc, _+_, _≤_}
-use mathlib.Core.Path.{_≡_, sym, _∙_}
+use Prim.Native.Nat.{ℕ, zero, suc, _+_, _≤_, _<_}
+use mathlib.Core.Path.{_≡_, refl, sym, _∙_}
 use mathlib.Core.Bool.{Bool, true, false, _||_}
 use mathlib.Core.List.{List}
-use lib.Dec.{ltb}
+use lib.Dec.{ltb, leb}
 use native.Mathlib.Omega.{arith}
-use borrow.Author.Tests.{ltb-false}
+use borrow.Author.Tests.{ltb-false, lt-ltb, le-ltb}
 use Rattle.answer.specs.declared.Answer.{Answer}
 use Rattle.answer.specs.declared.Answer.the-variants.{Good, Refused}
 use Rattle.answer.specs.Answer.{_>>=_, refuse, isRefused, valueOf}
@@ -13,13 +13,17 @@ use Rattle.answer.specs.Laws.{passed, parted, neither, refuse-met, refuse-unmet
 use Rattle.answer.specs.Walk.{walk}
 use Rattle.input.specs.Bytes.{byteAt}
 use Rattle.terms.specs.declared.Step.{Step}
-use Rattle.terms.specs.Schema.{Schema, Hall, numberBad}
-use Rattle.terms.specs.Steps.{stepAt, stepBad, repeats}
+use Rattle.terms.specs.declared.Sections.{Sections}
+use Rattle.terms.specs.Schema.{Schema, Hall, schema, moveAt, numberBad}
+use Rattle.terms.specs.Steps.{objectOf, stepAt, argumentBad, stepBad, repeats}
 use Rattle.format.specs.Limits.{stepSize}
 use Rattle.format.specs.States.{cut, state}
 use Rattle.format.specs.Records.{object, step, trajectory}
+use Rattle.tables.specs.Tables.{Kinds, kindsBad}
+use Rattle.tables.proofs.Laws.{kinds-bad}
 use Rattle.states.proofs.Laws.{state-within}
-use Rattle.records.proofs.Turns.{part-stays, part-follows, walk-within}
+use Rattle.records.specs.Parts.{stepRefused}
+use Rattle.answer.specs.Turns.{part-stays, part-follows, walk-within}
 
 module _ (kinds : ℕ) (s : List ℕ) (end : ℕ) where
   pub object-refused : (at x : ℕ) (b : Bool)
@@ -55,41 +59,74 @@ module _ (kinds : ℕ) (s : List ℕ) (end : ℕ) where
       let r = objects-end n (p .0) next (p .2) in
       omega arith
 
+module _ (h : Sections) (s : List ℕ) (hl : Hall) (ks : List ℕ) (right : Kinds hl ks) (st : Step) (at params : ℕ) where
+  argument-by : (i : ℕ) (a : Bool)
+      → at ≡ moveAt h (st .action)
+      → params ≡ byteAt s at
+      → a ≡ kindsBad ks (leb i params) (byteAt s (at + i)) (objectOf (st .binding) (record { 0 = i }))
+      → a ≡ argumentBad (schema h s) hl st i
+  unfolding argumentBad schema
+  argument-by i a p q r =
+      r ∙ kinds-bad (schema h s) hl ks right (leb i params) (byteAt s (at + i)) (objectOf (st .binding) (record { 0 = i })) ∙ rw (q, p) refl
+
+  -- a step's test, put together from what the calls in the code return
+  pub step-bad-by : (n a b c d : Bool)
+      → at ≡ moveAt h (st .action)
+      → params ≡ byteAt s at
+      → n ≡ numberBad (h .moves .count) (st .action .0)
+      → a ≡ kindsBad ks (leb 1 params) (byteAt s (at + 1)) (objectOf (st .binding) (record { 0 = 1 }))
+      → b ≡ kindsBad ks (leb 2 params) (byteAt s (at + 2)) (objectOf (st .binding) (record { 0 = 2 }))
+      → c ≡ kindsBad ks (leb 3 params) (byteAt s (at + 3)) (objectOf (st .binding) (record { 0 = 3 }))
+      → d ≡ kindsBad ks (leb 4 params) (byteAt s (at + 4)) (objectOf (st .binding) (record { 0 = 4 }))
+      → (n || a || b || c || d) ≡ stepBad (schema h s) hl st
+  unfolding stepBad schema
+  step-bad-by n a b c d p q t u v w z =
+      rw (t, argument-by 1 a p q u, argument-by 2 b p q v, argument-by 3 c p q w, argument-by 4 d p q z) refl
+
 module _ (sch : Schema) (hl : Hall) (s : List ℕ) (end : ℕ) where
-  pub step-refused : (at : ℕ) (st : Step) (b : Bool)
-      → st ≡ stepAt s at
-      → b ≡ stepBad sch hl st
-      → (ltb end (at + stepSize) || b) ≡ true
-      → step sch hl s end at ≡ Refused 9 at
-  unfolding step cut
-  step-refused at st b p q e = refuse-met _ _ _ _ (rw (← p, ← q) e)
+  -- row 9, as the code meets it
+  pub step-cut : (at : ℕ) → end < at + stepSize → true ≡ stepRefused sch hl s end at
+  unfolding stepRefused cut
+  step-cut at h = rw (lt-ltb end (at + stepSize) h) refl
+
+  pub step-whole : (at : ℕ) (st : Step) (b : Bool) → at + stepSize ≤ end → st ≡ stepAt s at → b ≡ stepBad sch hl st → b ≡ stepRefused sch hl s end at
+  unfolding stepRefused cut
+  step-whole at st b h p q = rw (q, p, le-ltb end (at + stepSize) h) refl
+
+  pub step-fits : (at : ℕ) (b : Bool) → b ≡ stepRefused sch hl s end at → b ≡ false → at + stepSize ≤ end
+  unfolding stepRefused cut
+  step-fits at b p e = ltb-false _ _ (neither _ _ (sym p ∙ e) .0)
+
+  pub step-nine : (at : ℕ) (b : Bool) → b ≡ stepRefused sch hl s end at → b ≡ true → step sch hl s end at ≡ Refused 9 at
+  unfolding step stepRefused
+  step-nine at b p e = refuse-met _ _ _ _ (sym p ∙ e)
 
   -- what stands behind row 9
   step-right : (at : ℕ) (st : Step) (b : Bool)
+      → b ≡ stepRefused sch hl s end at
+      → b ≡ false
       → st ≡ stepAt s at
-      → b ≡ stepBad sch hl st
-      → (ltb end (at + stepSize) || b) ≡ false
       → step sch hl s end at ≡ (refuse (repeats st) 10 at >>= λ _. state sch hl s end (at + stepSize))
-  unfolding step cut
-  step-right at st b p q e = rw p (refuse-unmet _ _ _ _ (rw (← p, ← q) e))
+  unfolding step stepRefused
+  step-right at st b p e q = rw q (refuse-unmet _ _ _ _ (sym p ∙ e))
 
   pub step-repeats : (at : ℕ) (st : Step) (b c : Bool)
+      → b ≡ stepRefused sch hl s end at
+      → b ≡ false
       → st ≡ stepAt s at
-      → b ≡ stepBad sch hl st
-      → (ltb end (at + stepSize) || b) ≡ false
       → c ≡ repeats st
       → c ≡ true
       → step sch hl s end at ≡ Refused 10 at
-  step-repeats at st b c p q e r t = step-right at st b p q e ∙ refuse-met _ _ _ _ (sym r ∙ t)
+  step-repeats at st b c p e q r t = step-right at st b p e q ∙ refuse-met _ _ _ _ (sym r ∙ t)
 
   pub step-state : (at : ℕ) (st : Step) (b c : Bool)
+      → b ≡ stepRefused sch hl s end at
+      → b ≡ false
       → st ≡ stepAt s at
-      → b ≡ stepBad sch hl st
-      → (ltb end (at + stepSize) || b) ≡ false
       → c ≡ repeats st
       → c ≡ false
       → step sch hl s end at ≡ state sch hl s end (at + stepSize)
-  step-state at st b c p q e r t = step-right at st b p q e ∙ refuse-unmet _ _ _ _ (sym r ∙ t)
+  step-state at st b c p e q r t = step-right at st b p e q ∙ refuse-unmet _ _ _ _ (sym r ∙ t)
 
   pub step-within : (at next : ℕ) → step sch hl s end at ≡ Good next → next ≤ end
   unfolding step

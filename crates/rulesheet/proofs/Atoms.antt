@@ -4,10 +4,10 @@ use Prim.Native.Nat.{ℕ, _+_, _*_, _/_, _%_, _≤_, _<_}
 use native.Mathlib.Decide.{ℕ-discrete, decLt}
 use native.Mathlib.Omega.{arith}
 use mathlib.Core.Path.{_≡_, refl, sym, _∙_}
-use mathlib.Core.Bool.{Bool, true, false, cond, _&&_, _||_, or-false}
+use mathlib.Core.Bool.{Bool, true, false, _&&_, _||_, not, or-false}
 use mathlib.Core.List.{List}
 use lib.Dec.{eqb, ltb, leb}
-use borrow.Author.Tests.{lt-ltb, le-ltb, lt-leb, eq-eqb, ne-eqb}
+use borrow.Author.Tests.{lt-ltb, le-ltb, lt-leb, eq-eqb, ne-eqb, not-true}
 use Rattle.input.specs.Bytes.{byteAt}
 use Rattle.mask.specs.Bits.{setBit}
 use Rattle.mask.specs.Sets.{empty, maskOf}
@@ -83,13 +83,37 @@ module _ (sch : Schema) (a : ℕ) where
   atoms-first =
       empty-maskOf 32 ∙ maskOf-same 32 (λ j. false) (λ j. ltb j 0 && isAtom sch a j) (λ j l. rw (le-ltb j 0 (omega arith)))
 
-  pub atoms-next : {set r : List ℕ} (n : ℕ) {b : Bool} → set ≡ atomsBelow n → b ≡ isAtom sch a n → r ≡ cond b (setBit set n) set → r ≡ atomsBelow (n + 1)
+  pub atoms-some : {set r : List ℕ} (n : ℕ) → set ≡ atomsBelow n → isAtom sch a n ≡ true → r ≡ setBit set n → r ≡ atomsBelow (n + 1)
   unfolding atomsBelow
-  atoms-next n {b} e f g = g ∙ rw e (go b (sym f))
+  atoms-some n e f g =
+      g ∙ rw e (setBit-maskOf 32 (λ j. ltb j n && isAtom sch a j) n ∙ maskOf-same 32 _ _ (λ j l. took (isAtom sch a) n j f))
+
+  pub atoms-skip : {set r : List ℕ} (n : ℕ) → set ≡ atomsBelow n → isAtom sch a n ≡ false → r ≡ set → r ≡ atomsBelow (n + 1)
+  unfolding atomsBelow
+  atoms-skip n e f g = g ∙ rw e (maskOf-same 32 _ _ (λ j l. passed (isAtom sch a) n j f))
+
+  -- nor are there any among the numbers that share a first place with n, where no parameter fills it
+  unfilled : (n j : ℕ) → parameterFills sch (record { 0 = a }) (atomRelation n) 1 (atomFirst n) ≡ false → j / 4 ≡ n / 4 → isAtom sch a j ≡ false
+  unfolding isAtom atomRelation atomFirst
+  unfilled n j e q =
+      let r : j / 16 ≡ n / 16 = omega arith in
+      rw (r, q, e, and-false)
+
+  pub atoms-past : {set : List ℕ} (n : ℕ) {t : Bool}
+      → t ≡ parameterFills sch (record { 0 = a }) (atomRelation n) 1 (atomFirst n)
+      → not t ≡ true
+      → set ≡ atomsBelow n
+      → set ≡ atomsBelow (n / 4 * 4 + 4)
+  unfolding atomsBelow
+  atoms-past n {t} e f g =
+      g ∙ maskOf-same 32 (λ j. ltb j n && isAtom sch a j) (λ j. ltb j (n / 4 * 4 + 4) && isAtom sch a j) (λ j l. go j (decLt j n) (decLt j (n / 4 * 4 + 4)))
     where
-      go : (c : Bool) → isAtom sch a n ≡ c → cond c (setBit (maskOf 32 (λ j. ltb j n && isAtom sch a j)) n) (maskOf 32 (λ j. ltb j n && isAtom sch a j)) ≡ maskOf 32 (λ j. ltb j (n + 1) && isAtom sch a j)
-      go true q = setBit-maskOf 32 (λ j. ltb j n && isAtom sch a j) n ∙ maskOf-same 32 _ _ (λ j l. took (isAtom sch a) n j q)
-      go false q = maskOf-same 32 _ _ (λ j l. passed (isAtom sch a) n j q)
+      go : (j : ℕ) → Dec (j < n) → Dec (j < n / 4 * 4 + 4) → (ltb j n && isAtom sch a j) ≡ (ltb j (n / 4 * 4 + 4) && isAtom sch a j)
+      go j (yes h) k = rw (lt-ltb j n h, lt-ltb j (n / 4 * 4 + 4) (omega arith))
+      go j (no h) (yes k) =
+          let q : j / 4 ≡ n / 4 = omega arith in
+          rw (unfilled n j (sym e ∙ not-true t f) q) (and-false (ltb j n) ∙ sym (and-false (ltb j (n / 4 * 4 + 4))))
+      go j (no h) (no k) = rw (le-ltb j n (omega arith), le-ltb j (n / 4 * 4 + 4) (omega arith))
 
   -- from the end on there are none
   past : (j : ℕ) → j < 256 → atomsEnd (sch .relations) ≤ j → isAtom sch a j ≡ false

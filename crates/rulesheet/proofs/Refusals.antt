@@ -5,13 +5,16 @@ use native.Mathlib.Decide.{decLt}
 use native.Mathlib.Omega.{arith}
 use native.Mathlib.Numerals.{add-one}
 use mathlib.Core.Path.{_≡_, refl, sym, _∙_, ap}
-use mathlib.Core.Bool.{Bool, true, false}
-use mathlib.Core.List.{List}
+use mathlib.Core.Bool.{Bool, true, false, _||_, not}
+use mathlib.Core.List.{List, [], _∷_}
+use lib.Bits.{and-zero-r}
+use lib.Dec.{eqb}
 use lib.ListN.{length, getD, drop, drop-of-length-le}
 use lib.Seq.{drop-cons}
-use borrow.Author.Tests.{ne-eqb}
+use borrow.Author.Tests.{ne-eqb, not-true}
+use Rattle.answer.specs.Laws.{clash}
 use Rattle.answer.specs.declared.Answer.the-variants.{Refused}
-use Rattle.mask.specs.Sets.{intersection, union, difference}
+use Rattle.mask.specs.Sets.{bytewise, intersection, union, difference}
 use Rattle.terms.specs.Schema.{Schema}
 use Rattle.model.specs.Quantify.{any, least}
 use Rattle.jobs.specs.Learn.{tornAnswer}
@@ -72,6 +75,14 @@ pub in-use-none : (m : List ℕ) (i : ℕ) → length m ≤ i → inUse (drop i 
 unfolding inUse any
 in-use-none m i h = rw (drop-of-length-le m h)
 
+-- nothing in a set, so nothing in what another has of it
+any-common : (m n : List ℕ) → inUse n ≡ false → inUse (intersection m n) ≡ false
+unfolding inUse any intersection bytewise
+any-common [] n e = refl
+any-common (x ∷ m) [] e = rw (and-zero-r x) (any-common m [] refl)
+any-common (x ∷ m) (zero ∷ n) e = rw (and-zero-r x) (any-common m n e)
+any-common (x ∷ m) (suc y ∷ n) e = clash true refl (sym (ap (λ (t : Bool). not t || any (λ z. not (eqb z 0)) n) (ne-eqb (suc y) 0 (λ q. absurd (omega arith)))) ∙ e)
+
 -- ---- row 12 of one move, put together from what the calls in the code return
 module _ (sch : Schema) (l : List ℕ) (a : ℕ) where
   pub torn-by : {x₄ x₂ added x₅ x₃ removed either atoms named : List ℕ} {r : Bool}
@@ -88,6 +99,20 @@ module _ (sch : Schema) (l : List ℕ) (a : ℕ) where
       → r ≡ tornHeld sch l a
   unfolding inUse tornHeld
   torn-by e₄ e₂ g e₅ e₃ k u t b f = rw (f, b, t, u, g, k, e₄, e₂, e₅, e₃)
+
+  pub torn-none : {x₄ x₂ added x₅ x₃ removed either : List ℕ} {r : Bool}
+      → x₄ ≡ heldSet l a 4
+      → x₂ ≡ heldSet l a 2
+      → added ≡ difference x₄ x₂
+      → x₅ ≡ heldSet l a 5
+      → x₃ ≡ heldSet l a 3
+      → removed ≡ intersection x₅ x₃
+      → either ≡ union added removed
+      → r ≡ inUse either
+      → not r ≡ true
+      → false ≡ tornHeld sch l a
+  torn-none {r = r} e₄ e₂ g e₅ e₃ k u f n =
+      sym (any-common (atomSet sch a) _ (sym f ∙ not-true r n)) ∙ torn-by e₄ e₂ g e₅ e₃ k u refl refl refl
 
 -- ---- the answers
 pub stray-named : (p : ℕ) → (p ≡ 0 → ⊥) → Refused 11 p ≡ strayAnswer p

@@ -1,13 +1,11 @@
 // The rule sheet, row 11 and row 12 from what the learner holds: each move's four sets of rules, and the first move that row 12 names.
 // Uses answer, input, terms and mask, and the definitions of held; a function is proved equal to the one of its name there or in terms.
 ghost use mathlib.Core.Path.{_≡_};
-ghost use mathlib.Core.Bool.{cond};
 ghost use Prim.Native.Nat.{_+_, _*_, _≤_, _<_};
 ghost use lib.ListN.{length};
-ghost use Rattle.mask.specs.Bits.{setBit};
 ghost use Rattle.mask.specs.Sets.{difference};
 ghost use Rattle.terms.specs.Schema.{schema, kindSuits};
-ghost use Rattle.terms.specs.Steps.{parameterFills, isAtom};
+ghost use Rattle.terms.specs.Steps.{parameterFills, isAtom, atomRelation, atomFirst};
 ghost use Rattle.model.specs.Quantify.{least};
 ghost use Rattle.held.specs.Held.{heldSize, setAt};
 ghost use Rattle.held.specs.Rules.{heldSet, atomSet, sheetHeld, strayAnswer, tornHeld, tornAmong};
@@ -27,13 +25,6 @@ const RULES_PER_MOVE: usize = 128;
 
 // ---- the bound facts of a move
 
-// Whether a parameter's kind suits a place of the kind named.
-fn kind_suits(book: &[u8], h: Sections, named: u8, kind: u8) -> bool
-    ensures { λ r. ⌜ r ≡ kindSuits (schema h (now (book .entry))) named kind ⌝ }
-{
-    kind == named
-}
-
 fn parameter_fills(book: &[u8], h: Sections, m: Move, r: Relation, i: u8, p: Param) -> bool
     ensures { λ b. ⌜ b ≡ parameterFills (schema h (now (book .entry))) m r i p ⌝ }
 {
@@ -43,11 +34,11 @@ fn parameter_fills(book: &[u8], h: Sections, m: Move, r: Relation, i: u8, p: Par
     let params = input::byte_at(book, action);
     let named = input::byte_at(book, relation + i as usize);
     let kind = input::byte_at(book, action + p.0 as usize);
-    let suits = kind_suits(book, h, named, kind);
+    let suits = terms::kind_suits(book, h, named, kind);
     ((i <= places) & (p.0 <= params) & suits) | ((places < i) & (p.0 == 1))
 }
 
-fn is_atom(book: &[u8], h: Sections, m: Move, n: usize) -> bool
+pub fn is_atom(book: &[u8], h: Sections, m: Move, n: usize) -> bool
     requires { ⌜ n < 256 ⌝ }
     ensures { λ r. ⌜ r ≡ isAtom (schema h (now (book .entry))) (m .0) n ⌝ }
 {
@@ -55,6 +46,21 @@ fn is_atom(book: &[u8], h: Sections, m: Move, n: usize) -> bool
     let first = parameter_fills(book, h, m, Relation(r), 1, Param((n / 4 % 4 + 1) as u8));
     let second = parameter_fills(book, h, m, Relation(r), 2, Param((n % 4 + 1) as u8));
     (1 <= m.0) & (m.0 as u16 <= h.moves.count) & (r as u16 <= h.relations.count) & first & second
+}
+
+// A parameter fills the first place of bound fact n: the same for four numbers, one for each parameter in the second.
+fn first_fills(book: &[u8], h: Sections, m: Move, n: usize) -> bool
+    requires { ⌜ n < 256 ⌝ }
+    ensures { λ r. ⌜ r ≡ parameterFills (schema h (now (book .entry))) m (atomRelation n) 1 (atomFirst n) ⌝ }
+{
+    parameter_fills(
+        book,
+        h,
+        m,
+        Relation((n / 16 + 1) as u8),
+        1,
+        Param((n / 4 % 4 + 1) as u8),
+    )
 }
 
 // From here on there are no bound facts: a relation has 16 numbers.
@@ -67,15 +73,6 @@ fn atoms_end(relations: u16) -> usize
     16 * relations as usize
 }
 
-fn with_if(set: [u8; 32], n: usize, wanted: bool) -> [u8; 32]
-    ensures { λ r. ⌜ r ≡ cond wanted (setBit set n) set ⌝ }
-{
-    if wanted {
-        return mask::with_bit32(set, n);
-    }
-    set
-}
-
 fn atom_set(book: &[u8], h: Sections, m: Move) -> [u8; 32]
     ensures { λ r. ⌜ r ≡ atomSet (schema h (now (book .entry))) (m .0) ⌝ }
 {
@@ -83,8 +80,13 @@ fn atom_set(book: &[u8], h: Sections, m: Move) -> [u8; 32]
     let mut set = mask::empty32();
     let mut n = 0;
     while n < end {
-        let next = with_if(set, n, is_atom(book, h, m, n));
-        set = next;
+        if !first_fills(book, h, m, n) {
+            n = n / 4 * 4 + 4;
+            continue;
+        }
+        if is_atom(book, h, m, n) {
+            mask::mark32(&mut set, n);
+        }
         n += 1;
     }
     set
@@ -212,6 +214,9 @@ fn torn(book: &[u8], h: Sections, held: &[u8], m: Move) -> bool
     let added = difference32(held_set(held, m, 4), held_set(held, m, 2));
     let removed = mask::intersection32(held_set(held, m, 5), held_set(held, m, 3));
     let either = mask::union32(added, removed);
+    if !in_use(&either) {
+        return false;
+    }
     let named = mask::intersection32(atom_set(book, h, m), either);
     in_use(&named)
 }

@@ -12,7 +12,7 @@ use Rattle.answer.specs.Laws.{refuse-met, refuse-unmet, passed, parted}
 use Rattle.answer.specs.Walk.{walk, walk-refused, walk-good}
 use Rattle.format.specs.Limits.{relationSize, moveSize}
 use Rattle.format.specs.Header.{relationBad, moveBad, relation, move}
-use Rattle.sections.proofs.Refusals.{refused-cases, row-cases}
+use Rattle.answer.specs.Refusals.{refused-cases, row-cases}
 
 -- an entry that says where the next one starts
 abbrev pub Entry : (ℕ → Answer) → (ℕ → Bool) → ℕ → ℕ → Type 0

@@ -12,7 +12,7 @@ use Rattle.answer.specs.Walk.{walk}
 use Rattle.terms.specs.declared.Sections.{Sections}
 use Rattle.format.specs.Limits.{headerSize, maxLength, maxKinds, maxRelations, maxMoves, maxRecords, relationSize, moveSize}
 use Rattle.format.specs.Header.{lengthBad, countsBad, offsetsBad, relationBad, moveBad, relation, sections}
-use Rattle.sections.proofs.Refusals.{refused-cases, row-cases}
+use Rattle.answer.specs.Refusals.{refused-cases, row-cases}
 use Rattle.sections.proofs.Entries.{relation-entry, move-entry, entries-end, entries-right, entries-place}
 
 -- row 1 is not met

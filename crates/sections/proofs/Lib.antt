@@ -1,5 +1,4 @@
--- The proofs of the code, and laws: Tests and Entries for this crate's functions, Refusals and Laws for callers too.
+-- The proofs of the code, and laws: Tests and Entries for this crate's functions, Laws for callers too.
 pub mod Tests
-pub mod Refusals
 pub mod Entries
 pub mod Laws

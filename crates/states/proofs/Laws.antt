@@ -1,43 +1,22 @@
--- Laws of facts in order and of a state: what one turn of the loop does, where a good state ends, and the place of a refusal.
-use Prim.Native.Nat.{ℕ, zero, suc, _+_, _-_, _*_, _≤_, _<_}
-use mathlib.Core.Path.{_≡_}
-use mathlib.Core.Bool.{Bool, true, false, _||_, not}
+-- Laws of facts in order and of a state: its rows met or not, where a good state ends, and the place of a refusal.
+use Prim.Native.Nat.{ℕ, zero, suc, _+_, _*_, _≤_, _<_}
+use mathlib.Core.Path.{_≡_, refl}
+use mathlib.Core.Bool.{true, false}
 use mathlib.Core.List.{List}
 use lib.Dec.{ltb}
-use native.Mathlib.Numerals.{sub-one}
 use native.Mathlib.Omega.{arith}
-use borrow.Author.Tests.{ltb-false}
+use borrow.Author.Tests.{ltb-false, lt-ltb, le-ltb}
 use Rattle.answer.specs.declared.Answer.the-variants.{Good, Refused}
 use Rattle.answer.specs.Laws.{passed, neither, refuse-met, refuse-unmet}
 use Rattle.input.specs.Bytes.{two}
 use Rattle.terms.specs.declared.Fact.{Fact}
 use Rattle.terms.specs.Schema.{Schema, Hall}
-use Rattle.terms.specs.Facts.{factAt, factBad, precedes, noFact}
+use Rattle.terms.specs.Facts.{noFact}
 use Rattle.format.specs.Limits.{factSize, maxFacts}
-use Rattle.states.proofs.Bounds.{Bounded, bounded-good, bounded-row}
+use Rattle.answer.specs.Bounds.{Bounded, bounded-good, bounded-row}
 use Rattle.format.specs.States.{cut, countBad, factRefused, facts, state}
 
 module _ (num : ℕ) (sch : Schema) (hl : Hall) (s : List ℕ) (end : ℕ) where
-  pub facts-none : (n : ℕ) (last : Fact) (at : ℕ) → n ≡ 0 → facts num sch hl s end n last at ≡ Good at
-  unfolding facts
-  facts-none n last at e = rw e
-
-  pub facts-refused : (n : ℕ) (last : Fact) (at : ℕ)
-      → 0 < n
-      → factRefused sch hl s end last at ≡ true
-      → facts num sch hl s end n last at ≡ Refused num at
-  unfolding facts
-  facts-refused zero last at h e = absurd (omega arith)
-  facts-refused (suc n) last at h e = refuse-met _ _ _ _ e
-
-  pub facts-good : (n : ℕ) (last : Fact) (at : ℕ)
-      → 0 < n
-      → factRefused sch hl s end last at ≡ false
-      → facts num sch hl s end n last at ≡ facts num sch hl s end (n - 1) (factAt s at) (at + factSize)
-  unfolding facts
-  facts-good zero last at h e = absurd (omega arith)
-  facts-good (suc n) last at h e = rw sub-one (refuse-unmet _ _ _ _ e)
-
   -- a fact that is not refused ends within
   pub fact-within : (last : Fact) (at : ℕ) → factRefused sch hl s end last at ≡ false → at + factSize ≤ end
   unfolding factRefused cut
@@ -57,10 +36,6 @@ module _ (num : ℕ) (sch : Schema) (hl : Hall) (s : List ℕ) (end : ℕ) where
       let p = facts-end n _ _ _ (passed _ _ _ _ _ e .1) in
       omega arith
 
-  -- equal cursors have equal answers
-  pub facts-same : (n m : ℕ) (f g : Fact) (a b : ℕ) → a ≡ b → n ≡ m → f ≡ g → facts num sch hl s end n f a ≡ facts num sch hl s end m g b
-  facts-same n m f g a b p q r = rw (p, q, r)
-
   pub facts-bounded : (most : ℕ) → num ≤ most → (n : ℕ) (last : Fact) (at : ℕ) → at ≤ end → Bounded most end (facts num sch hl s end n last at)
   unfolding facts
   facts-bounded most m zero last at h = bounded-good most end at h
@@ -68,24 +43,19 @@ module _ (num : ℕ) (sch : Schema) (hl : Hall) (s : List ℕ) (end : ℕ) where
       bounded-row most end _ _ _ _ m h (λ e. facts-bounded most m n _ _ (fact-within last at e))
 
 module _ (s : List ℕ) (end : ℕ) where
-  pub count-bad-by : (at n : ℕ) → n ≡ two s at → (ltb end (at + 2) || ltb maxFacts n) ≡ countBad s end at
+  pub count-cut : (at : ℕ) → end < at + 2 → true ≡ countBad s end at
   unfolding countBad cut
-  count-bad-by at n e = rw e
+  count-cut at h = rw (lt-ltb end (at + 2) h) refl
+
+  pub count-whole : (at n : ℕ) → at + 2 ≤ end → n ≡ two s at → ltb maxFacts n ≡ countBad s end at
+  unfolding countBad cut
+  count-whole at n h e = rw (e, le-ltb end (at + 2) h) refl
 
   pub count-within : (at : ℕ) → countBad s end at ≡ false → (at + 2 ≤ end) × (two s at ≤ maxFacts)
   unfolding countBad cut
   count-within at e = let p = neither _ _ e in (ltb-false _ _ (p .0), ltb-false _ _ (p .1))
 
 module _ (sch : Schema) (hl : Hall) (s : List ℕ) (end : ℕ) where
-  -- the test, put together from what the calls in the code return
-  pub fact-refused-by : (last f : Fact) (at : ℕ) (a b : Bool)
-      → f ≡ factAt s at
-      → a ≡ factBad sch hl f
-      → b ≡ precedes last f
-      → (ltb end (at + factSize) || a || not b) ≡ factRefused sch hl s end last at
-  unfolding factRefused cut
-  fact-refused-by last f at a b p q r = rw (q, r, p)
-
   -- a state whose count is refused, and one whose count is not
   pub state-refused : (at : ℕ) → countBad s end at ≡ true → state sch hl s end at ≡ Refused 8 at
   unfolding state

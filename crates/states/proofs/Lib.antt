@@ -1,3 +1,3 @@
--- The proofs of the code, and laws for it and for callers.
-pub mod Bounds
+-- The proofs of the code, and laws: Keys for this crate's functions, Laws for callers too.
 pub mod Laws
+pub mod Keys

@@ -1,15 +1,18 @@
-// Row 8 of the refusal table: the facts of a state, in order, by a cursor that carries the fact before.
-// Uses answer, input, terms, and the definitions of format. `book` has the relations; `t` has the facts and the kinds of the objects, so that
-// an order's facts are looked at by the same functions.
+// Row 8 of the refusal table: the facts of a state, in order, by a cursor that carries the key of the fact before. What suits is told by a
+// table of the record or order, so that both are looked at by the same functions.
+// Uses answer, input, terms, tables, and the definitions of format.
 use answer::Answer;
 use terms::Fact;
-use terms::Objects;
-use terms::Sections;
+use terms::Object;
+use terms::Relation;
 ghost use mathlib.Core.Path.{_≡_};
-ghost use Prim.Native.Nat.{_+_, _-_, _≤_, _<_};
-ghost use Rattle.terms.specs.Schema.{schema, hall};
+ghost use Prim.Native.Nat.{_+_, _-_, _*_, _≤_, _<_};
+ghost use lib.ListN.{length};
+ghost use Rattle.input.specs.Bytes.{two};
 ghost use Rattle.terms.specs.Facts.{factAt, noFact};
-ghost use Rattle.format.specs.States.{countBad, factRefused, facts, state};
+ghost use Rattle.format.specs.States.{countBad, facts, state};
+ghost use Rattle.tables.specs.Tables.{ForTabled};
+ghost use Rattle.states.specs.Keyed.{factKey, keyRefused, keyed};
 
 const MAX_FACTS: u16 = 256;
 
@@ -17,62 +20,73 @@ const COUNT_SIZE: usize = 2;
 
 const FACT_SIZE: usize = 3;
 
-// Facts still to be looked at: from where, how many, and the one before them.
-pub struct FactCursor {
-    pub at: usize,
-    pub left: usize,
-    pub last: Fact,
+// A fact that is not cut.
+fn read(t: &[u8], at: usize) -> Fact
+    requires { ⌜ (at ≤ 200000) × (at + 3 ≤ length (now t)) ⌝ }
+    ensures { λ r. ⌜ r ≡ factAt (now (t .entry)) at ⌝ }
+{
+    Fact {
+        relation: Relation(t[at]),
+        first: Object(t[at + 1]),
+        second: Object(t[at + 2]),
+    }
+}
+
+fn key(f: Fact) -> u32
+    ensures { λ r. ⌜ r ≡ factKey f ⌝ }
+{
+    f.relation.0 as u32 * 65536 + f.first.0 as u32 * 256 + f.second.0 as u32
+}
+
+// Facts still to be looked at: from where, how many, and the key of the one before them.
+struct FactCursor {
+    at: usize,
+    left: usize,
+    last: u32,
 }
 
 impl FactCursor {
-    pub fn new(n: usize, from: usize) -> FactCursor
-        ensures { λ r. ⌜ (r .at ≡ from) × (r .left ≡ n) × (r .last ≡ noFact) ⌝ }
+    fn new(n: usize, from: usize) -> FactCursor
+        ensures { λ r. ⌜ (r .at ≡ from) × (r .left ≡ n) × (r .last ≡ 0) ⌝ }
     {
         FactCursor {
             at: from,
             left: n,
-            last: Fact::none(),
+            last: 0,
         }
     }
 
     // The fact at the cursor is cut, wrong, or not behind the one before it.
-    pub fn bad(self, book: &[u8], h: Sections, t: &[u8], objects: Objects, end: usize) -> bool
-        requires { ⌜ (objects .at ≤ 100000) × (self .at ≤ 200000) ⌝ }
-        ensures { λ r. ⌜ r ≡ factRefused (schema h (now (book .entry))) (hall objects (now (t .entry))) (now (t .entry)) end (self .last) (self .at) ⌝ }
+    fn bad(self, t: &[u8], table: &[u32; 512], end: usize) -> bool
+        requires { ⌜ (end ≤ length (now t)) × (self .at ≤ 200000) ⌝ }
+        ensures { λ r. ⌜ r ≡ keyRefused (now (table .entry)) (now (t .entry)) end (self .last) (self .at) ⌝ }
     {
-        let f = Fact::read(t, self.at);
-        let last = self.last;
-        (end < self.at + FACT_SIZE) | f.bad(book, h, t, objects) | !last.precedes(f)
+        if end < self.at + FACT_SIZE {
+            return true;
+        }
+        let f = read(t, self.at);
+        tables::fact_bad(table, f) | (key(f) <= self.last)
     }
 
-    pub fn next(self, t: &[u8]) -> FactCursor
-        requires { ⌜ (self .at ≤ 200000) × (0 < self .left) ⌝ }
-        ensures { λ r. ⌜ (r .at ≡ self .at + 3) × (r .left ≡ self .left - 1) × (r .last ≡ factAt (now (t .entry)) (self .at)) ⌝ }
+    fn next(self, t: &[u8]) -> FactCursor
+        requires { ⌜ (self .at ≤ 200000) × (self .at + 3 ≤ length (now t)) × (0 < self .left) ⌝ }
+        ensures { λ r. ⌜ (r .at ≡ self .at + 3) × (r .left ≡ self .left - 1) × (r .last ≡ factKey (factAt (now (t .entry)) (self .at))) ⌝ }
     {
         FactCursor {
             at: self.at + FACT_SIZE,
             left: self.left - 1,
-            last: Fact::read(t, self.at),
+            last: key(read(t, self.at)),
         }
     }
 }
 
-pub fn facts(
-    number: usize,
-    book: &[u8],
-    h: Sections,
-    t: &[u8],
-    objects: Objects,
-    end: usize,
-    n: usize,
-    from: usize,
-) -> Answer
-    requires { ⌜ (objects .at ≤ 100000) × (from ≤ 100010) × (n ≤ 256) ⌝ }
-    ensures { λ r. ⌜ r ≡ facts number (schema h (now (book .entry))) (hall objects (now (t .entry))) (now (t .entry)) end n noFact from ⌝ }
+fn keyed(number: usize, t: &[u8], table: &[u32; 512], end: usize, n: usize, from: usize) -> Answer
+    requires { ⌜ (end ≤ length (now t)) × (from ≤ 100010) × (n ≤ 256) ⌝ }
+    ensures { λ r. ⌜ r ≡ keyed number (now (table .entry)) (now (t .entry)) end n 0 from ⌝ }
 {
     let mut c = FactCursor::new(n, from);
     while 0 < c.left {
-        if c.bad(book, h, t, objects, end) {
+        if c.bad(t, table, end) {
             return Answer::Refused(number, c.at);
         }
         c = c.next(t);
@@ -80,29 +94,52 @@ pub fn facts(
     Answer::Good(c.at)
 }
 
+// A number of facts from an offset, each refused with the number given.
+pub fn facts(
+    number: usize,
+    t: &[u8],
+    table: &[u32; 512],
+    end: usize,
+    n: usize,
+    from: usize,
+) -> Answer
+    requires { ⌜ (end ≤ length (now t)) × (from ≤ 100010) × (n ≤ 256) ⌝ }
+    ensures { λ r. ⌜ ForTabled (now (table .entry)) (λ sch hl. r ≡ facts number sch hl (now (t .entry)) end n noFact from) ⌝ }
+{
+    keyed(number, t, table, end, n, from)
+}
+
+fn joined(high: u8, low: u8) -> u16
+    ensures { λ r. ⌜ r ≡ high * 256 + low ⌝ }
+{
+    high as u16 * 256 + low as u16
+}
+
+// A count that is not cut.
+fn count(s: &[u8], at: usize) -> u16
+    requires { ⌜ (at ≤ 100000) × (at + 2 ≤ length (now s)) ⌝ }
+    ensures { λ r. ⌜ r ≡ two (now (s .entry)) at ⌝ }
+{
+    joined(s[at], s[at + 1])
+}
+
 fn count_bad(s: &[u8], end: usize, at: usize) -> bool
-    requires { ⌜ at ≤ 100000 ⌝ }
+    requires { ⌜ (end ≤ length (now s)) × (at ≤ 100000) ⌝ }
     ensures { λ r. ⌜ r ≡ countBad (now (s .entry)) end at ⌝ }
 {
-    (end < at + COUNT_SIZE) | (MAX_FACTS < input::two_at(s, at))
+    if end < at + COUNT_SIZE {
+        return true;
+    }
+    MAX_FACTS < count(s, at)
 }
 
 // Row 8.
-pub fn state(book: &[u8], h: Sections, objects: Objects, end: usize, at: usize) -> Answer
-    requires { ⌜ (objects .at ≤ 100000) × (at ≤ 100000) ⌝ }
-    ensures { λ r. ⌜ r ≡ state (schema h (now (book .entry))) (hall objects (now (book .entry))) (now (book .entry)) end at ⌝ }
+pub fn state(book: &[u8], table: &[u32; 512], end: usize, at: usize) -> Answer
+    requires { ⌜ (end ≤ length (now book)) × (at ≤ 100000) ⌝ }
+    ensures { λ r. ⌜ ForTabled (now (table .entry)) (λ sch hl. r ≡ state sch hl (now (book .entry)) end at) ⌝ }
 {
     if count_bad(book, end, at) {
         return Answer::Refused(8, at);
     }
-    facts(
-        8,
-        book,
-        h,
-        book,
-        objects,
-        end,
-        input::two_at(book, at) as usize,
-        at + 2,
-    )
+    facts(8, book, table, end, count(book, at) as usize, at + 2)
 }

@@ -89,7 +89,7 @@ impl Sections {
 }
 
 // A number from 1 as one from 0.
-fn index(n: u8) -> usize
+pub fn index(n: u8) -> usize
     ensures { λ r. ⌜ (r ≡ n - 1) × (r ≤ 254) ⌝ }
 {
     if n == 0 {
@@ -106,7 +106,7 @@ pub fn number_bad(count: u16, n: u8) -> bool
 }
 
 // Whether a kind suits a place or a parameter of the kind named.
-fn kind_suits(book: &[u8], h: Sections, named: u8, kind: u8) -> bool
+pub fn kind_suits(book: &[u8], h: Sections, named: u8, kind: u8) -> bool
     ensures { λ r. ⌜ r ≡ kindSuits (schema h (now (book .entry))) named kind ⌝ }
 {
     kind == named

@@ -1,7 +1,8 @@
-//! Compares the built static library with this implementation.
+//! Compares the built static library with this implementation, and with the
+//! judge on tiny halls.
 //!
-//! `compare [seed] [count]`; exit status 1 on any difference or when a refusal
-//! or an aimed fault was met too seldom, 2 without a library to compare with.
+//! `compare [seed] [count]`; exit status 1 on any difference or when something
+//! was met too seldom, 2 without a library to compare with.
 
 use std::process::ExitCode;
 
@@ -9,9 +10,15 @@ use std::process::ExitCode;
 #[path = "shared/library.rs"]
 mod library;
 
+/// Of the cases run, at least this many in 24,000 must be books that learn.
+#[cfg(archive)]
+const LEARNING: usize = 20_000;
+
 #[cfg(archive)]
 fn main() -> ExitCode {
-    use second::compare::{self, Run};
+    use library::Library;
+    use second::calls::Job;
+    use second::compare::Run;
 
     let mut arguments = std::env::args().skip(1).map(|argument| argument.parse::<u64>());
     let mut next = |default| match arguments.next() {
@@ -22,15 +29,18 @@ fn main() -> ExitCode {
         eprintln!("usage: compare [seed] [count]");
         return ExitCode::from(2);
     };
-    let run = Run { seed, count: count as usize };
+    let count = count as usize;
+    let library = Library::default();
 
-    let good = report("look over", 0..=10, || compare::look_over(run, library::look_over));
-    #[cfg(feature = "learn")]
-    let good = good & report("learn", 0..=13, || compare::learn(run, library::learn));
-    #[cfg(feature = "check")]
-    let good = good & report("check", 0..=20, || compare::check(run, library::check));
-    #[cfg(feature = "add")]
-    let good = good & report("add", (0..=10).chain([13]), || compare::add(run, library::add));
+    let mut good = true;
+    for job in Job::ALL {
+        // About half of the books learn.
+        let factor = if job == Job::Learn { 2 } else { 1 };
+        good &= compare_job(&library, job, Run { seed, count: factor * count });
+    }
+    good &= compare_judge(&library, Run { seed, count: count / 3 });
+    println!("NULL was lent {} times for an empty input or output", library.nulls());
+    good &= library.nulls() > 0;
     if good {
         ExitCode::SUCCESS
     } else {
@@ -40,16 +50,26 @@ fn main() -> ExitCode {
 
 /// Runs one comparison and prints its tally, or what was wrong.
 #[cfg(archive)]
-fn report(
-    call: &str,
-    numbers: impl IntoIterator<Item = u32>,
-    compare: impl FnOnce() -> Result<second::compare::Tally, Box<second::compare::Difference>>,
+fn compare_job(
+    library: &library::Library,
+    job: second::calls::Job,
+    run: second::compare::Run,
 ) -> bool {
+    use second::calls::Job;
+
+    let call = job.name();
     let started = std::time::Instant::now();
-    match compare() {
+    let outcome =
+        second::compare::job(job, run, |book, other, output| job.run(library, book, other, output));
+    match outcome {
         Ok(tally) => {
-            println!("{call}: no difference in {:.1} s, {tally}", started.elapsed().as_secs_f64());
-            let missing = tally.missing(numbers);
+            let seconds = started.elapsed().as_secs_f64();
+            println!("{call}: no difference in {} cases, {seconds:.1} s", run.count);
+            println!("{tally}");
+            let mut missing = tally.missing(job.numbers());
+            if job == Job::Learn && 2 * 24_000 * tally.times(0) < LEARNING * run.count {
+                missing.push(format!("books that learn: {}", tally.times(0)));
+            }
             for line in &missing {
                 println!("{call}: met too seldom: {line}");
             }
@@ -57,6 +77,27 @@ fn report(
         }
         Err(difference) => {
             println!("{call}: DIFFERENCE\n{difference}");
+            false
+        }
+    }
+}
+
+/// Learning and checking against the judge, each kind of verdict often.
+#[cfg(archive)]
+fn compare_judge(library: &library::Library, run: second::compare::Run) -> bool {
+    let started = std::time::Instant::now();
+    match second::compare::judge(run, library) {
+        Ok(met) => {
+            let seconds = started.elapsed().as_secs_f64();
+            println!("judge: no difference in {} tiny halls, {seconds:.1} s: {met}", run.count);
+            let enough = met.least() >= run.count / 16;
+            if !enough {
+                println!("judge: a kind of verdict was met too seldom");
+            }
+            enough
+        }
+        Err(difference) => {
+            println!("judge: DIFFERENCE\n{difference}");
             false
         }
     }

@@ -1,19 +1,16 @@
-//! Compares this implementation with another one, call by call.
+//! Compares this implementation with another one, call by call, and another
+//! one with the judge.
 //!
-//! The other one is given as a function, so that the same runs serve the built
+//! The other one is given as functions, so that the same runs serve the built
 //! library (the bin `compare`) and deliberately wrong ones (the tests).
 
-mod add;
-mod check;
-mod learn;
+mod job;
+mod judge;
 mod lent;
-mod look_over;
 mod report;
 mod tally;
 
-pub use add::add;
-pub use check::check;
-pub use learn::learn;
-pub use look_over::look_over;
+pub use job::job;
+pub use judge::{judge, Verdicts};
 pub use report::{Difference, Run};
 pub use tally::Tally;

@@ -37,6 +37,12 @@ impl Tally {
         met.hits += usize::from(aimed == Some(answer));
     }
 
+    /// How often this number was answered.
+    #[must_use]
+    pub fn times(&self, number: u32) -> usize {
+        self.numbers.get(&number).copied().unwrap_or(0)
+    }
+
     /// What was met less often than 50 times in 20,000 cases, in words.
     #[must_use]
     pub fn missing(&self, numbers: impl IntoIterator<Item = u32>) -> Vec<String> {
@@ -44,10 +50,9 @@ impl Tally {
         let seldom = |times: usize, what: String| {
             (times < least).then(|| format!("{what}: {times} times, at least {least} wanted"))
         };
-        let by_number = numbers.into_iter().filter_map(|number| {
-            let times = self.numbers.get(&number).copied().unwrap_or(0);
-            seldom(times, format!("number {number}"))
-        });
+        let by_number = numbers
+            .into_iter()
+            .filter_map(|number| seldom(self.times(number), format!("number {number}")));
         let by_label = self
             .labels
             .iter()
@@ -59,7 +64,7 @@ impl Tally {
 
 impl fmt::Display for Tally {
     fn fmt(&self, f: &mut fmt::Formatter<'_>) -> fmt::Result {
-        writeln!(f, "{} cases; answers by number:", self.cases)?;
+        writeln!(f, "answers by number:")?;
         for (number, times) in &self.numbers {
             writeln!(f, "{number:>6} {times:>7}")?;
         }

@@ -1,42 +1,36 @@
 //! Books with a record to add and an output for the new book.
 
-use super::aim::Label;
+use super::aim::{Aim, Label};
 use super::draft::{BookDraft, RecordDraft};
 use super::hall::Dynamics;
 use super::mixed::BookStream;
 use super::rng::Rng;
-use super::{book, fullbook, record_faults};
+use super::{book, fullbook, record_faults, JobCase};
 use crate::answer::{Answer, Refusal};
-
-pub struct AddCase {
-    pub label: Label,
-    pub book: Vec<u8>,
-    pub record: Vec<u8>,
-    /// The length of the output lent.
-    pub output: usize,
-    pub aimed: Option<Answer>,
-}
+use crate::calls::Job;
 
 pub struct AddStream {
     books: BookStream,
-    record_aims: Vec<super::Aim<BookDraft>>,
+    record_aims: Vec<Aim<BookDraft>>,
     seed: u64,
 }
 
 const DAMAGED_BOOK: &str = "old book damaged";
 const DAMAGED_RECORD: &str = "record damaged";
-const OTHERS: [&str; 8] = [
-    "record good",
-    "record empty",
-    "record with bytes behind it",
-    "64 records before",
-    "63 records before",
-    "new length 60,000",
-    "new length over 60,000",
-    "output short",
-];
 
 impl AddStream {
+    /// What only adding meets, and adding that succeeds.
+    pub const OTHERS: [&str; 8] = [
+        "record good",
+        "record empty",
+        "record with bytes behind it",
+        "64 records before",
+        "63 records before",
+        "new length 60,000",
+        "new length over 60,000",
+        "output short",
+    ];
+
     #[must_use]
     pub fn new(seed: u64) -> Self {
         // Faults of the record count and of the book's end are not the record's.
@@ -57,20 +51,26 @@ impl AddStream {
     #[must_use]
     pub fn labels(&self) -> Vec<Label> {
         let label = |what| Label { part: "add", what };
-        [DAMAGED_BOOK, DAMAGED_RECORD].into_iter().chain(OTHERS).map(label).collect()
+        [DAMAGED_BOOK, DAMAGED_RECORD].into_iter().chain(Self::OTHERS).map(label).collect()
     }
 
     #[must_use]
-    pub fn case(&self, index: usize) -> AddCase {
+    pub fn case(&self, index: usize) -> JobCase {
         let mut rng = Rng::of_case(self.seed, index);
         // Of fourteen in turn: four old books damaged, two records, eight others.
         let (round, turn) = (index / 14, index % 14);
         let what = match turn {
             0..=3 => DAMAGED_BOOK,
             4..=5 => DAMAGED_RECORD,
-            _ => OTHERS[turn - 6],
+            _ => Self::OTHERS[turn - 6],
         };
-        let (book, record, aimed) = self.inputs(what, round, turn, &mut rng);
+        self.case_of(what, round, turn, &mut rng)
+    }
+
+    /// A case of this kind; the two numbers say which fault a damaged one has.
+    #[must_use]
+    pub fn case_of(&self, what: &'static str, round: usize, turn: usize, rng: &mut Rng) -> JobCase {
+        let (book, record, aimed) = self.inputs(what, round, turn, rng);
         let length = book.len() + record.len();
         let output = match what {
             "output short" => rng.below(length),
@@ -78,7 +78,8 @@ impl AddStream {
             _ if aimed.is_some_and(|answer| answer.number != 0) && rng.chance(20) => 0,
             _ => length + *rng.pick(&[0, 0, 1, 100]).expect("there are four"),
         };
-        AddCase { label: Label { part: "add", what }, book, record, output, aimed }
+        let label = Label { part: "add", what };
+        JobCase { job: Job::Add, label, aimed, book, other: record, output }
     }
 
     /// The old book, the record's bytes and the answer to be met.
@@ -106,7 +107,8 @@ impl AddStream {
             return (book, record.bytes(), Some(answer));
         }
         if what == DAMAGED_RECORD {
-            return self.damaged_record(2 * round + turn - 4, rng);
+            let (book, record, answer) = self.damaged_record(2 * round + turn - 4, rng);
+            return (book, record, Some(answer));
         }
         let shape = if rng.chance(90) { book::SMALL } else { book::MEDIUM };
         let mut world = book::of_shape(&shape, Dynamics::Follows, rng);
@@ -135,8 +137,14 @@ impl AddStream {
         (book, record, Some(answer))
     }
 
+    /// The faults of rows 6 to 10 that a record added can have.
+    #[must_use]
+    pub fn record_aims(&self) -> &[Aim<BookDraft>] {
+        &self.record_aims
+    }
+
     /// The fault is put into a book of one record, which is then the one added.
-    fn damaged_record(&self, index: usize, rng: &mut Rng) -> (Vec<u8>, Vec<u8>, Option<Answer>) {
+    pub fn damaged_record(&self, index: usize, rng: &mut Rng) -> (Vec<u8>, Vec<u8>, Answer) {
         let aim = &self.record_aims[index % self.record_aims.len()];
         let draw = |rng: &mut Rng| {
             let mut draft = book::to_damage(rng);
@@ -152,6 +160,6 @@ impl AddStream {
         let old = old.bytes();
         let moved = answer.place as usize - front + old.len();
         let answer = Answer { place: moved as u32, ..answer };
-        (old, bytes[front..].to_vec(), Some(answer))
+        (old, bytes[front..].to_vec(), answer)
     }
 }

@@ -6,17 +6,20 @@
 pub mod addition;
 pub mod aim;
 pub mod book;
+pub mod checking;
 pub mod draft;
 pub mod extreme;
 pub mod front_faults;
 pub mod fullbook;
 pub mod hall;
+pub mod learning;
 pub mod mixed;
 pub mod order;
 pub mod order_faults;
 pub mod record_faults;
 pub mod rng;
 pub mod spoil;
+pub mod stream;
 pub mod tiny;
 
 pub use aim::{Aim, Hit, Label};
@@ -24,6 +27,7 @@ pub use draft::{BookDraft, Fact, OrderDraft, RecordDraft, Step};
 pub use rng::Rng;
 
 use crate::answer::Answer;
+use crate::calls::Job;
 
 /// A book with what was aimed at. `aimed` is the answer that looking over must
 /// give, where the generator knows it.
@@ -31,4 +35,25 @@ pub struct BookCase {
     pub label: Label,
     pub book: Vec<u8>,
     pub aimed: Option<Answer>,
+}
+
+/// All that one call is given. `aimed` is the answer that it must give, where
+/// the generator knows it.
+pub struct JobCase {
+    pub job: Job,
+    pub label: Label,
+    pub aimed: Option<Answer>,
+    pub book: Vec<u8>,
+    /// The order or the record; empty for a call that takes none.
+    pub other: Vec<u8>,
+    /// The length of the output lent; 0 for a call that takes none.
+    pub output: usize,
+}
+
+impl From<BookCase> for JobCase {
+    /// The book to be looked over.
+    fn from(case: BookCase) -> Self {
+        let BookCase { label, book, aimed } = case;
+        Self { job: Job::LookOver, label, aimed, book, other: Vec::new(), output: 0 }
+    }
 }

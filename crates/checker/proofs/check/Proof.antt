@@ -1,5 +1,5 @@
 use mathlib.Core.Path.{sym, ap, _∙_}
-use Rattle.records.proofs.Turns.{is-good}
+use Rattle.answer.specs.Turns.{is-good}
 use Rattle.learner.proofs.Book.{schema-own, form-good}
 use Rattle.checker.proofs.Carried.{carriable}
 use Rattle.checker.proofs.Rows.{start-by, at-book, at-size, at-order, at-plan, at-end}

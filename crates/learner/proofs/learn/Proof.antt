@@ -1,6 +1,6 @@
 use Prim.Native.Nat.{_*_}
 use mathlib.Core.Path.{sym, ap, _∙_}
-use Rattle.records.proofs.Turns.{is-good}
+use Rattle.answer.specs.Turns.{is-good}
 use Rattle.wellformed.proofs.Headers.{moves-few}
 use Rattle.learner.proofs.Book.{moves-own, learn-refused, learn-size, learn-done, sheet-by, form-good}
 use borrow.Author.Needs.{needs}

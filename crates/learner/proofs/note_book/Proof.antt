@@ -1,5 +1,5 @@
 use mathlib.Core.Path.{sym, _∙_}
-use Rattle.records.proofs.Turns.{is-good}
+use Rattle.answer.specs.Turns.{is-good}
 use Rattle.wellformed.proofs.Headers.{moves-few}
 use Rattle.learner.proofs.Book.{refused-book, moves-own, torn-own, form-refused, at-stray, stray-refused, at-torn, torn-refused, book-good}
 use borrow.Author.Needs.{needs}

@@ -1,8 +1,8 @@
 use mathlib.Core.Path.{sym, _∙_}
 use native.Mathlib.Omega.{arith}
-use Rattle.records.proofs.Turns.{is-good}
+use Rattle.answer.specs.Turns.{is-good}
 use Rattle.sections.proofs.Laws.{sections-good}
-use Rattle.learner.proofs.Book.{at-sections, at-records}
+use Rattle.learner.proofs.Book.{at-sections, noted-own, at-records}
 use borrow.Author.Needs.{needs}
 use Rattle.learner.proofs.note_form.Statement.{statement}
 use Rattle.learner.proofs.note_form.Tie as tie
@@ -31,7 +31,7 @@ note-records-requires c κs =
     let p = c .before .before .before .before .before .before .before .before .before .before .before .before .pre in
     let e = sym (x .before .before .sections .ensures) ∙ is-good _ (sym (x .before .is-refused .ensures) ∙ x .if1 .left) in
     let g = sections-good _ _ _ e in
-    (g .size .most, omega (arith, g .offsets .within, g .size .most), g .counts .records, g .counts .moves, c .before .before .before .before .before .nothing-seen .kept .0 ∙ p .1)
+    (g .size .most, omega (arith, g .offsets .within, g .size .most), g .counts .records, rw (← p .0) (g .counts .moves), c .before .before .before .before .before .nothing-seen .kept .0 ∙ p .1)
 
 same-length : tie.Need-same-length
 same-length c = search needs
@@ -41,7 +41,7 @@ returns-2 c =
     let d = c .before .before .before in
     let x = d .before .before .before .before .before .before .before in
     at-records _ _ (c .before .before .before .before .before .before .before .before .before .before .before .before .before .before .before .pre .0) _ _ _ _ _ (x .before .before .sections .ensures) (x .before .is-refused .ensures) (x .if1 .left)
-    (d .before .before .before .before .before .nothing-seen .ensures) (c .before .before .note-records .ensures)
+    (d .before .before .before .before .before .nothing-seen .ensures) (noted-own _ _ (c .before .before .before .before .before .before .before .before .before .before .before .before .before .before .before .pre .0) _ _ _ _ _ (c .before .before .note-records .ensures))
 
 pub note-form-spec : {M : Type 1} → statement M
 note-form-spec =

@@ -4,12 +4,14 @@ use native.Mathlib.Omega.{arith}
 use borrow.Author.Needs.{needs}
 use lib.ListN.{length}
 use Rattle.answer.specs.Walk.{walk}
+use Rattle.terms.specs.Sections.{sectionsOf}
 use Rattle.format.specs.Limits.{maxLength}
 use Rattle.format.specs.Records.{recordAt}
 use Rattle.format.specs.LookOver.{stepTotal}
 use Rattle.format.specs.Decode.{recordsFiled}
 use Rattle.held.specs.Held.{heldSize, holdAll}
-use Rattle.records.proofs.Turns.{turn-none, turn-refused, turn-good}
+use Rattle.reader.specs.Reader.{record-by}
+use Rattle.answer.specs.Turns.{turn-none, turn-refused, turn-good}
 use Rattle.records.proofs.Laws.{record-within, all-refused, all-left, all-good, total-none, total-more}
 use Rattle.learner.proofs.Steps.{holding}
 use Rattle.learner.proofs.Records.{record-noteable, record-turn, records-done, refused-noted}
@@ -17,22 +19,22 @@ use Rattle.learner.proofs.note_records.Statement.{statement}
 use Rattle.learner.proofs.note_records.Tie as tie
 
 abbrev Inv-loop : tie.InvT-loop
-Inv-loop s h n from held₀ left₀ at₀ total₀ stray₀ held left at total stray =
+Inv-loop s n from held₀ left₀ at₀ total₀ stray₀ held left at total stray =
     (at ≤ maxLength)
     × (total + 255 * left ≤ 255 * n)
-    × (walk (recordAt h s) left at ≡ walk (recordAt h s) n from)
+    × (walk (recordAt (sectionsOf s) s) left at ≡ walk (recordAt (sectionsOf s) s) n from)
     × (total + stepTotal s left at ≡ stepTotal s n from)
     × (length held ≡ heldSize)
     × (holdAll (recordsFiled s left at) (holding held stray) ≡ holdAll (recordsFiled s n from) (holding held₀ 0))
 
 abbrev μ-loop : tie.MeasureT-loop
-μ-loop s h n from held₀ left₀ at₀ total₀ stray₀ held left at total stray = left
+μ-loop s n from held₀ left₀ at₀ total₀ stray₀ held left at total stray = left
 
 loop-holds : tie.Need-loop-holds Inv-loop μ-loop
 loop-holds c = let p = c .before .before .pre in (p .1, omega arith, refl, omega arith, p .4, refl)
 
-record-at-requires : tie.Need-record-at-requires Inv-loop μ-loop
-record-at-requires c κs = search needs
+record-from-requires : tie.Need-record-from-requires Inv-loop μ-loop
+record-from-requires c κs = search needs
 
 enum-known-k : tie.Need-enum-known-k Inv-loop μ-loop
 enum-known-k c = search needs
@@ -43,9 +45,11 @@ same-length c = search needs
 returns : tie.Need-returns Inv-loop μ-loop
 returns c =
     let d = c .before .before .before in
+    let p = d .before .before .before .before .before .pre in
+    let r = record-by _ _ _ refl (p .0) (d .before .before .loop .inv .0) (d .record-from .ensures) in
     refused-noted _ _ _ _ _ _ _ _ _
     (all-refused _ _ _ _ _ _
-    (turn-refused _ _ _ _ _ _ _ (d .before .before .loop .inv .2) (d .before .loop-test .taken) (d .record-at .ensures) (c .before .k .given .1)))
+    (turn-refused _ _ _ _ _ _ _ (d .before .before .loop .inv .2) (d .before .loop-test .taken) r (c .before .k .given .1)))
 
 enum-known-next : tie.Need-enum-known-next Inv-loop μ-loop
 enum-known-next c = search needs
@@ -56,7 +60,8 @@ note-record-requires c κs =
     let d = x .before .before in
     let i = d .before .before .loop .inv in
     let p = d .before .before .before .before .before .pre in
-    (i .0, i .4, record-noteable _ _ (p .0) (p .3) _ _ (sym (d .record-at .ensures) ∙ x .next .given .1))
+    let r = record-by _ _ _ refl (p .0) (i .0) (d .record-from .ensures) in
+    (i .0, i .4, record-noteable _ _ (p .0) (p .3) _ _ (sym r ∙ x .next .given .1))
 
 add-byte-at : tie.Need-add-byte-at Inv-loop μ-loop
 add-byte-at c = search needs
@@ -83,10 +88,11 @@ loop-again c =
     let i = d .before .before .loop .inv in
     let p = d .before .before .before .before .before .pre in
     let e = x .next .given .1 in
-    let w = record-within _ _ _ _ (sym (d .record-at .ensures) ∙ e) in (
+    let r = record-by _ _ _ refl (p .0) (i .0) (d .record-from .ensures) in
+    let w = record-within _ _ _ _ (sym r ∙ e) in (
       omega (arith, p .0, w .1),
       omega arith,
-      turn-good _ _ _ _ _ _ (i .2) (d .before .loop-test .taken) (d .record-at .ensures) e,
+      turn-good _ _ _ _ _ _ (i .2) (d .before .loop-test .taken) r e,
       total-more _ _ _ _ _ _ _ (i .3) (d .before .loop-test .taken) (c .byte-at .ensures) (w .0),
       c .before .before .before .note-record .kept .1 .1 .0 ∙ i .4,
       record-turn _ _ _ _ _ _ _ _ _ (d .before .loop-test .taken) (w .0) (c .before .before .before .note-record .ensures) (i .5),
@@ -118,7 +124,7 @@ note-records-spec =
     Inv-loop
     μ-loop
     loop-holds
-    record-at-requires
+    record-from-requires
     enum-known-k
     same-length
     returns

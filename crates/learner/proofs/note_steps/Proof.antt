@@ -22,14 +22,14 @@ loop-holds : tie.Need-loop-holds Inv-loop μ-loop
 loop-holds c = (c .before .before .pre .0, c .before .before .pre .1, refl)
 
 state-end-requires : tie.Need-state-end-requires Inv-loop μ-loop
-state-end-requires c κs = noteable-at _ _ _ (c .before .loop .inv .1)
+state-end-requires c κs = noteable-at _ _ _ (c .before .loop .inv .1) .0
 
 hold-requires : tie.Need-hold-requires Inv-loop μ-loop
 hold-requires c κs =
     let d = c .before .before in
     let m = noteable-next _ _ _ _ (d .loop-test .taken) (c .before .state-end .ensures .0) (d .before .loop .inv .1) in
     let a = noteable-at _ _ _ (d .before .loop .inv .1) in
-    ((omega arith, omega (arith, m .0), d .before .loop .inv .0), (m .1, m .2))
+    ((omega arith, omega (arith, m .0), d .before .loop .inv .0), ((m .1, m .2), (a .1, noteable-at _ _ _ (m .3) .1)))
 
 add-at : tie.Need-add-at Inv-loop μ-loop
 add-at c = search needs

@@ -2,8 +2,8 @@
 use mathlib.Core.Path.{sym, _∙_}
 use native.Mathlib.Omega.{arith}
 use Rattle.sections.proofs.Laws.{sections-good}
-use Rattle.records.proofs.Turns.{is-good}
-use Rattle.lookover.proofs.Laws.{look-over-stays, look-over-records}
+use Rattle.answer.specs.Turns.{is-good}
+use Rattle.lookover.proofs.Laws.{records-own, look-over-stays, look-over-records}
 use borrow.Author.Needs.{needs}
 use Rattle.lookover.proofs.look_over.Statement.{statement}
 use Rattle.lookover.proofs.look_over.Tie as tie
@@ -35,7 +35,7 @@ records-requires c κs =
 returns-2 : tie.Need-returns-2
 returns-2 c =
     let d = c .before .before .before in
-    look-over-records _ _ (d .before .before .before .read .ensures) _ _ (d .before .before .sections .ensures) (d .before .is-refused .ensures) (d .if1 .left) _ (c .records .ensures)
+    look-over-records _ _ (d .before .before .before .read .ensures) _ _ (d .before .before .sections .ensures) (d .before .is-refused .ensures) (d .if1 .left) _ (records-own _ _ (d .before .before .before .read .ensures) _ _ (c .records .ensures))
 
 pub look-over-spec : {M : Type 1} → statement M
 look-over-spec =

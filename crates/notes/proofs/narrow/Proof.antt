@@ -1,6 +1,6 @@
 -- `notes::narrow` meets its contract: the part that was lent, put back.
-use borrow.Author.Needs.{needs}
 use Rattle.notes.proofs.Sets.{narrowed-back}
+use borrow.Author.Needs.{needs}
 use Rattle.notes.proofs.narrow.Statement.{statement}
 use Rattle.notes.proofs.narrow.Tie as tie
 
@@ -15,6 +15,9 @@ part-intersect-start c = search needs
 
 part-intersect-end : tie.Need-part-intersect-end
 part-intersect-end c = search needs
+
+slice-aggregate-intersect : tie.Need-slice-aggregate-intersect
+slice-aggregate-intersect c = search needs
 
 intersect-requires : tie.Need-intersect-requires
 intersect-requires c κs = search needs
@@ -33,6 +36,7 @@ narrow-spec =
     sub-intersect
     part-intersect-start
     part-intersect-end
+    slice-aggregate-intersect
     intersect-requires
     same-length
     returns)

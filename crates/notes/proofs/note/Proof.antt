@@ -1,7 +1,7 @@
 -- `notes::note` meets its contract: six sets, one after the other.
 use mathlib.Core.Path.{refl}
-use borrow.Author.Needs.{needs}
 use Rattle.notes.proofs.Sets.{noted-by}
+use borrow.Author.Needs.{needs}
 use Rattle.notes.proofs.note.Statement.{statement}
 use Rattle.notes.proofs.note.Tie as tie
 

@@ -1,6 +1,6 @@
 -- `notes::widen` meets its contract: the part that was lent, put back.
-use borrow.Author.Needs.{needs}
 use Rattle.notes.proofs.Sets.{widened-back}
+use borrow.Author.Needs.{needs}
 use Rattle.notes.proofs.widen.Statement.{statement}
 use Rattle.notes.proofs.widen.Tie as tie
 
@@ -16,6 +16,9 @@ part-unite-start c = search needs
 part-unite-end : tie.Need-part-unite-end
 part-unite-end c = search needs
 
+slice-aggregate-unite : tie.Need-slice-aggregate-unite
+slice-aggregate-unite c = search needs
+
 unite-requires : tie.Need-unite-requires
 unite-requires c κs = search needs
 
@@ -28,4 +31,12 @@ returns c = widened-back _ _ _ _ (c .before .before .unite .ensures)
 pub widen-spec : {M : Type 1} → statement M
 widen-spec =
     tie.close
-    (tie.spec add-end sub-unite part-unite-start part-unite-end unite-requires same-length returns)
+    (tie.spec
+    add-end
+    sub-unite
+    part-unite-start
+    part-unite-end
+    slice-aggregate-unite
+    unite-requires
+    same-length
+    returns)

@@ -1,6 +1,6 @@
 -- `notes::widen_by_change` meets its contract: the part that was lent, put back.
-use borrow.Author.Needs.{needs}
 use Rattle.notes.proofs.Sets.{widened-back}
+use borrow.Author.Needs.{needs}
 use Rattle.notes.proofs.widen_by_change.Statement.{statement}
 use Rattle.notes.proofs.widen_by_change.Tie as tie
 
@@ -15,6 +15,12 @@ part-unite-difference-start c = search needs
 
 part-unite-difference-end : tie.Need-part-unite-difference-end
 part-unite-difference-end c = search needs
+
+slice-aggregate-unite-difference : tie.Need-slice-aggregate-unite-difference
+slice-aggregate-unite-difference c = search needs
+
+slice-aggregate-unite-difference-2 : tie.Need-slice-aggregate-unite-difference-2
+slice-aggregate-unite-difference-2 c = search needs
 
 unite-difference-requires : tie.Need-unite-difference-requires
 unite-difference-requires c κs = search needs
@@ -33,6 +39,8 @@ widen-by-change-spec =
     sub-unite-difference
     part-unite-difference-start
     part-unite-difference-end
+    slice-aggregate-unite-difference
+    slice-aggregate-unite-difference-2
     unite-difference-requires
     same-length
     returns)

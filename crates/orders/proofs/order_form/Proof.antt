@@ -1,6 +1,6 @@
 -- `order_form` meets its contract, row by row: each return by the answers before it.
 use mathlib.Core.Path.{sym, _∙_}
-use Rattle.orders.proofs.Tests.{objects-within, kinds-are, row-fourteen, row-fifteen, row-sixteen, row-seventeen, row-eighteen}
+use Rattle.orders.proofs.Tests.{objects-within, objects-few, kinds-are, row-fourteen, row-fifteen, row-sixteen, row-seventeen, row-eighteen}
 use Rattle.orders.proofs.Laws.{order-header-good}
 use borrow.Author.Needs.{needs}
 use Rattle.orders.proofs.order_form.Statement.{statement}
@@ -33,7 +33,8 @@ objects-of-requires c κs =
 start-requires : tie.Need-start-requires
 start-requires c κs =
     let d = c .before .before .before .before in
-    (objects-within _ _ (c .objects-of .ensures), order-header-good _ (sym (d .before .header-bad .ensures) ∙ d .if1 .left) .counts .starts)
+    let g = order-header-good _ (sym (d .before .header-bad .ensures) ∙ d .if1 .left) .counts in
+    (objects-within _ _ (c .objects-of .ensures), objects-few _ _ (c .objects-of .ensures) (g .objects), g .starts)
 
 is-refused-requires-2 : tie.Need-is-refused-requires-2
 is-refused-requires-2 c κs = search needs

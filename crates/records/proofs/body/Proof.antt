@@ -1,9 +1,11 @@
 -- `body` meets its contract: the objects, then the trajectory, then no bytes left.
 use mathlib.Core.Path.{sym, _∙_}
 use native.Mathlib.Omega.{arith}
-use Rattle.records.proofs.Turns.{is-good}
+use Rattle.answer.specs.Turns.{is-good}
 use Rattle.records.proofs.Parts.{objects-end}
 use Rattle.records.proofs.Laws.{body-stays, body-rest}
+use Rattle.format.specs.Records.{objectsIn}
+use Rattle.tables.specs.Tables.{Follows}
 use borrow.Author.Needs.{needs}
 use Rattle.records.proofs.body.Statement.{statement}
 use Rattle.records.proofs.body.Tie as tie
@@ -29,6 +31,16 @@ is-refused-requires c κs = search needs
 returns : tie.Need-returns
 returns c = body-stays _ _ _ _ _ _ _ (c .before .before .before .before .byte-at .ensures) (c .before .before .objects .ensures) (c .before .is-refused .ensures) (c .if1 .taken)
 
+kinds-of-requires : tie.Need-kinds-of-requires
+unfolding objectsIn
+kinds-of-requires c κs =
+    let e = c .before .before .before .before in
+    let b = e .byte-at .ensures in
+    (omega arith, omega arith)
+
+table-of-requires : tie.Need-table-of-requires
+table-of-requires c κs = search needs
+
 add-byte-at : tie.Need-add-byte-at
 add-byte-at c = search needs
 
@@ -42,11 +54,17 @@ value-of-requires : tie.Need-value-of-requires
 value-of-requires c κs = search needs
 
 trajectory-requires : tie.Need-trajectory-requires
+unfolding Follows
 trajectory-requires c κs =
-    let d = c .before .before in
+    let g = c .before .before .before .before in
+    let k = g .before .before in
+    let d = k .before in
     let w = objects-end _ _ _ _ _ _ (sym (d .before .before .objects .ensures) ∙ is-good _ (sym (d .before .is-refused .ensures) ∙ d .if1 .left)) in
     let v = c .value-of .ensures in
-    (omega arith, omega arith, omega arith)
+    let b = d .before .before .before .before in
+    let p = b .before .before .pre in
+    let n = b .byte-at .ensures in
+    (p .2, omega arith, omega arith, k .kinds-of .ensures, g .table-of .ensures _ (k .kinds-of .ensures))
 
 closed-requires : tie.Need-closed-requires
 closed-requires c κs = search needs
@@ -54,9 +72,10 @@ closed-requires c κs = search needs
 returns-2 : tie.Need-returns-2
 returns-2 c =
     let e = c .before in
-    let d = e .before .before .before in
+    let f = e .before .before .before .before in
+    let d = f .before .before .before .before in
     c .closed .ensures
-    ∙ body-rest _ _ _ _ _ _ _ _ _ _ (d .before .before .before .before .byte-at .ensures) (e .before .before .byte-at2 .ensures) (d .before .before .objects .ensures) (d .before .is-refused .ensures) (d .if1 .left) (e .before .value-of .ensures) (e .trajectory .ensures)
+    ∙ body-rest _ _ _ _ _ _ _ _ _ _ (d .before .before .before .before .byte-at .ensures) (f .byte-at2 .ensures) (d .before .before .objects .ensures) (d .before .is-refused .ensures) (d .if1 .left) (e .before .value-of .ensures) (e .trajectory .ensures)
 
 pub body-spec : {M : Type 1} → statement M
 body-spec =
@@ -69,6 +88,8 @@ body-spec =
     objects-requires
     is-refused-requires
     returns
+    kinds-of-requires
+    table-of-requires
     add-byte-at
     byte-at-requires-2
     cast-n

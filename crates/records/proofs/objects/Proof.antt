@@ -6,7 +6,7 @@ use borrow.Author.Needs.{needs}
 use Rattle.answer.specs.Walk.{walk}
 use Rattle.format.specs.Records.{object}
 use Rattle.records.proofs.Parts.{object-refused, object-good}
-use Rattle.records.proofs.Turns.{turn-none, turn-refused, turn-good}
+use Rattle.answer.specs.Turns.{turn-none, turn-refused, turn-good}
 use Rattle.records.proofs.objects.Statement.{statement}
 use Rattle.records.proofs.objects.Tie as tie
 

@@ -2,7 +2,7 @@
 use Rattle.format.specs.Records.{lengthIn}
 use mathlib.Core.Path.{sym, _∙_}
 use native.Mathlib.Omega.{arith}
-use Rattle.records.proofs.Laws.{head-limits, record-refused, record-body}
+use Rattle.records.proofs.Laws.{head-limits, head-objects, record-refused, record-body}
 use borrow.Author.Needs.{needs}
 use Rattle.records.proofs.record_at.Statement.{statement}
 use Rattle.records.proofs.record_at.Tie as tie
@@ -28,9 +28,10 @@ add-body c = search needs
 body-requires : tie.Need-body-requires
 unfolding lengthIn
 body-requires c κs =
-    let w = head-limits _ _ (sym (c .before .before .head-bad .ensures) ∙ c .before .if1 .left) .2 in
+    let g = sym (c .before .before .head-bad .ensures) ∙ c .before .if1 .left in
+    let w = head-limits _ _ g .2 in
     let v = c .two-at .ensures in
-    (omega arith, omega arith)
+    (omega arith, omega arith, omega arith, head-objects _ _ g)
 
 returns-2 : tie.Need-returns-2
 returns-2 c =

@@ -1,29 +1,37 @@
 -- `step` meets its contract, row by row.
 use mathlib.Core.Path.{sym, _∙_}
-use Rattle.records.proofs.Parts.{step-refused, step-repeats, step-state}
+use native.Mathlib.Omega.{arith}
+use Rattle.tables.specs.Tables.{ForKinds, ForTabled}
+use Rattle.records.proofs.Parts.{step-nine, step-fits, step-repeats, step-state}
 use borrow.Author.Needs.{needs}
 use Rattle.records.proofs.step.Statement.{statement}
 use Rattle.records.proofs.step.Tie as tie
 
-read-requires : tie.Need-read-requires
-read-requires c κs = search needs
-
-add-if1 : tie.Need-add-if1
-add-if1 c = search needs
-
-bad-requires : tie.Need-bad-requires
-bad-requires c κs = search needs
+step-refused-requires : tie.Need-step-refused-requires
+step-refused-requires c κs = search needs
 
 returns : tie.Need-returns
-returns c = sym (step-refused _ _ _ _ _ _ _ (c .before .before .read .ensures) (c .before .bad .ensures) (c .if1 .taken))
+unfolding ForKinds
+returns c =
+    let d = c .before in
+    sym (step-nine _ _ _ _ _ _ (d .step-refused .ensures _ (d .before .before .pre .2)) (c .if1 .taken))
+
+read-requires : tie.Need-read-requires
+unfolding ForKinds
+read-requires c κs =
+    let d = c .before in
+    let w = step-fits _ _ _ _ _ _ (d .step-refused .ensures _ (d .before .before .pre .2)) (c .if1 .left) in
+    (omega arith, omega arith)
 
 repeats-requires : tie.Need-repeats-requires
 repeats-requires c κs = search needs
 
 returns-2 : tie.Need-returns-2
+unfolding ForKinds
 returns-2 c =
-    let d = c .before .before in
-    sym (step-repeats _ _ _ _ _ _ _ _ (d .before .before .read .ensures) (d .before .bad .ensures) (d .if1 .left) (c .before .repeats .ensures) (c .if2 .taken))
+    let e = c .before .before in
+    let d = e .before .before in
+    sym (step-repeats _ _ _ _ _ _ _ _ (d .step-refused .ensures _ (d .before .before .pre .2)) (e .before .if1 .left) (e .read .ensures) (c .before .repeats .ensures) (c .if2 .taken))
 
 add-state : tie.Need-add-state
 add-state c = search needs
@@ -32,20 +40,22 @@ state-requires : tie.Need-state-requires
 state-requires c κs = search needs
 
 returns-3 : tie.Need-returns-3
+unfolding ForKinds ForTabled
 returns-3 c =
-    let e = c .before in
+    let f = c .before in
+    let e = f .before .before in
     let d = e .before .before in
-    c .state .ensures
-    ∙ sym (step-state _ _ _ _ _ _ _ _ (d .before .before .read .ensures) (d .before .bad .ensures) (d .if1 .left) (e .before .repeats .ensures) (e .if2 .left))
+    let p = d .before .before .pre in
+    c .state .ensures _ _ (p .3)
+    ∙ sym (step-state _ _ _ _ _ _ _ _ (d .step-refused .ensures _ (p .2)) (e .before .if1 .left) (e .read .ensures) (f .before .repeats .ensures) (f .if2 .left))
 
 pub step-spec : {M : Type 1} → statement M
 step-spec =
     tie.close
     (tie.spec
-    read-requires
-    add-if1
-    bad-requires
+    step-refused-requires
     returns
+    read-requires
     repeats-requires
     returns-2
     add-state

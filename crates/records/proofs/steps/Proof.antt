@@ -7,16 +7,16 @@ use Rattle.answer.specs.Walk.{walk}
 use Rattle.terms.specs.Schema.{schema, hall}
 use Rattle.format.specs.Records.{step}
 use Rattle.records.proofs.Parts.{step-within}
-use Rattle.records.proofs.Turns.{turn-none, turn-refused, turn-good}
+use Rattle.answer.specs.Turns.{turn-none, turn-refused, turn-good}
 use Rattle.records.proofs.steps.Statement.{statement}
 use Rattle.records.proofs.steps.Tie as tie
 
 abbrev Inv-loop : tie.InvT-loop
-Inv-loop book h objects end n from left₀ at₀ left at =
+Inv-loop book h objects kinds table end n from left₀ at₀ left at =
     (at ≤ 90000) × (walk (step (schema h book) (hall objects book) book end) left at ≡ walk (step (schema h book) (hall objects book) book end) n from)
 
 abbrev μ-loop : tie.MeasureT-loop
-μ-loop book h objects end n from left₀ at₀ left at = left
+μ-loop book h objects kinds table end n from left₀ at₀ left at = left
 
 loop-holds : tie.Need-loop-holds Inv-loop μ-loop
 loop-holds c = (c .before .pre .1, refl)

@@ -2,8 +2,9 @@
 use mathlib.Core.Path.{sym, _∙_}
 use native.Mathlib.Omega.{arith}
 use Rattle.states.proofs.Laws.{state-within}
-use Rattle.records.proofs.Turns.{is-good}
+use Rattle.answer.specs.Turns.{is-good}
 use Rattle.records.proofs.Parts.{trajectory-stays, trajectory-steps}
+use Rattle.tables.specs.Tables.{ForTabled}
 use borrow.Author.Needs.{needs}
 use Rattle.records.proofs.trajectory.Statement.{statement}
 use Rattle.records.proofs.trajectory.Tie as tie
@@ -15,22 +16,28 @@ is-refused-requires : tie.Need-is-refused-requires
 is-refused-requires c κs = search needs
 
 returns : tie.Need-returns
-returns c = trajectory-stays _ _ _ _ _ _ _ _ (c .before .before .state .ensures) (c .before .is-refused .ensures) (c .if1 .taken)
+unfolding ForTabled
+returns c =
+    let d = c .before .before in
+    trajectory-stays _ _ _ _ _ _ _ _ (d .state .ensures _ _ (d .before .before .pre .4)) (c .before .is-refused .ensures) (c .if1 .taken)
 
 value-of-requires : tie.Need-value-of-requires
 value-of-requires c κs = search needs
 
 steps-requires : tie.Need-steps-requires
+unfolding ForTabled
 steps-requires c κs =
-    let d = c .before .before .before .state .ensures in
+    let p = c .before .before .before .before .before .pre in
+    let d = c .before .before .before .state .ensures _ _ (p .4) in
     let w = state-within _ _ _ _ _ _ (sym d ∙ is-good _ (sym (c .before .before .is-refused .ensures) ∙ c .before .if1 .left)) in
     let v = c .value-of .ensures in
-    (omega arith, omega arith, omega arith)
+    (omega arith, omega arith, omega arith, p .3, p .4)
 
 returns-2 : tie.Need-returns-2
+unfolding ForTabled
 returns-2 c =
     let d = c .before .before in
-    trajectory-steps _ _ _ _ _ _ _ _ _ _ (d .before .before .state .ensures) (d .before .is-refused .ensures) (d .if1 .left) (c .before .value-of .ensures) (c .steps .ensures)
+    trajectory-steps _ _ _ _ _ _ _ _ _ _ (d .before .before .state .ensures _ _ (d .before .before .before .before .pre .4)) (d .before .is-refused .ensures) (d .if1 .left) (c .before .value-of .ensures) (c .steps .ensures)
 
 pub trajectory-spec : {M : Type 1} → statement M
 trajectory-spec =

@@ -1,17 +1,20 @@
--- `count_bad` meets its contract, by the count that it reads.
-use Rattle.states.proofs.Laws.{count-bad-by}
+-- `count_bad` meets its contract: the count is cut, or read whole.
+use Rattle.states.proofs.Laws.{count-cut, count-whole}
 use borrow.Author.Needs.{needs}
 use Rattle.states.proofs.count_bad.Statement.{statement}
 use Rattle.states.proofs.count_bad.Tie as tie
 
-add-result : tie.Need-add-result
-add-result c = search needs
-
-two-at-requires : tie.Need-two-at-requires
-two-at-requires c κs = search needs
+add-if1 : tie.Need-add-if1
+add-if1 c = search needs
 
 returns : tie.Need-returns
-returns c = count-bad-by _ _ _ _ (c .two-at .ensures)
+returns c = count-cut _ _ _ (c .if1 .taken)
+
+count-requires : tie.Need-count-requires
+count-requires c κs = search needs
+
+returns-2 : tie.Need-returns-2
+returns-2 c = count-whole _ _ _ _ (c .before .if1 .left) (c .count .ensures)
 
 pub count-bad-spec : {M : Type 1} → statement M
-count-bad-spec = tie.close (tie.spec add-result two-at-requires returns)
+count-bad-spec = tie.close (tie.spec add-if1 returns count-requires returns-2)

@@ -1,67 +1,19 @@
--- `facts` meets its contract: facts still left at the cursor answer as all of them do.
-use Prim.Native.Nat.{_+_, _*_, _≤_}
-use mathlib.Core.Path.{_≡_, sym, _∙_}
-use native.Mathlib.Omega.{arith}
+-- `facts` meets its contract, for its slice has bytes.
+use mathlib.Core.Path.{_∙_}
+use Rattle.tables.specs.Tables.{ForTabled}
+use Rattle.states.proofs.Keys.{keyed-all}
 use borrow.Author.Needs.{needs}
-use Rattle.terms.specs.Schema.{schema, hall}
-use Rattle.terms.specs.Facts.{noFact}
-use Rattle.format.specs.Limits.{factSize}
-use Rattle.format.specs.States.{facts}
-use Rattle.states.proofs.Laws.{facts-none, facts-refused, facts-good, facts-same}
 use Rattle.states.proofs.facts.Statement.{statement}
 use Rattle.states.proofs.facts.Tie as tie
 
-abbrev Inv-loop : tie.InvT-loop
-Inv-loop number book h t objects end n from c₀ c =
-    (c .at + factSize * c .left ≤ from + factSize * n)
-    × (facts number (schema h book) (hall objects t) t end (c .left) (c .last) (c .at) ≡ facts number (schema h book) (hall objects t) t end n noFact from)
+keyed-requires : tie.Need-keyed-requires
+keyed-requires c κs = search needs
 
-abbrev μ-loop : tie.MeasureT-loop
-μ-loop number book h t objects end n from c₀ c = c .left
-
-new-requires : tie.Need-new-requires Inv-loop μ-loop
-new-requires c κs = search needs
-
-loop-holds : tie.Need-loop-holds Inv-loop μ-loop
-loop-holds c = let e = c .new .ensures in (omega arith, facts-same _ _ _ _ _ _ _ _ _ _ _ (e .0) (e .1) (e .2))
-
-bad-requires : tie.Need-bad-requires Inv-loop μ-loop
-bad-requires c κs = search needs
-
-returns : tie.Need-returns Inv-loop μ-loop
-returns c =
-    let d = c .before .before in
-    sym (facts-refused _ _ _ _ _ _ _ _ (d .if1 .taken) (sym (c .before .bad .ensures) ∙ c .if2 .taken)) ∙ d .before .before .loop .inv .1
-
-next-requires : tie.Need-next-requires Inv-loop μ-loop
-next-requires c κs = search needs
-
-loop-less : tie.Need-loop-less Inv-loop μ-loop
-loop-less c = search needs
-
-loop-again : tie.Need-loop-again Inv-loop μ-loop
-loop-again c =
-    let d = c .before .before .before in
-    let e = c .next .ensures in
-    let g = sym (c .before .before .bad .ensures) ∙ c .before .if2 .left in (
-      omega arith,
-      facts-same _ _ _ _ _ _ _ _ _ _ _ (e .0) (e .1) (e .2) ∙ sym (facts-good _ _ _ _ _ _ _ _ (d .if1 .taken) g) ∙ d .before .before .loop .inv .1,
-    )
-
-returns-2 : tie.Need-returns-2 Inv-loop μ-loop
-returns-2 c = sym (facts-none _ _ _ _ _ _ _ _ (omega arith)) ∙ c .before .before .loop .inv .1
+returns : tie.Need-returns
+unfolding ForTabled
+returns c sch hl right =
+    let d = c .before in
+    c .keyed .ensures ∙ keyed-all sch hl _ _ _ (λ i. d .shared-slice-known .given i .fits) right _ _ _
 
 pub facts-spec : {M : Type 1} → statement M
-facts-spec =
-    tie.close
-    (tie.spec
-    Inv-loop
-    μ-loop
-    new-requires
-    loop-holds
-    bad-requires
-    returns
-    next-requires
-    loop-less
-    loop-again
-    returns-2)
+facts-spec = tie.close (tie.spec keyed-requires returns)

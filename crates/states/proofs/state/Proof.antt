@@ -2,6 +2,7 @@
 use mathlib.Core.Path.{sym, _∙_}
 use native.Mathlib.Omega.{arith}
 use Rattle.states.proofs.Laws.{count-within, state-refused, state-facts}
+use Rattle.tables.specs.Tables.{ForTabled}
 use borrow.Author.Needs.{needs}
 use Rattle.states.proofs.state.Statement.{statement}
 use Rattle.states.proofs.state.Tie as tie
@@ -10,10 +11,13 @@ count-bad-requires : tie.Need-count-bad-requires
 count-bad-requires c κs = search needs
 
 returns : tie.Need-returns
-returns c = sym (state-refused _ _ _ _ _ (sym (c .before .count-bad .ensures) ∙ c .if1 .taken))
+unfolding ForTabled
+returns c sch hl right = sym (state-refused _ _ _ _ _ (sym (c .before .count-bad .ensures) ∙ c .if1 .taken))
 
-two-at-requires : tie.Need-two-at-requires
-two-at-requires c κs = search needs
+count-requires : tie.Need-count-requires
+count-requires c κs =
+    let w = count-within _ _ _ (sym (c .before .count-bad .ensures) ∙ c .if1 .left) in
+    (omega arith, omega arith)
 
 cast-facts : tie.Need-cast-facts
 cast-facts c = search needs
@@ -24,13 +28,14 @@ add-facts c = search needs
 facts-requires : tie.Need-facts-requires
 facts-requires c κs =
     let w = count-within _ _ _ (sym (c .before .before .count-bad .ensures) ∙ c .before .if1 .left) in
-    let e = c .two-at .ensures in
+    let e = c .count .ensures in
     (omega arith, omega arith, omega arith)
 
 returns-2 : tie.Need-returns-2
-returns-2 c =
+unfolding ForTabled
+returns-2 c sch hl right =
     let d = c .before .before in
-    c .facts .ensures ∙ sym (state-facts _ _ _ _ _ _ (sym (d .before .count-bad .ensures) ∙ d .if1 .left) (c .before .two-at .ensures))
+    c .facts .ensures sch hl right ∙ sym (state-facts _ _ _ _ _ _ (sym (d .before .count-bad .ensures) ∙ d .if1 .left) (c .before .count .ensures))
 
 pub state-spec : {M : Type 1} → statement M
 state-spec =
@@ -38,7 +43,7 @@ state-spec =
     (tie.spec
     count-bad-requires
     returns
-    two-at-requires
+    count-requires
     cast-facts
     add-facts
     facts-requires

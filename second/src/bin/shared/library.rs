@@ -1,11 +1,13 @@
 //! The calls of the built static library, as safe functions over slices.
 
+use std::cell::Cell;
+
+use second::calls::Calls;
+
 #[link(name = "changeover", kind = "static")]
 extern "C" {
     fn changeover_look_over(book: *const u8, book_len: usize) -> u64;
-    #[cfg(feature = "learn")]
     fn changeover_learn(book: *const u8, book_len: usize, sheet: *mut u8, sheet_len: usize) -> u64;
-    #[cfg(feature = "check")]
     fn changeover_check(
         book: *const u8,
         book_len: usize,
@@ -14,7 +16,6 @@ extern "C" {
         end: *mut u8,
         end_len: usize,
     ) -> u64;
-    #[cfg(feature = "add")]
     fn changeover_add(
         book: *const u8,
         book_len: usize,
@@ -25,45 +26,62 @@ extern "C" {
     ) -> u64;
 }
 
-pub fn look_over(book: &[u8]) -> u64 {
-    // SAFETY: pointer and length are those of one slice, read only.
-    unsafe { changeover_look_over(book.as_ptr(), book.len()) }
+/// The built library. An empty slice is lent as NULL every second time.
+#[derive(Default)]
+pub struct Library {
+    empty: Cell<usize>,
 }
 
-#[cfg(feature = "learn")]
-pub fn learn(book: &[u8], sheet: &mut [u8]) -> u64 {
-    // SAFETY: pointers and lengths are those of two slices that do not overlap.
-    unsafe { changeover_learn(book.as_ptr(), book.len(), sheet.as_mut_ptr(), sheet.len()) }
-}
+impl Library {
+    /// How often NULL was lent.
+    #[allow(dead_code, reason = "not every bin tells it")]
+    pub fn nulls(&self) -> usize {
+        self.empty.get() / 2
+    }
 
-#[cfg(feature = "check")]
-pub fn check(book: &[u8], order: &[u8], end: &mut [u8]) -> u64 {
-    // SAFETY: pointers and lengths are those of three slices, and the one
-    // written overlaps no other.
-    unsafe {
-        changeover_check(
-            book.as_ptr(),
-            book.len(),
-            order.as_ptr(),
-            order.len(),
-            end.as_mut_ptr(),
-            end.len(),
-        )
+    fn as_null(&self, length: usize) -> bool {
+        if length > 0 {
+            return false;
+        }
+        self.empty.set(self.empty.get() + 1);
+        self.empty.get().is_multiple_of(2)
+    }
+
+    fn input(&self, bytes: &[u8]) -> *const u8 {
+        if self.as_null(bytes.len()) {
+            std::ptr::null()
+        } else {
+            bytes.as_ptr()
+        }
+    }
+
+    fn output(&self, bytes: &mut [u8]) -> *mut u8 {
+        if self.as_null(bytes.len()) {
+            std::ptr::null_mut()
+        } else {
+            bytes.as_mut_ptr()
+        }
     }
 }
 
-#[cfg(feature = "add")]
-pub fn add(book: &[u8], record: &[u8], out: &mut [u8]) -> u64 {
-    // SAFETY: pointers and lengths are those of three slices, and the one
-    // written overlaps no other.
-    unsafe {
-        changeover_add(
-            book.as_ptr(),
-            book.len(),
-            record.as_ptr(),
-            record.len(),
-            out.as_mut_ptr(),
-            out.len(),
-        )
+// SAFETY, of each call: pointer and length are those of one slice, or NULL and
+// 0; the slice written is borrowed alone, so it overlaps no other.
+impl Calls for Library {
+    fn look_over(&self, book: &[u8]) -> u64 {
+        unsafe { changeover_look_over(self.input(book), book.len()) }
+    }
+
+    fn learn(&self, book: &[u8], sheet: &mut [u8]) -> u64 {
+        unsafe { changeover_learn(self.input(book), book.len(), self.output(sheet), sheet.len()) }
+    }
+
+    fn check(&self, book: &[u8], order: &[u8], end: &mut [u8]) -> u64 {
+        let (book_at, order_at, end_at) = (self.input(book), self.input(order), self.output(end));
+        unsafe { changeover_check(book_at, book.len(), order_at, order.len(), end_at, end.len()) }
+    }
+
+    fn add(&self, book: &[u8], record: &[u8], out: &mut [u8]) -> u64 {
+        let (book_at, record_at, out_at) = (self.input(book), self.input(record), self.output(out));
+        unsafe { changeover_add(book_at, book.len(), record_at, record.len(), out_at, out.len()) }
     }
 }

@@ -1,5 +1,7 @@
-//! Medians of repeated calls, the two implementations in turn.
+//! Medians and least times of repeated calls, the two implementations in turn.
+//! On a machine with other work the least times are the steadier ones.
 
+use std::fmt;
 use std::hint::black_box;
 use std::time::{Duration, Instant};
 
@@ -8,7 +10,7 @@ pub struct Timing {
 }
 
 impl Timing {
-    /// Prints the median times of both and their ratio.
+    /// Prints the times of both and their ratios, for the median and the least.
     ///
     /// # Panics
     /// If the answers differ, for then the times are not of the same work.
@@ -26,13 +28,33 @@ impl Timing {
             ours.push(time);
             assert_eq!(library_answer, second_answer, "{call}: the answers differ");
         }
-        let (theirs, ours) = (median(theirs), median(ours));
+        let (theirs, ours) = (Times::of(theirs), Times::of(ours));
         println!(
-            "  {call:<20} library {:>9.2} µs, second {:>9.2} µs, ratio {:.2}",
-            micros(theirs),
-            micros(ours),
-            theirs.as_secs_f64() / ours.as_secs_f64().max(1e-9),
+            "  {call:<20} library {theirs} µs, second {ours} µs, ratio {:.2} ({:.2})",
+            theirs.median / ours.median,
+            theirs.least / ours.least,
         );
+    }
+}
+
+/// In microseconds.
+struct Times {
+    median: f64,
+    least: f64,
+}
+
+impl Times {
+    fn of(mut times: Vec<Duration>) -> Self {
+        times.sort_unstable();
+        // A clock too coarse must not bring a division by 0.
+        let micros = |time: Duration| time.as_secs_f64().max(1e-9) * 1e6;
+        Self { median: micros(times[times.len() / 2]), least: micros(times[0]) }
+    }
+}
+
+impl fmt::Display for Times {
+    fn fmt(&self, f: &mut fmt::Formatter<'_>) -> fmt::Result {
+        write!(f, "{:>7.1} ({:>6.1})", self.median, self.least)
     }
 }
 
@@ -40,13 +62,4 @@ fn timed(call: &mut impl FnMut() -> u64) -> (Duration, u64) {
     let started = Instant::now();
     let answer = black_box(call());
     (started.elapsed(), answer)
-}
-
-fn median(mut times: Vec<Duration>) -> Duration {
-    times.sort_unstable();
-    times[times.len() / 2]
-}
-
-fn micros(time: Duration) -> f64 {
-    time.as_secs_f64() * 1e6
 }

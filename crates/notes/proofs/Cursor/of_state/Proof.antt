@@ -1,8 +1,7 @@
 -- `notes::Cursor::of_state` meets its contract: the facts to come are those of the state.
+use Rattle.notes.proofs.Laws.{of-state-by}
 use native.Mathlib.Omega.{arith}
 use borrow.Author.Needs.{needs}
-use Rattle.format.specs.Decode.{stateAt}
-use Rattle.notes.specs.Notes.{rest}
 use Rattle.notes.proofs.Cursor.of_state.Statement.{statement}
 use Rattle.notes.proofs.Cursor.of_state.Tie as tie
 
@@ -13,8 +12,9 @@ two-at-requires : tie.Need-two-at-requires
 two-at-requires c κs = search needs
 
 returns : tie.Need-returns
-unfolding rest stateAt
-returns c = (rw (c .two-at .ensures), omega arith)
+returns c =
+    let p = c .before .before .pre in
+    of-state-by _ _ _ (c .two-at .ensures) (omega arith) (p .0) (p .1)
 
 pub of-state-spec : {M : Type 1} → statement M
 of-state-spec = tie.close (tie.spec add-t3 two-at-requires returns)

@@ -1,23 +1,30 @@
--- `FactCursor::bad` meets its contract, by the fact read and what is said of it.
-use Rattle.states.proofs.Laws.{fact-refused-by}
+-- `FactCursor::bad` meets its contract: the fact is cut, or read whole.
+use Rattle.states.proofs.Keys.{key-cut, key-refused-by}
 use borrow.Author.Needs.{needs}
 use Rattle.states.proofs.FactCursor.bad.Statement.{statement}
 use Rattle.states.proofs.FactCursor.bad.Tie as tie
 
+add-if1 : tie.Need-add-if1
+add-if1 c = search needs
+
+returns : tie.Need-returns
+returns c = key-cut _ _ _ _ _ (c .if1 .taken)
+
 read-requires : tie.Need-read-requires
 read-requires c κs = search needs
 
-add-result : tie.Need-add-result
-add-result c = search needs
+fact-bad-requires : tie.Need-fact-bad-requires
+fact-bad-requires c κs = search needs
 
-bad-requires : tie.Need-bad-requires
-bad-requires c κs = search needs
+key-requires : tie.Need-key-requires
+key-requires c κs = search needs
 
-precedes-requires : tie.Need-precedes-requires
-precedes-requires c κs = search needs
-
-returns : tie.Need-returns
-returns c = fact-refused-by _ _ _ _ _ _ _ _ _ (c .before .before .before .before .read .ensures) (c .before .bad .ensures) (c .precedes .ensures)
+returns-2 : tie.Need-returns-2
+returns-2 c =
+    let e = c .before .before in
+    let d = e .before in
+    key-refused-by _ _ _ _ _ _ _ _ (d .before .if1 .left) (d .read .ensures) (e .fact-bad .ensures) (c .before .key .ensures)
 
 pub bad-spec : {M : Type 1} → statement M
-bad-spec = tie.close (tie.spec read-requires add-result bad-requires precedes-requires returns)
+bad-spec =
+    tie.close (tie.spec add-if1 returns read-requires fact-bad-requires key-requires returns-2)

@@ -1,0 +1,68 @@
+-- Bounds of an answer's number and place, through rows in order and walks: what a caller needs to pack an answer into one number.
+use Prim.Native.Nat.{ℕ, zero, suc, _≤_}
+use mathlib.Core.Path.{_≡_, refl}
+use mathlib.Core.Bool.{Bool, true, false}
+use native.Mathlib.Omega.{arith}
+use Rattle.answer.specs.declared.Answer.{Answer}
+use Rattle.answer.specs.declared.Answer.the-variants.{Good, Refused}
+use Rattle.answer.specs.Answer.{_>>=_, refuse, number, place}
+use Rattle.answer.specs.Walk.{walk}
+
+-- numbers up to `most`, places up to `size`; what is good counts as a place
+unfoldable pub Bounded : ℕ → ℕ → Answer → Type 0
+Bounded most size (Good n) = n ≤ size
+Bounded most size (Refused k p) = (k ≤ most) × (p ≤ size)
+
+module _ (most size : ℕ) where
+  pub bounded-of : (a : Answer)
+      → ((n : ℕ) → a ≡ Good n → n ≤ size)
+      → ((k p : ℕ) → a ≡ Refused k p → (k ≤ most) × (p ≤ size))
+      → Bounded most size a
+  unfolding Bounded
+  bounded-of (Good n) f g = f n refl
+  bounded-of (Refused k p) f g = g k p refl
+
+  pub bounded-good : (n : ℕ) → n ≤ size → Bounded most size (Good n)
+  unfolding Bounded
+  bounded-good n h = h
+
+  pub bounded-then : (a : Answer) (k : ℕ → Answer)
+      → Bounded most size a
+      → ((n : ℕ) → a ≡ Good n → n ≤ size → Bounded most size (k n))
+      → Bounded most size (a >>= k)
+  unfolding Bounded _>>=_
+  bounded-then (Good n) k h f = f n refl h
+  bounded-then (Refused m p) k h f = h
+
+  pub bounded-row : (b : Bool) (n p : ℕ) (k : ℕ → Answer)
+      → n ≤ most
+      → p ≤ size
+      → (b ≡ false → Bounded most size (k 0))
+      → Bounded most size (refuse b n p >>= k)
+  unfolding Bounded _>>=_ refuse
+  bounded-row true n p k h i f = (h, i)
+  bounded-row false n p k h i f = f refl
+
+  pub bounded-walk : (item : ℕ → Answer)
+      → ((at : ℕ) → at ≤ size → Bounded most size (item at))
+      → (n at : ℕ)
+      → at ≤ size
+      → Bounded most size (walk item n at)
+  unfolding walk
+  bounded-walk item f zero at h = bounded-good at h
+  bounded-walk item f (suc n) at h = bounded-then _ _ (f at h) (λ next e i. bounded-walk item f n next i)
+
+  pub bounded-number : (a : Answer) → Bounded most size a → number a ≤ most
+  unfolding Bounded number
+  bounded-number (Good n) h = omega arith
+  bounded-number (Refused k p) h = h .0
+
+  pub bounded-place : (a : Answer) → Bounded most size a → place a ≤ size
+  unfolding Bounded place
+  bounded-place (Good n) h = h
+  bounded-place (Refused k p) h = h .1
+
+pub bounded-wider : (most size more : ℕ) (a : Answer) → size ≤ more → Bounded most size a → Bounded most more a
+unfolding Bounded
+bounded-wider most size more (Good n) l h = omega arith
+bounded-wider most size more (Refused k p) l h = (h .0, omega arith)

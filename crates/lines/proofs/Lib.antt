@@ -1,0 +1,3 @@
+-- What the proofs of the functions cite: digits, and text behind text.
+pub mod Decimal
+pub mod Text

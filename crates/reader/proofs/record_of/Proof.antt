@@ -1,0 +1,25 @@
+-- `record_of` meets its contract: past the greatest length it is row 6, and within it the record is `record_at`'s.
+use mathlib.Core.Path.{sym, _∙_}
+use borrow.Author.Needs.{needs}
+use borrow.Author.Tests.{ltb-false}
+use Rattle.answer.specs.Laws.{neither, refuse-met, refuse-unmet}
+use Rattle.reader.specs.Reader.{recordFrom}
+use Rattle.reader.proofs.record_of.Statement.{statement}
+use Rattle.reader.proofs.record_of.Tie as tie
+
+returns : tie.Need-returns
+unfolding recordFrom
+returns c = sym (refuse-met _ _ _ _ (c .if1 .taken))
+
+read-requires : tie.Need-read-requires
+read-requires c κs = search needs
+
+record-at-requires : tie.Need-record-at-requires
+record-at-requires c κs = let t = neither _ _ (c .before .if1 .left) in (ltb-false _ _ (t .0), ltb-false _ _ (t .1))
+
+returns-2 : tie.Need-returns-2
+unfolding recordFrom
+returns-2 c = rw (← c .before .read .ensures) (c .record-at .ensures ∙ sym (refuse-unmet _ _ _ _ (c .before .before .if1 .left)))
+
+pub record-of-spec : {M : Type 1} → statement M
+record-of-spec = tie.close (tie.spec returns read-requires record-at-requires returns-2)

@@ -1,0 +1,24 @@
+-- `rules_cli::shown` meets its contract.
+use borrow.Author.Tests.{le-leb, lt-leb}
+use Rattle.jobs.specs.Listing.{shown}
+use Rattle.terms.specs.Schema.{schema}
+use borrow.Author.Needs.{needs}
+use Rattle.rules_cli.proofs.shown.Statement.{statement}
+use Rattle.rules_cli.proofs.shown.Tie as tie
+
+relation-at-requires : tie.Need-relation-at-requires
+relation-at-requires c κs = search needs
+
+byte-at-requires : tie.Need-byte-at-requires
+byte-at-requires c κs = search needs
+
+returns : tie.Need-returns
+unfolding shown schema
+returns c = simp (← c .before .before .relation-at .ensures .0, ← c .before .byte-at .ensures, le-leb _ _ (c .if1 .taken))
+
+returns-2 : tie.Need-returns-2
+unfolding shown schema
+returns-2 c = simp (← c .before .before .relation-at .ensures .0, ← c .before .byte-at .ensures, lt-leb _ _ (c .if1 .left))
+
+pub shown-spec : {M : Type 1} → statement M
+shown-spec = tie.close (tie.spec relation-at-requires byte-at-requires returns returns-2)

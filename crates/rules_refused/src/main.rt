@@ -1,0 +1,3 @@
+fn main() {
+    rules_cli::run();
+}

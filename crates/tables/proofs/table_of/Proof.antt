@@ -1,0 +1,99 @@
+-- `table_of` meets its contract: the relations below r are in the table.
+use Prim.Native.Nat.{_+_, _-_, _≤_}
+use mathlib.Core.Path.{_≡_, refl}
+use native.Mathlib.Omega.{arith}
+use Rattle.terms.specs.Schema.{schema}
+use Rattle.tables.specs.Tables.{placeSet}
+use Rattle.tables.proofs.Turns.{RowsTo, rows-none, rows-turn}
+use Rattle.tables.proofs.Laws.{goes-on, rows-follow}
+use borrow.Author.Needs.{needs}
+use Rattle.tables.proofs.table_of.Statement.{statement}
+use Rattle.tables.proofs.table_of.Tie as tie
+
+abbrev Inv-loop : tie.InvT-loop
+Inv-loop book h kinds n t₀ r₀ t r = (1 ≤ r) × (r ≤ n + 1) × (n ≡ schema h book .relations)
+    × RowsTo (λ q. placeSet (schema h book) kinds (record { 0 = q }) 1) (λ q. placeSet (schema h book) kinds (record { 0 = q }) 2) r t
+
+abbrev μ-loop : tie.MeasureT-loop
+μ-loop book h kinds n t₀ r₀ t r = n + 1 - r
+
+cast-n : tie.Need-cast-n Inv-loop μ-loop
+cast-n c = search needs
+
+no-places-requires : tie.Need-no-places-requires Inv-loop μ-loop
+no-places-requires c κs = search needs
+
+loop-holds : tie.Need-loop-holds Inv-loop μ-loop
+unfolding schema
+loop-holds c = (omega arith, omega arith, refl, rows-none _ _ _ (c .no-places .ensures))
+
+cast-number : tie.Need-cast-number Inv-loop μ-loop
+cast-number c =
+    let l = c .before in
+    let o = goes-on (l .before .before .before .before .args .h .relations .count) (l .loop .r) (c .loop-test .taken) in
+    omega arith
+
+place-set-requires : tie.Need-place-set-requires Inv-loop μ-loop
+place-set-requires c κs = search needs
+
+place-set-requires-2 : tie.Need-place-set-requires-2 Inv-loop μ-loop
+place-set-requires-2 c κs = search needs
+
+store-place-requires : tie.Need-store-place-requires Inv-loop μ-loop
+store-place-requires c κs = search needs
+
+add-store-place : tie.Need-add-store-place Inv-loop μ-loop
+add-store-place c = search needs
+
+store-place-requires-2 : tie.Need-store-place-requires-2 Inv-loop μ-loop
+store-place-requires-2 c κs = search needs
+
+add-r : tie.Need-add-r Inv-loop μ-loop
+add-r c = search needs
+
+loop-less : tie.Need-loop-less Inv-loop μ-loop
+loop-less c =
+    let d = c .before .before .before .before .before .before in
+    let l = d .before in
+    let o = goes-on (l .before .before .before .before .args .h .relations .count) (l .loop .r) (d .loop-test .taken) in
+    omega arith
+
+loop-again : tie.Need-loop-again Inv-loop μ-loop
+loop-again c =
+    let g = c .before .before in
+    let f = g .before .before in
+    let d = f .before .before in
+    let l = d .before in
+    let i = l .loop .inv in
+    let o = goes-on (l .before .before .before .before .args .h .relations .count) (l .loop .r) (d .loop-test .taken) in (
+      omega arith,
+      omega arith,
+      i .2,
+      rows-turn _ _ _ _ _ _ _ _ (i .3) (i .0) (o .1) (f .before .place-set .ensures) (f .place-set2 .ensures) (g .store-place .ensures) (c .store-place2 .ensures),
+    )
+
+returns : tie.Need-returns Inv-loop μ-loop
+unfolding schema
+returns c =
+    let i = c .before .loop .inv in
+    rows-follow _ _ _ _ (i .1) (c .loop-test .left) (i .3)
+
+pub table-of-spec : {M : Type 1} → statement M
+table-of-spec =
+    tie.close
+    (tie.spec
+    Inv-loop
+    μ-loop
+    cast-n
+    no-places-requires
+    loop-holds
+    cast-number
+    place-set-requires
+    place-set-requires-2
+    store-place-requires
+    add-store-place
+    store-place-requires-2
+    add-r
+    loop-less
+    loop-again
+    returns)

@@ -1,0 +1,52 @@
+//! Writes generated cases of the four calls for the test of guard pages
+//! (tests/guard), with the answers of this implementation.
+//!
+//! `cases [seed] [count]` writes `count` cases of each call to standard output.
+//! A case is, numbers of four bytes with the low byte first:
+//! job (0 look over, 1 learn, 2 check, 3 add), length of the book, length of the
+//! order or record, length of the output to lend, number, place; then the book's
+//! bytes; then those of the order or record.
+
+use std::io::{self, BufWriter, Write};
+use std::process::ExitCode;
+
+use second::calls::{unpacked, Job, Second};
+use second::gen::stream::JobStream;
+
+fn main() -> ExitCode {
+    let mut arguments = std::env::args().skip(1).map(|argument| argument.parse::<u64>());
+    let mut next = |default| arguments.next().unwrap_or(Ok(default));
+    let (Ok(seed), Ok(count)) = (next(1), next(7_500)) else {
+        eprintln!("usage: cases [seed] [count]");
+        return ExitCode::from(2);
+    };
+    match write_cases(seed, count as usize) {
+        Ok(()) => ExitCode::SUCCESS,
+        Err(error) => {
+            eprintln!("cases: {error}");
+            ExitCode::FAILURE
+        }
+    }
+}
+
+fn write_cases(seed: u64, count: usize) -> io::Result<()> {
+    let mut out = BufWriter::new(io::stdout().lock());
+    for (code, job) in (0u32..).zip(Job::ALL) {
+        let stream = JobStream::new(job, seed);
+        for index in 0..count {
+            let case = stream.case(index);
+            let answer =
+                unpacked(job.run(&Second, &case.book, &case.other, &mut vec![0; case.output]));
+            let lengths = [case.book.len(), case.other.len(), case.output];
+            out.write_all(&code.to_le_bytes())?;
+            for length in lengths {
+                out.write_all(&(length as u32).to_le_bytes())?;
+            }
+            out.write_all(&answer.number.to_le_bytes())?;
+            out.write_all(&answer.place.to_le_bytes())?;
+            out.write_all(&case.book)?;
+            out.write_all(&case.other)?;
+        }
+    }
+    out.flush()
+}

@@ -1,0 +1,83 @@
+//! The four calls as every implementation has them: over bytes, with number and
+//! place packed into one answer.
+
+use crate::answer::Answer;
+use crate::{add, check, form, learn};
+
+pub trait Calls {
+    fn look_over(&self, book: &[u8]) -> u64;
+    fn learn(&self, book: &[u8], sheet: &mut [u8]) -> u64;
+    fn check(&self, book: &[u8], order: &[u8], end: &mut [u8]) -> u64;
+    fn add(&self, book: &[u8], record: &[u8], out: &mut [u8]) -> u64;
+}
+
+/// One of the four calls.
+#[derive(Clone, Copy, Debug, PartialEq, Eq, PartialOrd, Ord)]
+pub enum Job {
+    LookOver,
+    Learn,
+    Check,
+    Add,
+}
+
+impl Job {
+    pub const ALL: [Self; 4] = [Self::LookOver, Self::Learn, Self::Check, Self::Add];
+
+    #[must_use]
+    pub const fn name(self) -> &'static str {
+        match self {
+            Self::LookOver => "look_over",
+            Self::Learn => "learn",
+            Self::Check => "check",
+            Self::Add => "add",
+        }
+    }
+
+    /// The numbers that this call can answer with.
+    pub fn numbers(self) -> Vec<u32> {
+        match self {
+            Self::LookOver => (0..=10).collect(),
+            Self::Learn => (0..=13).collect(),
+            Self::Check => (0..=20).collect(),
+            Self::Add => (0..=10).chain([13]).collect(),
+        }
+    }
+
+    /// Runs this call. `other` is the order or the record, and `output` the
+    /// memory lent for what is written; a call that has none takes no notice.
+    pub fn run(self, calls: &impl Calls, book: &[u8], other: &[u8], output: &mut [u8]) -> u64 {
+        match self {
+            Self::LookOver => calls.look_over(book),
+            Self::Learn => calls.learn(book, output),
+            Self::Check => calls.check(book, other, output),
+            Self::Add => calls.add(book, other, output),
+        }
+    }
+}
+
+/// The number and the place of a packed answer; the bits between are dropped.
+#[must_use]
+pub const fn unpacked(packed: u64) -> Answer {
+    Answer { number: (packed >> 48) as u32, place: packed as u32 }
+}
+
+/// This implementation.
+pub struct Second;
+
+impl Calls for Second {
+    fn look_over(&self, book: &[u8]) -> u64 {
+        form::look_over(book).packed()
+    }
+
+    fn learn(&self, book: &[u8], sheet: &mut [u8]) -> u64 {
+        learn::learn(book, sheet).packed()
+    }
+
+    fn check(&self, book: &[u8], order: &[u8], end: &mut [u8]) -> u64 {
+        check::check(book, order, end).packed()
+    }
+
+    fn add(&self, book: &[u8], record: &[u8], out: &mut [u8]) -> u64 {
+        add::add(book, record, out).packed()
+    }
+}

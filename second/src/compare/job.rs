@@ -1,0 +1,31 @@
+//! One call, on the generated cases of its kind.
+
+use super::lent::Lent;
+use super::report::{compare_all, Compared};
+use super::{Difference, Run, Tally};
+use crate::calls::{unpacked, Job, Second};
+use crate::gen::stream::JobStream;
+
+/// Runs `other` on generated cases: it is given the book, the order or record,
+/// and the output, and returns the packed answer.
+pub fn job(
+    job: Job,
+    run: Run,
+    mut other: impl FnMut(&[u8], &[u8], &mut [u8]) -> u64,
+) -> Result<Tally, Box<Difference>> {
+    let stream = JobStream::new(job, run.seed);
+    compare_all(run, Tally::new(stream.labels()), |index| {
+        let case = stream.case(index);
+        let mut lent = Lent::new(case.output, index as u8);
+        let expected = unpacked(job.run(&Second, &case.book, &case.other, lent.ours()));
+        let packed = other(&case.book, &case.other, lent.theirs());
+        Compared {
+            label: case.label,
+            aimed: case.aimed,
+            expected,
+            packed,
+            lent: lent.difference(),
+            inputs: vec![("book", case.book), ("order or record", case.other)],
+        }
+    })
+}

@@ -1,0 +1,91 @@
+//! Books with an order to check, and a lent end sheet.
+
+use super::aim::{Aim, Label};
+use super::learning::good_book;
+use super::mixed::BookStream;
+use super::order::{self, Plan};
+use super::rng::Rng;
+use super::{order_faults, JobCase};
+use crate::answer::{Answer, Refusal};
+use crate::calls::Job;
+use crate::limits::END_SHEET_LENGTH;
+
+pub struct CheckStream {
+    books: BookStream,
+    aims: Vec<Aim<Plan>>,
+    seed: u64,
+}
+
+impl CheckStream {
+    #[must_use]
+    pub fn new(seed: u64) -> Self {
+        Self { books: BookStream::new(seed), aims: order_faults::aims(), seed }
+    }
+
+    /// Every aimed fault of an order, so that a tally can miss one.
+    #[must_use]
+    pub fn labels(&self) -> Vec<Label> {
+        self.aims.iter().map(|aim| aim.label).collect()
+    }
+
+    #[must_use]
+    pub fn case(&self, index: usize) -> JobCase {
+        let mut rng = Rng::of_case(self.seed ^ 0x5a5a, index);
+        let rng = &mut rng;
+        let case = |label, aimed, book, other, output| JobCase {
+            job: Job::Check,
+            label,
+            aimed,
+            book,
+            other,
+            output,
+        };
+        let (round, turn) = (index / 20, index % 20);
+        match turn {
+            // The order is for another book, which matters only if this one learns.
+            0..=1 => {
+                let damaged = self.books.of_number(((2 * round + turn) % 10 + 1) as u32, rng);
+                let order = order::draw(rng).order.bytes();
+                case(damaged.label, damaged.aimed, damaged.book, order, end_length(90, rng))
+            }
+            2..=3 => {
+                let (label, book) = good_book(rng);
+                let order = order::draw(rng).order.bytes();
+                case(label, None, book.bytes(), order, end_length(90, rng))
+            }
+            4..=12 => {
+                let aim = &self.aims[(9 * round + turn - 4) % self.aims.len()];
+                let (plan, order, answer) = aim.hit(rng, order::draw);
+                let output = end_length(95, rng);
+                // Row 13 stands before the order's rows.
+                let (label, aimed) = match output {
+                    END_SHEET_LENGTH => (aim.label, answer),
+                    _ => (
+                        Label { part: "order", what: "damaged, and 13 before" },
+                        Refusal::Output.at(0),
+                    ),
+                };
+                case(label, Some(aimed), plan.book.bytes(), order, output)
+            }
+            13 if round % 10 == 0 => {
+                let plan = order::at_the_limits();
+                let aimed = Some(Answer::success(plan.order.steps.len()));
+                let label = Label { part: "order", what: "at every limit" };
+                case(label, aimed, plan.book.bytes(), plan.order.bytes(), END_SHEET_LENGTH)
+            }
+            _ => {
+                let plan = order::draw(rng);
+                let label = Label { part: "order", what: "good" };
+                case(label, None, plan.book.bytes(), plan.order.bytes(), end_length(97, rng))
+            }
+        }
+    }
+}
+
+/// The right length in `percent` of 100 cases, else another one.
+fn end_length(percent: usize, rng: &mut Rng) -> usize {
+    if rng.chance(percent) {
+        return END_SHEET_LENGTH;
+    }
+    *rng.pick(&[0, 1, 511, 513, 1024]).expect("there are five")
+}

@@ -1,0 +1,95 @@
+//! The small hall of the paper and what is built from it.
+
+use crate::gen::{BookDraft, Fact, OrderDraft, RecordDraft, Step};
+use crate::limits::{END_SHEET_LENGTH, RULES_LENGTH, SET_LENGTH};
+
+/// Kind 1 is a bank, 2 a spot; relation 1 "bank at spot", 2 "spot clear"; move
+/// 1 rolls a bank from spot to spot. No record.
+pub fn unrecorded() -> BookDraft {
+    BookDraft {
+        kinds: 2,
+        relations: vec![[2, 1, 2, 0], [1, 2, 0, 0]],
+        moves: vec![[3, 1, 2, 2, 0, 0]],
+        records: Vec::new(),
+    }
+}
+
+/// The paper's one record: bank 1 rolls from spot 2 to spot 3.
+pub fn filed() -> RecordDraft {
+    RecordDraft {
+        objects: vec![1, 2, 2],
+        states: vec![vec![[1, 1, 2], [2, 3, 0]], vec![[1, 1, 3], [2, 2, 0]]],
+        steps: vec![[1, 1, 2, 3, 0]],
+    }
+}
+
+pub fn with(records: impl IntoIterator<Item = RecordDraft>) -> BookDraft {
+    BookDraft { records: records.into_iter().collect(), ..unrecorded() }
+}
+
+pub fn small_hall() -> BookDraft {
+    with([filed()])
+}
+
+/// The marked cases' hall has bank 1 and spots 2, 3, 4.
+pub fn order(start: &[Fact], goal: &[(u8, Fact)], steps: &[Step]) -> OrderDraft {
+    OrderDraft {
+        objects: vec![1, 2, 2, 2],
+        start: start.to_vec(),
+        goal: goal.to_vec(),
+        steps: steps.to_vec(),
+    }
+}
+
+/// Bank at 2, spots 3 and 4 clear.
+pub const START: [Fact; 3] = [[1, 1, 2], [2, 3, 0], [2, 4, 0]];
+/// The same with spot 2 clear as well.
+pub const START_2_CLEAR: [Fact; 4] = [[1, 1, 2], [2, 2, 0], [2, 3, 0], [2, 4, 0]];
+pub const AT_2: Fact = [1, 1, 2];
+pub const AT_4: Fact = [1, 1, 4];
+pub const ROLL_2_3: Step = [1, 1, 2, 3, 0];
+pub const ROLL_3_4: Step = [1, 1, 3, 4, 0];
+
+/// One relation and `moves` moves, all without places; the fact is `F`.
+pub fn one_fact(moves: usize, records: impl IntoIterator<Item = RecordDraft>) -> BookDraft {
+    BookDraft {
+        kinds: 0,
+        relations: vec![[0; 4]],
+        moves: vec![[0; 6]; moves],
+        records: records.into_iter().collect(),
+    }
+}
+
+/// Whether the fact of [`one_fact`] holds in each state, and the moves between.
+pub fn story(states: &[bool], moves: &[u8]) -> RecordDraft {
+    let state = |&holds: &bool| if holds { vec![[1, 0, 0]] } else { Vec::new() };
+    RecordDraft {
+        objects: Vec::new(),
+        states: states.iter().map(state).collect(),
+        steps: moves.iter().map(|&number| [number, 0, 0, 0, 0]).collect(),
+    }
+}
+
+/// A rule sheet: for each move four sets of bound facts by their numbers n.
+pub fn sheet(moves: &[[&[usize]; 4]]) -> Vec<u8> {
+    let mut bytes = vec![0; RULES_LENGTH * moves.len()];
+    for (part, sets) in bytes.chunks_exact_mut(RULES_LENGTH).zip(moves) {
+        for (set, numbers) in part.chunks_exact_mut(SET_LENGTH).zip(sets) {
+            for n in *numbers {
+                set[n / 8] |= 1 << (n % 8);
+            }
+        }
+    }
+    bytes
+}
+
+/// An end sheet with just these facts.
+pub fn end_sheet(facts: &[Fact]) -> Vec<u8> {
+    let mut bytes = vec![0; END_SHEET_LENGTH];
+    for &[relation, first, second] in facts {
+        let from_zero = |number: u8| usize::from(number.max(1)) - 1;
+        let n = 256 * from_zero(relation) + 16 * from_zero(first) + from_zero(second);
+        bytes[n / 8] |= 1 << (n % 8);
+    }
+    bytes
+}

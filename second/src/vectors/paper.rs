@@ -1,0 +1,171 @@
+//! The paper's marked cases, the examples of docs/DECISIONS.md, and the limits.
+
+use super::hall::{
+    end_sheet, filed, one_fact, order, sheet, small_hall, story, unrecorded, with, AT_2, AT_4,
+    ROLL_2_3, ROLL_3_4, START, START_2_CLEAR,
+};
+use super::Vector;
+use crate::answer::{Answer, Refusal};
+use crate::calls::Job::{self, Add, Check, Learn, LookOver};
+use crate::gen::order::at_the_limits;
+use crate::gen::{extreme, fullbook, BookDraft, RecordDraft, Rng};
+use crate::limits::{END_SHEET_LENGTH, FACT_LIMIT, RULES_LENGTH};
+
+/// A check with an end sheet of the right length.
+pub fn check(name: &str, book: Vec<u8>, order: Vec<u8>, answer: Answer) -> Vector {
+    Vector::new(name, &[Check], book, answer).order(order).output(END_SHEET_LENGTH)
+}
+
+/// The needs and effects that M1 lists, by the numbers of the bound facts: 1
+/// and 2 are "bank at spot" of parameters 1 2 and 1 3, 20 and 24 "spot clear"
+/// of parameters 2 and 3.
+pub fn m1_sheet() -> Vec<u8> {
+    sheet(&[[&[1, 24], &[2, 20], &[2, 20], &[1, 24]]])
+}
+
+pub fn marked() -> Vec<Vector> {
+    let hall = || small_hall().bytes();
+    let goal = [(1, AT_4)];
+    let rolls = [ROLL_2_3, ROLL_3_4];
+    let step_at = |order: &crate::gen::OrderDraft| order.layout().steps;
+    let twice = order(&START, &goal, &[[1, 1, 2, 2, 0]]);
+    let mut empty_end = filed();
+    empty_end.states[1].clear();
+    let bare = BookDraft { moves: vec![[0; 6]], ..BookDraft::default() };
+    let bare_order = crate::gen::OrderDraft { steps: vec![[1, 0, 0, 0, 0]], ..Default::default() };
+
+    let mut vectors = vec![
+        Vector::new("M1 looked over", &[LookOver], hall(), Answer::success(1)),
+        Vector::new("M1 learned", &[Learn], hall(), Answer::success(1))
+            .output(RULES_LENGTH)
+            .after(m1_sheet()),
+        check("M2", hall(), order(&START, &goal, &rolls).bytes(), Answer::success(2))
+            .after(end_sheet(&[AT_4, [2, 2, 0], [2, 3, 0]])),
+        check("M3", hall(), order(&START_2_CLEAR, &goal, &rolls).bytes(), Refusal::NeedUnmet.at(1)),
+        check("M4", hall(), order(&START, &[(1, AT_2)], &[]).bytes(), Answer::success(0))
+            .after(end_sheet(&START)),
+        check("M5", hall(), order(&START, &goal, &[]).bytes(), Refusal::GoalMissed.at(1)),
+        Vector::new("M6 learned", &[Learn], unrecorded().bytes(), Answer::success(0))
+            .output(RULES_LENGTH)
+            .after(sheet(&[[&[1, 2, 20, 24], &[1, 2, 20, 24], &[], &[]]])),
+        check("M7", bare.bytes(), bare_order.bytes(), Answer::success(1)).after(end_sheet(&[])),
+        check("M8", hall(), twice.bytes(), Refusal::PlanStep.at(step_at(&twice))),
+        Vector::new(
+            "M9",
+            &[Learn, Check],
+            with([filed(), empty_end.clone()]).bytes(),
+            Refusal::EffectConflict.at(1),
+        )
+        .order(order(&START, &goal, &rolls).bytes())
+        .output(END_SHEET_LENGTH),
+        Vector::new("M9 added", &[Add], hall(), Answer::success(80))
+            .record(empty_end.bytes())
+            .output(80)
+            .after(with([filed(), empty_end]).bytes()),
+        Vector::new("M10", &Job::ALL, hall()[..15].to_vec(), Refusal::Length.at(0)),
+        Vector::new("record added to M6", &[Add], unrecorded().bytes(), Answer::success(58))
+            .record(filed().bytes())
+            .output(58)
+            .after(hall()),
+    ];
+    for roll in [ROLL_2_3, ROLL_3_4, [1, 1, 4, 2, 0]] {
+        let name = format!("M6 roll {} {} {}", roll[1], roll[2], roll[3]);
+        let order = order(&START, &[], &[roll]).bytes();
+        vectors.push(check(&name, unrecorded().bytes(), order, Refusal::NeedUnmet.at(1)));
+    }
+    vectors
+}
+
+/// One example of each point in which the paper could be read two ways.
+pub fn decisions() -> Vec<Vector> {
+    let every = |name: &str, book: Vec<u8>, answer| Vector::new(name, &Job::ALL, book, answer);
+    let mut announced = unrecorded().bytes();
+    announced[7] = 1;
+    let mut cut_object = small_hall().bytes();
+    cut_object[33] = 4;
+    let mut two_faults = small_hall();
+    two_faults.records[0].steps[0][0] = 2;
+    two_faults.records[0].states[1].swap(0, 1);
+    let mut more = small_hall().bytes();
+    more[7] = 2;
+    let both_places = BookDraft {
+        kinds: 1,
+        relations: vec![[2, 1, 1, 0]],
+        moves: Vec::new(),
+        records: vec![RecordDraft {
+            objects: vec![1],
+            states: vec![vec![[1, 1, 1]]],
+            steps: Vec::new(),
+        }],
+    };
+    let twice = order(&START, &[(1, AT_2), (0, AT_2)], &[]);
+    vec![
+        every("D1 a record announced, no byte for it", announced, Refusal::Record.at(30)),
+        every("D2 the first object cut", cut_object, Refusal::Object.at(34)),
+        every("D3 faults in file order", two_faults.bytes(), Refusal::Step.at(45)),
+        every("D4 two records announced, one filed", more, Refusal::Record.at(58)),
+        Vector::new(
+            "D5 a fact of one object in both places",
+            &[LookOver],
+            both_places.bytes(),
+            Answer::success(0),
+        ),
+        check(
+            "D6 a goal fact with 1 and with 0",
+            small_hall().bytes(),
+            twice.bytes(),
+            Refusal::GoalEntry.at(twice.layout().goal + 4),
+        ),
+        // D9: a fact that holds after each step and was changed by one of them.
+        Vector::new(
+            "D9 held after and changed agree",
+            &[Learn],
+            one_fact(1, [story(&[false, true, true], &[1, 1])]).bytes(),
+            Answer::success(2),
+        )
+        .output(RULES_LENGTH)
+        .after(sheet(&[[&[], &[], &[0], &[]]])),
+    ]
+}
+
+/// Every count and length at its limit and one beyond it.
+pub fn limits() -> Vec<Vector> {
+    let mut vectors: Vec<Vector> = (0..extreme::COUNT)
+        .map(|index| {
+            let case = extreme::case(index, &mut Rng::new(index as u64));
+            let answer = case.aimed.expect("an extreme case is aimed");
+            let jobs: &[Job] = if answer.number == 0 { &[LookOver] } else { &Job::ALL };
+            Vector::new(format!("limit: {}", case.label.what), jobs, case.book, answer)
+        })
+        .collect();
+
+    // 16 · 16 facts of one relation fill the first 32 bytes of the end sheet.
+    let plan = at_the_limits();
+    let steps = plan.order.steps.len();
+    let mut full = end_sheet(&[]);
+    full[..FACT_LIMIT / 8].fill(0xff);
+    let name = "limit: order of 16 objects, 256 facts, 64 entries, 64 steps";
+    vectors.push(
+        check(name, plan.book.bytes(), plan.order.bytes(), Answer::success(steps)).after(full),
+    );
+
+    // A new length of 60,000 and of 60,001.
+    let record = RecordDraft { states: vec![Vec::new()], ..RecordDraft::default() };
+    for length in [60_000, 60_001] {
+        let book = fullbook::of_length(length - record.length(), &mut Rng::new(5));
+        let add = |answer| {
+            Vector::new(format!("limit: {length} bytes by adding"), &[Add], book.clone(), answer)
+                .record(record.bytes())
+                .output(length)
+        };
+        vectors.push(match length {
+            60_000 => {
+                let records = usize::from(book[7]) + 1;
+                let new = super::added(&book, &record.bytes(), records);
+                add(Answer::success(length)).after(new)
+            }
+            _ => add(Refusal::Length.at(0)),
+        });
+    }
+    vectors
+}

@@ -1,0 +1,232 @@
+//! Rows 11 to 13, 19 and 20, and learning and checking that succeed, worked out
+//! by hand on the small hall and on a hall with one fact.
+
+use super::hall::{
+    end_sheet, filed, one_fact, order, sheet, small_hall, story, with, AT_2, AT_4, ROLL_2_3,
+    ROLL_3_4, START, START_2_CLEAR,
+};
+use super::paper::{check, m1_sheet};
+use super::Vector;
+use crate::answer::{Answer, Refusal};
+use crate::calls::Job::{Add, Check, Learn};
+use crate::gen::{BookDraft, Fact, RecordDraft};
+use crate::limits::{END_SHEET_LENGTH, RULES_LENGTH};
+
+const CLEAR_4: Fact = [2, 4, 0];
+
+/// The filed record with a fourth object, a spot, and these states.
+fn four(before: &[Fact], after: &[Fact]) -> RecordDraft {
+    RecordDraft {
+        objects: vec![1, 2, 2, 2],
+        states: vec![before.to_vec(), after.to_vec()],
+        ..filed()
+    }
+}
+
+/// Rows 11 and 12, and books that learn.
+pub fn learning() -> Vec<Vector> {
+    let mut vectors = unbound_changes();
+    vectors.extend(conflicts());
+    vectors.extend(learned());
+    vectors
+}
+
+fn refused(name: &str, book: &BookDraft, answer: Answer) -> Vector {
+    Vector::new(name, &[Learn, Check], book.bytes(), answer)
+}
+
+fn unbound_changes() -> Vec<Vector> {
+    let (before, after) = ([AT_2, [2, 3, 0]], [[1, 1, 3], [2, 2, 0]]);
+    let appears = with([four(&before, &[after[0], after[1], CLEAR_4])]);
+    let vanishes = with([four(&[before[0], before[1], CLEAR_4], &after)]);
+    // A third relation of two banks: bound only where bank 1 fills both places.
+    let beside = |fact: Fact| {
+        let mut book = with([RecordDraft {
+            objects: vec![1, 2, 2, 1],
+            states: vec![before.to_vec(), vec![after[0], after[1], fact]],
+            ..filed()
+        }]);
+        book.relations.push([2, 1, 1, 0]);
+        book
+    };
+    let first_step = |book: &BookDraft, record: usize| book.layout().records[record].steps[0];
+    let later = with([filed(), appears.records[0].clone(), vanishes.records[0].clone()]);
+    let mut empty_end = filed();
+    empty_end.states[1].clear();
+    let conflict_too = with([filed(), empty_end, vanishes.records[0].clone()]);
+    let mut form_too = with([vanishes.records[0].clone(), filed()]);
+    form_too.records[1].steps[0] = [1, 1, 2, 2, 0];
+    vec![
+        refused("11: a fact of no parameter appears", &appears, {
+            Refusal::UnboundChange.at(first_step(&appears, 0))
+        }),
+        refused("11: a fact of no parameter vanishes", &vanishes, {
+            Refusal::UnboundChange.at(first_step(&vanishes, 0))
+        }),
+        refused("11: one object of two is no parameter", &beside([3, 1, 4]), {
+            Refusal::UnboundChange.at(first_step(&beside([3, 1, 4]), 0))
+        }),
+        Vector::new(
+            "11 not met: one parameter in both places",
+            &[Learn],
+            beside([3, 1, 1]).bytes(),
+            Answer::success(1),
+        )
+        .output(RULES_LENGTH)
+        .after(sheet(&[[&[1, 24], &[2, 20, 32], &[2, 20, 32], &[1, 24]]])),
+        refused("11: the first of two such steps", &later, {
+            Refusal::UnboundChange.at(first_step(&later, 1))
+        }),
+        refused("11 before 12", &conflict_too, {
+            Refusal::UnboundChange.at(first_step(&conflict_too, 2))
+        }),
+        refused("10 in a later record before 11", &form_too, {
+            Refusal::ObjectTwice.at(first_step(&form_too, 1))
+        }),
+    ]
+}
+
+fn conflicts() -> Vec<Vector> {
+    let conflict = |name, moves, records: &[RecordDraft], number| {
+        let book = one_fact(moves, records.to_vec());
+        refused(name, &book, Refusal::EffectConflict.at(number))
+    };
+    let (up, down) = (story(&[false, true], &[1]), story(&[true, false], &[1]));
+    let (stays, stays_out) = (story(&[true, true], &[1]), story(&[false, false], &[1]));
+    let of_move = |record: &RecordDraft, number: u8| {
+        let mut record = record.clone();
+        record.steps[0][0] = number;
+        record
+    };
+    vec![
+        conflict(
+            "12: changed to hold, and not held after another",
+            1,
+            &[up.clone(), stays_out.clone()],
+            1,
+        ),
+        conflict("12: the other record first", 1, &[stays_out.clone(), up.clone()], 1),
+        conflict(
+            "12: changed not to hold, and held after another",
+            1,
+            &[down.clone(), stays.clone()],
+            1,
+        ),
+        conflict("12: changed both ways", 1, &[up.clone(), down.clone()], 1),
+        conflict("12: in one record", 1, &[story(&[false, true, false], &[1, 1])], 1),
+        conflict(
+            "12: the smallest such move",
+            4,
+            &[
+                of_move(&up, 4),
+                of_move(&down, 4),
+                of_move(&up, 2),
+                of_move(&stays_out, 2),
+                stays.clone(),
+            ],
+            2,
+        ),
+        conflict("12 before 13 and 14", 1, &[up, stays_out], 1).order(vec![9]).output(7),
+    ]
+}
+
+fn learned() -> Vec<Vector> {
+    let learn = |name, book: &BookDraft, sheet: Vec<u8>| {
+        Vector::new(name, &[Learn], book.bytes(), Answer::success(book.steps()))
+            .output(sheet.len())
+            .after(sheet)
+    };
+    let renumbered = with([filed().renumbered(&[3, 1, 2])]);
+    // Spot 2 is clear before as well: clear of the first spot is needed no more.
+    let more = with([filed(), four(&START_2_CLEAR[..3], &[[1, 1, 3], [2, 2, 0]])]);
+    let both = one_fact(1, [story(&[true, true], &[1]), story(&[false, false], &[1])]);
+    let two_moves = one_fact(2, [story(&[false, true, false], &[1, 2])]);
+    vec![
+        learn("learned: spots renumbered", &renumbered, m1_sheet()),
+        learn(
+            "learned: a second record drops a need",
+            &more,
+            sheet(&[[&[1, 24], &[2], &[2, 20], &[1, 24]]]),
+        ),
+        learn("learned: held after is no effect", &both, sheet(&[[&[], &[], &[], &[]]])),
+        learn(
+            "learned: two moves",
+            &two_moves,
+            sheet(&[[&[], &[0], &[0], &[]], [&[0], &[], &[], &[0]]]),
+        ),
+        learn("learned: no moves", &one_fact(0, []), Vec::new()),
+        check(
+            "M3's plan passes by two records",
+            more.bytes(),
+            order(&START_2_CLEAR, &[(1, AT_4)], &[ROLL_2_3, ROLL_3_4]).bytes(),
+            Answer::success(2),
+        )
+        .after(end_sheet(&[AT_4, [2, 2, 0], [2, 3, 0]])),
+    ]
+}
+
+/// Row 13, for each call that is lent an output.
+pub fn outputs() -> Vec<Vector> {
+    let hall = || small_hall().bytes();
+    let plan = || order(&START, &[(1, AT_4)], &[ROLL_2_3, ROLL_3_4]).bytes();
+    let wrong = |name: String, job, book, length| {
+        Vector::new(name, &[job], book, Refusal::Output.at(0)).output(length)
+    };
+    let mut vectors = Vec::new();
+    for length in [0, RULES_LENGTH - 1, RULES_LENGTH + 1, 2 * RULES_LENGTH] {
+        vectors.push(wrong(format!("13: sheet of {length} bytes"), Learn, hall(), length));
+    }
+    vectors.push(wrong("13: a sheet for no moves".into(), Learn, one_fact(0, []).bytes(), 1));
+    for length in [0, END_SHEET_LENGTH - 1, END_SHEET_LENGTH + 1] {
+        let name = format!("13: end sheet of {length} bytes");
+        vectors.push(wrong(name, Check, hall(), length).order(plan()));
+    }
+    vectors.push(wrong("13 before 14".into(), Check, hall(), 511).order(vec![0; 15]));
+    let add = |name: &str, length| {
+        let book = with([]).bytes();
+        wrong(name.into(), Add, book, length).record(filed().bytes())
+    };
+    vectors.push(add("13: output one byte short", 57));
+    vectors.push(add("13: no output", 0));
+    let mut longer = add("added: bytes beyond the new book stay", 64).after(hall());
+    longer.answer = Answer::success(58);
+    vectors.push(longer);
+    vectors
+}
+
+/// Rows 19 and 20, and plans that pass.
+pub fn plans() -> Vec<Vector> {
+    let plan = |name, start: &[Fact], goal: &[(u8, Fact)], steps: &[_], answer| {
+        check(name, small_hall().bytes(), order(start, goal, steps).bytes(), answer)
+    };
+    let unmet = |step| Refusal::NeedUnmet.at(step);
+    let missed = |entry| Refusal::GoalMissed.at(entry);
+    let rolls = [ROLL_2_3, ROLL_3_4];
+    let at_4 = [(1, AT_4)];
+    let no_clear_3 = [AT_2, CLEAR_4];
+    let ended = [AT_4, [2, 2, 0], [2, 3, 0]];
+    vec![
+        plan("19: a fact needed to hold does not", &no_clear_3, &at_4, &rolls, unmet(1)),
+        plan("19: a fact needed not to hold does", &START_2_CLEAR, &at_4, &[ROLL_2_3], unmet(1)),
+        plan("19: at step 2", &START, &at_4, &[ROLL_2_3, [1, 1, 2, 4, 0]], unmet(2)),
+        plan("19 before 20", &START, &[(1, AT_2)], &[ROLL_2_3, ROLL_2_3], unmet(2)),
+        plan("20: an entry of 1", &START, &[(1, AT_2)], &rolls, missed(1)),
+        plan("20: an entry of 0", &START, &[(0, AT_4)], &rolls, missed(1)),
+        plan("20: the second entry", &START, &[(0, AT_2), (0, AT_4)], &rolls, missed(2)),
+        plan("20: the first of two", &START, &[(1, AT_2), (0, AT_4)], &rolls, missed(1)),
+        plan(
+            "passes: entries of 1 and 0",
+            &START,
+            &[(0, AT_2), (1, AT_4), (1, [2, 2, 0]), (0, CLEAR_4)],
+            &rolls,
+            Answer::success(2),
+        )
+        .after(end_sheet(&ended)),
+        plan("passes: no goal", &START, &[], &rolls, Answer::success(2)).after(end_sheet(&ended)),
+        plan("passes: there and back", &START, &[(1, AT_2)], &[ROLL_2_3, [1, 1, 3, 2, 0]], {
+            Answer::success(2)
+        })
+        .after(end_sheet(&START)),
+        plan("passes: nothing at all", &[], &[], &[], Answer::success(0)).after(end_sheet(&[])),
+    ]
+}

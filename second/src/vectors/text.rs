@@ -1,0 +1,116 @@
+//! The vectors' file: blocks of lines, one for each vector. tests/vectors/README.md
+//! describes it for a reader who has no Rust.
+
+use std::fmt::Write;
+
+use super::bytes::{decode, encode};
+use super::Vector;
+use crate::answer::Answer;
+use crate::calls::Job;
+
+const HEAD: &str = "\
+# Test vectors for the hall changeover calls. README.md says how to read them.
+# Written by `second/target/release/vectors print`.
+";
+const WIDTH: usize = 100;
+
+#[must_use]
+pub fn print(vectors: &[Vector]) -> String {
+    let mut text = String::from(HEAD);
+    for vector in vectors {
+        let jobs: Vec<&str> = vector.jobs.iter().map(|job| job.name()).collect();
+        write!(text, "\nvector {}\njobs {}\n", vector.name, jobs.join(" ")).expect(WRITES);
+        print_bytes(&mut text, "book", &vector.book);
+        print_bytes(&mut text, "order", &vector.order);
+        print_bytes(&mut text, "record", &vector.record);
+        if vector.output > 0 {
+            writeln!(text, "output {}", vector.output).expect(WRITES);
+        }
+        let Answer { number, place } = vector.answer;
+        writeln!(text, "number {number}\nplace {place}").expect(WRITES);
+        print_bytes(&mut text, "after", &vector.after);
+    }
+    text
+}
+
+const WRITES: &str = "a string takes all that is written";
+
+/// Parts on lines of at most [`WIDTH`], but for parts that are longer; a line
+/// that goes on begins with a blank.
+fn print_bytes(text: &mut String, key: &str, bytes: &[u8]) {
+    if bytes.is_empty() {
+        return;
+    }
+    text.push_str(key);
+    let mut column = key.len();
+    for part in encode(bytes) {
+        // A part that does not repeat may be broken between any two bytes.
+        let mut rest = part.as_str();
+        while !rest.is_empty() {
+            if column + 3 > WIDTH || (rest.contains('*') && column + 1 + rest.len() > WIDTH) {
+                text.push('\n');
+                column = 0;
+            }
+            let room = if rest.contains('*') { rest.len() } else { (WIDTH - column - 1) / 2 * 2 };
+            let (now, later) = rest.split_at(room.min(rest.len()));
+            text.push(' ');
+            text.push_str(now);
+            column += 1 + now.len();
+            rest = later;
+        }
+    }
+    text.push('\n');
+}
+
+/// The vectors of a file, or what is wrong with it.
+pub fn parse(text: &str) -> Result<Vec<Vector>, String> {
+    let mut vectors: Vec<Vector> = Vec::new();
+    for (key, value) in entries(text)? {
+        if key == "vector" {
+            let none = Answer { number: u32::MAX, place: 0 };
+            vectors.push(Vector::new(value, &[], Vec::new(), none));
+            continue;
+        }
+        let vector = vectors.last_mut().ok_or("a line before the first vector")?;
+        let in_vector = |error: String| format!("vector {}, {key}: {error}", vector.name);
+        let number = || value.parse::<u32>().map_err(|error| error.to_string());
+        match key.as_str() {
+            "jobs" => vector.jobs = parse_jobs(&value).map_err(in_vector)?,
+            "book" => vector.book = decode(&value).map_err(in_vector)?,
+            "order" => vector.order = decode(&value).map_err(in_vector)?,
+            "record" => vector.record = decode(&value).map_err(in_vector)?,
+            "output" => vector.output = number().map_err(in_vector)? as usize,
+            "number" => vector.answer.number = number().map_err(in_vector)?,
+            "place" => vector.answer.place = number().map_err(in_vector)?,
+            "after" => vector.after = decode(&value).map_err(in_vector)?,
+            _ => return Err(in_vector("no such key".into())),
+        }
+    }
+    match vectors.iter().find(|v| v.jobs.is_empty() || v.answer.number == u32::MAX) {
+        Some(vector) => Err(format!("vector {}: no jobs or no number", vector.name)),
+        None => Ok(vectors),
+    }
+}
+
+/// Each key with its value, the lines that go on put together.
+fn entries(text: &str) -> Result<Vec<(String, String)>, String> {
+    let mut entries: Vec<(String, String)> = Vec::new();
+    for line in text.lines().filter(|line| !line.trim().is_empty() && !line.starts_with('#')) {
+        if line.starts_with(' ') {
+            let (_, value) = entries.last_mut().ok_or("the first line goes on")?;
+            value.push_str(line);
+        } else {
+            let (key, value) = line.split_once(' ').unwrap_or((line, ""));
+            entries.push((key.into(), value.into()));
+        }
+    }
+    Ok(entries)
+}
+
+fn parse_jobs(value: &str) -> Result<Vec<Job>, String> {
+    let job = |name: &str| {
+        let found = Job::ALL.into_iter().find(|job| job.name() == name);
+        found.ok_or_else(|| format!("no such job: {name}"))
+    };
+    value.split_whitespace().map(job).collect()
+}

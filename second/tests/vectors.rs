@@ -1,0 +1,141 @@
+//! The test vectors: the file is the one that is printed, this implementation
+//! passes them, and wrong ones do not.
+
+use std::collections::BTreeSet;
+use std::sync::LazyLock;
+
+use second::calls::{unpacked, Calls, Job, Second};
+use second::vectors::{all, missing, parse, print, run, Vector};
+use second::{Answer, Refusal};
+
+static ALL: LazyLock<Vec<Vector>> = LazyLock::new(all);
+
+#[test]
+fn the_file_is_what_is_printed() {
+    let file = concat!(env!("CARGO_MANIFEST_DIR"), "/../tests/vectors/vectors.txt");
+    let text = std::fs::read_to_string(file).expect("the file is there");
+    assert!(text == print(&ALL), "run `vectors print` and store what it prints");
+    assert!(text.len() < 300_000, "{} bytes", text.len());
+}
+
+#[test]
+fn text_and_back() {
+    assert_eq!(parse(&print(&ALL)), Ok(ALL.clone()));
+    for wrong in [" book 00\n", "book 00\n", "vector a\njobs learn\n", "vector a\njobs fly\n"] {
+        assert!(parse(wrong).is_err(), "{wrong}");
+    }
+}
+
+#[test]
+fn names_differ_and_every_number_is_there() {
+    let names: BTreeSet<&str> = ALL.iter().map(|vector| vector.name.as_str()).collect();
+    assert_eq!(names.len(), ALL.len());
+    assert_eq!(missing(&ALL), Vec::new());
+}
+
+#[test]
+fn this_implementation_passes() {
+    let (_, failures) = run(&ALL, &Second);
+    let failures: Vec<String> = failures.iter().map(ToString::to_string).collect();
+    assert_eq!(failures, Vec::<String>::new());
+}
+
+/// This implementation with one answer changed, for one job.
+struct Wrong<F> {
+    job: Job,
+    change: F,
+}
+
+impl<F: Fn(Answer) -> Answer> Wrong<F> {
+    fn answer(&self, job: Job, packed: u64) -> u64 {
+        let answer = unpacked(packed);
+        if job == self.job { (self.change)(answer) } else { answer }.packed()
+    }
+}
+
+impl<F: Fn(Answer) -> Answer> Calls for Wrong<F> {
+    fn look_over(&self, book: &[u8]) -> u64 {
+        self.answer(Job::LookOver, Second.look_over(book))
+    }
+
+    fn learn(&self, book: &[u8], sheet: &mut [u8]) -> u64 {
+        self.answer(Job::Learn, Second.learn(book, sheet))
+    }
+
+    fn check(&self, book: &[u8], order: &[u8], end: &mut [u8]) -> u64 {
+        self.answer(Job::Check, Second.check(book, order, end))
+    }
+
+    fn add(&self, book: &[u8], record: &[u8], out: &mut [u8]) -> u64 {
+        self.answer(Job::Add, Second.add(book, record, out))
+    }
+}
+
+fn found(job: Job, change: impl Fn(Answer) -> Answer) -> bool {
+    !run(&ALL, &Wrong { job, change }).1.is_empty()
+}
+
+#[test]
+fn a_wrong_number_or_place_is_found() {
+    for job in Job::ALL {
+        for number in job.numbers() {
+            let of_number = |answer: Answer| answer.number == number;
+            let place = |answer: Answer| Answer {
+                place: answer.place + u32::from(of_number(answer)),
+                ..answer
+            };
+            let other = |answer: Answer| {
+                if of_number(answer) {
+                    Answer { number: number + 1, ..answer }
+                } else {
+                    answer
+                }
+            };
+            assert!(found(job, place) && found(job, other), "{} {number}", job.name());
+        }
+    }
+}
+
+/// The cheats that the paper names.
+#[test]
+fn a_cheat_is_found() {
+    let passes_all = |answer: Answer| match answer.number {
+        19 | 20 => Answer::success(1),
+        _ => answer,
+    };
+    let stops_at_1 = |answer: Answer| match answer.number {
+        19 => Refusal::NeedUnmet.at(1),
+        _ => answer,
+    };
+    assert!(found(Job::Check, passes_all) && found(Job::Check, stops_at_1));
+    assert!(found(Job::LookOver, |answer| if answer.number == 0 {
+        Answer::success(1)
+    } else {
+        answer
+    }));
+}
+
+#[test]
+fn a_written_byte_is_found() {
+    struct Writes;
+    impl Calls for Writes {
+        fn look_over(&self, book: &[u8]) -> u64 {
+            Second.look_over(book)
+        }
+        fn learn(&self, book: &[u8], sheet: &mut [u8]) -> u64 {
+            let answer = Second.learn(book, sheet);
+            // As if the sheet were cleared before its length is looked at.
+            if answer >> 48 == 13 {
+                sheet.fill(0);
+            }
+            answer
+        }
+        fn check(&self, book: &[u8], order: &[u8], end: &mut [u8]) -> u64 {
+            Second.check(book, order, end)
+        }
+        fn add(&self, book: &[u8], record: &[u8], out: &mut [u8]) -> u64 {
+            Second.add(book, record, out)
+        }
+    }
+    assert!(!run(&ALL, &Writes).1.is_empty());
+}

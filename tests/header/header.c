@@ -1,0 +1,95 @@
+/*
+ * The header's own functions, and that each call links. The file is C11 and
+ * C++17 at once; it is built as both.
+ */
+#include "changeover.h"
+
+#include <stdio.h>
+#include <string.h>
+
+static int failed;
+
+static void expect(int good, const char *what)
+{
+    if (good)
+        return;
+    printf("wrong: %s\n", what);
+    failed = 1;
+}
+
+static void test_answers(void)
+{
+    uint64_t answer = (uint64_t)CHANGEOVER_GOAL_MISSED << 48 | 0xfffffffeu;
+
+    expect(changeover_number(answer) == 20, "number");
+    expect(changeover_place(answer) == 0xfffffffeu, "place");
+    expect(!changeover_ok(answer), "a refusal is not ok");
+    expect(changeover_ok(4096), "success is ok whatever its place");
+}
+
+static void test_sheet_len(void)
+{
+    uint8_t book[16] = {0};
+
+    expect(changeover_sheet_len(book, 15) == 0, "too short a book");
+    expect(changeover_sheet_len(NULL, 0) == 0, "no book");
+    expect(changeover_sheet_len(book, 16) == 0, "no moves");
+    book[5] = 32;
+    expect(changeover_sheet_len(book, 16) == CHANGEOVER_SHEET_MAX, "32 moves");
+    book[5] = 33;
+    expect(changeover_sheet_len(book, 16) == 0, "33 moves");
+    book[5] = 1;
+    book[4] = 1;
+    expect(changeover_sheet_len(book, 16) == 0, "257 moves");
+}
+
+/* Each bit alone, so that only the right numbers find it. */
+static void test_sets(void)
+{
+    uint8_t sheet[2 * CHANGEOVER_RULES_LEN] = {0}, end[CHANGEOVER_END_LEN] = {0};
+
+    sheet[128 + 2 * 32 + 3] = 1; /* move 2, added, n = 24: relation 2, parameter 3 */
+    expect(changeover_in_rules(sheet, 2, CHANGEOVER_ADDED, 2, 3, 0), "relation of one place");
+    expect(!changeover_in_rules(sheet, 1, CHANGEOVER_ADDED, 2, 3, 0), "another move");
+    expect(!changeover_in_rules(sheet, 2, CHANGEOVER_REMOVED, 2, 3, 0), "another set");
+    expect(!changeover_in_rules(sheet, 2, CHANGEOVER_ADDED, 2, 2, 0), "another parameter");
+    sheet[255] = 0x80; /* move 2, removed, n = 255 */
+    expect(changeover_in_rules(sheet, 2, CHANGEOVER_REMOVED, 16, 4, 4), "the last bound fact");
+    sheet[0] = 1; /* move 1, needed to hold, n = 0 */
+    expect(changeover_in_rules(sheet, 1, CHANGEOVER_NEEDED_TO_HOLD, 1, 0, 0), "no places");
+
+    end[511] = 0x80;
+    expect(changeover_in_end(end, 16, 16, 16), "the last fact");
+    expect(!changeover_in_end(end, 16, 16, 15), "another object");
+    end[32 + 4] = 1; /* fact 256 + 32: relation 2, object 3 */
+    expect(changeover_in_end(end, 2, 3, 0), "fact of one place");
+}
+
+/* The shortest book: no kinds, relations, moves or records. */
+static void test_calls(void)
+{
+    static const uint8_t book[16] = {0, 0, 0, 0, 0, 0, 0, 0, 0, 16, 0, 16, 0, 16, 0, 16};
+    static const uint8_t order[16] = {0, 0, 0, 0, 0, 0, 0, 0, 0, 16, 0, 16, 0, 16, 0, 16};
+    static const uint8_t record[6] = {0, 0, 0, 6, 0, 0};
+    uint8_t end[CHANGEOVER_END_LEN], out[22];
+
+    expect(changeover_look_over(book, sizeof book) == 0, "look over");
+    expect(changeover_learn(book, sizeof book, NULL, 0) == 0, "learn");
+    memset(end, 0xff, sizeof end);
+    expect(changeover_check(book, sizeof book, order, sizeof order, end, sizeof end) == 0, "check");
+    expect(end[0] == 0 && memcmp(end, end + 1, sizeof end - 1) == 0, "end sheet");
+    expect(changeover_add(book, sizeof book, record, sizeof record, out, sizeof out) == 22, "add");
+    expect(out[7] == 1 && out[15] == 22, "record count and end renewed");
+    expect(changeover_number(changeover_add(book, sizeof book, NULL, 0, NULL, 0)) ==
+               CHANGEOVER_RECORD,
+           "no record");
+}
+
+int main(void)
+{
+    test_answers();
+    test_sheet_len();
+    test_sets();
+    test_calls();
+    return failed;
+}
