@@ -27,14 +27,15 @@
  *    4   relation: count, kind or unused byte wrong        its offset
  *    5   move: likewise                                    its offset
  *    6   record head cut, over a limit, length under 4 or  the record's offset
- *        past the end; bytes left in a record              the record's offset
- *        bytes left after the last record                  first such byte
+ *        past the end
  *    7   object cut, or no such kind                       its offset
  *    8   state: count cut or over 256; fact cut, wrong or  offset of the count
  *        out of order                                      or the fact
  *    9   step cut; no such move; an object wrong in number its offset
  *        or kind
  *   10   step with an object twice                         its offset
+ *    6   bytes left in a record                            the record's offset
+ *    6   bytes left after the last record                  first such byte
  *   11   a changed fact is no bound fact of its step       first such step's
  *                                                          offset
  *   12   a bound fact was changed to one value, and after  smallest such move

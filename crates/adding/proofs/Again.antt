@@ -10,38 +10,28 @@ use lib.Dec.{ltb}
 use lib.ListN.{length}
 use Rattle.answer.specs.declared.Answer.{Answer}
 use Rattle.answer.specs.declared.Answer.the-variants.{Good}
-use Rattle.answer.specs.Laws.{passed, parted, neither, refuse-unmet, bind-good}
-use Rattle.answer.specs.Walk.{walk}
+use Rattle.truth.specs.Bools.{neither, neither-in}
+use Rattle.answer.specs.Laws.{passed, parted, refuse-unmet, bind-good}
+use Rattle.answer.specs.Walk.{walk-again}
 use Rattle.input.specs.Bytes.{byteAt, two}
 use Rattle.terms.specs.declared.Fact.{Fact}
 use Rattle.terms.specs.declared.Sections.{Sections}
 use Rattle.terms.specs.Schema.{Schema, Hall, schema, hall}
 use Rattle.terms.specs.Facts.{factAt, factBad, precedes, noFact}
 use Rattle.terms.specs.Steps.{stepAt}
-use Rattle.format.specs.Limits.{headerSize, headSize, factSize, stepSize, maxObjects}
+use Rattle.limits.specs.Limits.{headerSize, headSize, factSize, stepSize, maxObjects}
 use Rattle.format.specs.States.{cut, countBad, factRefused, facts, state}
-use Rattle.format.specs.Records.{objectsIn, stepsIn, lengthIn, headBad, object, step, objectsOf, trajectory, body, recordAt}
-use Rattle.states.proofs.Laws.{fact-within, count-within, state-end}
+use Rattle.format.specs.Records.{objectsIn, stepsIn, lengthIn, headBad, object, step, objectsOf, trajectory, body, recordAt, stepRefused, closed}
+use Rattle.format.proofs.States.{fact-within, count-within, state-end}
 use Rattle.answer.specs.Turns.{walk-within}
-use Rattle.records.proofs.Parts.{object-end, objects-end}
-use Rattle.records.proofs.Laws.{head-limits, record-within}
+use Rattle.format.proofs.Records.{object-end, objects-end, head-limits, record-within}
 use Rattle.adding.specs.ReadBack.{SchemaKept}
 use Rattle.adding.proofs.Reading.{two-same, fact-same, step-same, head-same}
-use Rattle.adding.proofs.Suits.{both-unmet, HallKept, fact-again, step-right-again}
+use Rattle.adding.proofs.Suits.{HallKept, fact-again, step-right-again}
 
--- a walk whose items are good again
-pub walk-again : (f g : ℕ → Answer) (low : ℕ)
-    → ((at next : ℕ) → low ≤ at → f at ≡ Good next → (g at ≡ Good next) × (low ≤ next))
-    → (n at last : ℕ)
-    → low ≤ at
-    → walk f n at ≡ Good last
-    → walk g n at ≡ Good last
-unfolding walk
-walk-again f g low k zero at last l e = e
-walk-again f g low k (suc n) at last l e =
-    let p = parted _ _ _ e in
-    let q = k at (p .0) l (p .1) in
-    bind-good _ _ _ (q .0) ∙ walk-again f g low k n (p .0) last (q .1) (p .2)
+-- what is good behind the header is good again, and ends there too
+abbrev pub Again : (ℕ → Answer) → (ℕ → Answer) → Type 0
+Again f g = (at next : ℕ) → headerSize ≤ at → f at ≡ Good next → (g at ≡ Good next) × (headerSize ≤ next)
 
 module _ (sch sch′ : Schema) (k : SchemaKept sch sch′) (hl hl′ : Hall) (o : HallKept hl hl′) where
   module _ (s t : List ℕ) (same : (i : ℕ) → headerSize ≤ i → i < length s → byteAt t i ≡ byteAt s i) (end : ℕ) (within : end ≤ length s) where
@@ -55,7 +45,7 @@ module _ (sch sch′ : Schema) (k : SchemaKept sch sch′) (hl hl′ : Hall) (o 
         let i : factAt t at ≡ factAt s at = fact-same s t same at l (omega arith) in
         let p = neither (cut end at factSize || factBad sch hl (factAt s at)) (not (precedes last (factAt s at))) e in
         let q = neither (cut end at factSize) (factBad sch hl (factAt s at)) (p .0) in
-        rw i (both-unmet _ _ (both-unmet _ _ (q .0) (fact-again sch sch′ k hl hl′ o (factAt s at) (q .1))) (p .1))
+        rw i (neither-in _ _ (neither-in _ _ (q .0) (fact-again sch sch′ k hl hl′ o (factAt s at) (q .1))) (p .1))
 
     facts-again : (n : ℕ) (last : Fact) (at next : ℕ)
         → headerSize ≤ at
@@ -69,10 +59,7 @@ module _ (sch sch′ : Schema) (k : SchemaKept sch sch′) (hl hl′ : Hall) (o 
         refuse-unmet _ _ _ _ (fact-refused-again last at l (p .0))
         ∙ rw (fact-same s t same at l (omega arith)) (facts-again n (factAt s at) (at + factSize) next (omega arith) (p .1))
 
-    state-again : (at next : ℕ)
-        → headerSize ≤ at
-        → state sch hl s end at ≡ Good next
-        → (state sch′ hl′ t end at ≡ Good next) × (headerSize ≤ next)
+    state-again : Again (state sch hl s end) (state sch′ hl′ t end)
     unfolding state countBad
     state-again at next l e =
         let p = passed _ _ _ _ _ e in
@@ -83,11 +70,8 @@ module _ (sch sch′ : Schema) (k : SchemaKept sch sch′) (hl hl′ : Hall) (o 
           omega arith,
         )
 
-    step-again : (at next : ℕ)
-        → headerSize ≤ at
-        → step sch hl s end at ≡ Good next
-        → (step sch′ hl′ t end at ≡ Good next) × (headerSize ≤ next)
-    unfolding step cut
+    step-again : Again (step sch hl s end) (step sch′ hl′ t end)
+    unfolding step stepRefused cut
     step-again at next l e =
         let p = passed _ _ _ _ _ e in
         let a = neither _ _ (p .0) in
@@ -111,12 +95,7 @@ module _ (sch sch′ : Schema) (k : SchemaKept sch sch′) (hl hl′ : Hall) (o 
         bind-good _ _ _ (z .0) ∙ walk-again _ _ headerSize step-again n (p .0) last (z .1) (p .2)
 
 module _ (s t : List ℕ) (longer : length s ≤ length t) (same : (i : ℕ) → headerSize ≤ i → i < length s → byteAt t i ≡ byteAt s i) where
-  object-kind-again : (kinds end : ℕ)
-      → end ≤ length s
-      → (at next : ℕ)
-      → headerSize ≤ at
-      → object kinds s end at ≡ Good next
-      → (object kinds t end at ≡ Good next) × (headerSize ≤ next)
+  object-kind-again : (kinds end : ℕ) → end ≤ length s → Again (object kinds s end) (object kinds t end)
   unfolding object
   object-kind-again kinds end within at next l e =
       let p = passed _ _ _ _ _ e in
@@ -136,7 +115,7 @@ module _ (s t : List ℕ) (longer : length s ≤ length t) (same : (i : ℕ) →
       let b = neither _ _ (a .0) in
       let c = neither _ _ (b .0) in
       let d = neither (ltb (length s) (at + headSize)) (ltb maxObjects (byteAt s at)) (c .0) in
-      rw (x, y, i) (both-unmet _ _ (both-unmet _ _ (both-unmet _ _ (both-unmet _ _ u (d .1)) (c .1)) (b .1)) v)
+      rw (x, y, i) (neither-in _ _ (neither-in _ _ (neither-in _ _ (neither-in _ _ u (d .1)) (c .1)) (b .1)) v)
 
   module _ (h : Sections) (k : SchemaKept (schema h s) (schema h t)) where
     hall-kept : (at end : ℕ) → headerSize ≤ at → at + headSize + objectsIn s at ≤ length s → HallKept (hall (objectsOf s at) s) (hall (objectsOf s at) t)
@@ -152,7 +131,7 @@ module _ (s t : List ℕ) (longer : length s ≤ length t) (same : (i : ℕ) →
         → stepsIn t at ≡ stepsIn s at
         → body h s at end ≡ Good next
         → body h t at end ≡ Good next
-    unfolding body
+    unfolding body closed
     body-again at end next l low within x y z e =
         let b = parted _ _ _ e in
         let c = parted _ _ _ (b .2) in
@@ -165,7 +144,7 @@ module _ (s t : List ℕ) (longer : length s ≤ length t) (same : (i : ℕ) →
         ∙ c .2)
 
     -- a record of good form, under a schema that says the same
-    pub record-again : (at next : ℕ) → headerSize ≤ at → recordAt h s at ≡ Good next → (recordAt h t at ≡ Good next) × (headerSize ≤ next)
+    pub record-again : Again (recordAt h s) (recordAt h t)
     unfolding recordAt objectsOf
     record-again at next l e =
         let r = record-within h s at next e in

@@ -4,7 +4,7 @@ use mathlib.Core.Path.{_≡_, refl}
 use mathlib.Core.List.{List, [], _∷_}
 use lib.ListN.{replicate}
 use Rattle.answer.specs.declared.Answer.the-variants.{Good, Refused}
-use Rattle.answer.specs.Answer.{_>>=_, refuse}
+use Rattle.answer.specs.Answer.{_>>=_, refuse, kept}
 use Rattle.answer.specs.Walk.{walk}
 use Rattle.input.specs.Bytes.{byteAt, two}
 use Rattle.terms.specs.Sections.{sectionsOf}
@@ -13,10 +13,10 @@ use Rattle.terms.specs.Facts.{factAt, factBad, precedes, noFact}
 use Rattle.terms.specs.Steps.{objectOf, stepAt, argumentBad, stepBad, samePair, repeats}
 use Rattle.format.specs.Header.{lengthBad, countsBad, offsetsBad, kindBad, relationBad, moveBad, relation, move, sections}
 use Rattle.format.specs.States.{cut, countBad, factRefused, facts, state}
-use Rattle.format.specs.Records.{objectsIn, stepsIn, lengthIn, headBad, object, step, objectsOf, trajectory, body, recordAt}
-use Rattle.format.specs.LookOver.{stepTotal, lookOverBy, lookOver}
-use Rattle.jobs.specs.Learn.{kept}
-use Rattle.jobs.specs.Add.{twoBytes, added, add, addBytes}
+use Rattle.format.specs.Records.{objectsIn, stepsIn, lengthIn, headBad, object, stepRefused, step, objectsOf, trajectory, closed, body, recordAt}
+use Rattle.format.specs.LookOver.{stepTotal, allRecords, lookOverBy, lookOver}
+use Rattle.output.specs.Written.{twoBytes}
+use Rattle.jobs.specs.Add.{added, add, addBytes}
 
 -- M6, and the record that it leaves out
 abbrev bare : List ℕ
@@ -45,5 +45,5 @@ pub cases : (add bare rolled 59 ≡ Good 58)
     × (add bare rolled 57 ≡ Refused 13 0)
     × (add bare (0x03 ∷ 0x01 ∷ []) 58 ≡ Refused 6 30)
     × (addBytes bare rolled (replicate 59 0xff) ≡ filled)
-unfolding _>>=_ refuse walk byteAt two sectionsOf numberBad relationAt moveAt schema hall kindSuits objectBad factAt factBad precedes noFact objectOf stepAt argumentBad stepBad samePair repeats lengthBad countsBad offsetsBad kindBad relationBad moveBad relation move sections cut countBad factRefused facts state objectsIn stepsIn lengthIn headBad object step objectsOf trajectory body recordAt stepTotal lookOverBy lookOver kept twoBytes added add addBytes
+unfolding _>>=_ refuse walk byteAt two sectionsOf numberBad relationAt moveAt schema hall kindSuits objectBad factAt factBad precedes noFact objectOf stepAt argumentBad stepBad samePair repeats lengthBad countsBad offsetsBad kindBad relationBad moveBad relation move sections cut countBad factRefused facts state objectsIn stepsIn lengthIn headBad object stepRefused step objectsOf trajectory closed body recordAt stepTotal allRecords lookOverBy lookOver kept twoBytes added add addBytes
 cases = (refl, refl, refl, refl, refl)

@@ -7,10 +7,10 @@ use lib.ListN.{length, take, drop, length-append, length-drop}
 use lib.Seq.{take-append-le, take-append-add, drop-append-add, drop-append-le, drop-drop, length-take-le}
 use Rattle.input.specs.Bytes.{two}
 use Rattle.terms.specs.Sections.{sectionsOf}
-use Rattle.format.specs.Limits.{headerSize}
-use Rattle.jobs.specs.Add.{twoBytes, added}
-use Rattle.adding.specs.Written.{written}
-use Rattle.adding.proofs.Written.{front-written, behind-written, part-written, length-written}
+use Rattle.limits.specs.Limits.{headerSize}
+use Rattle.jobs.specs.Add.{added}
+use Rattle.output.specs.Written.{written, twoBytes}
+use Rattle.output.proofs.Written.{front-written, behind-written, part-written, length-written}
 
 pub length-two : (n : ℕ) → length (twoBytes n) ≡ 2
 unfolding twoBytes

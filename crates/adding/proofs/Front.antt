@@ -1,89 +1,45 @@
 -- Rows 1 to 5 of the new book, where the old one is of good form: only the record count can be refused.
-use Prim.Native.Nat.{ℕ, zero, suc, _+_, _*_, _≤_, _<_}
-use mathlib.Core.Path.{_≡_, refl, ap, _∙_}
-use mathlib.Core.Bool.{Bool, true, false}
+use Prim.Native.Nat.{ℕ, _+_, _*_, _≤_, _<_}
+use mathlib.Core.Path.{_≡_, _∙_}
+use mathlib.Core.Bool.{false}
 use mathlib.Core.List.{List}
-use native.Mathlib.Nat.{add-zero, mul-zero, mul-suc}
 use native.Mathlib.Omega.{arith}
 use borrow.Author.Tests.{le-ltb, eq-eqb}
 use lib.Dec.{ltb}
 use lib.ListN.{length}
-use Rattle.answer.specs.declared.Answer.{Answer}
 use Rattle.answer.specs.declared.Answer.the-variants.{Good}
 use Rattle.answer.specs.Answer.{_>>=_, refuse}
-use Rattle.answer.specs.Laws.{refuse-unmet, bind-good}
+use Rattle.answer.specs.Laws.{refuse-unmet, bind-good, bind-cong}
 use Rattle.answer.specs.Walk.{walk}
-use Rattle.input.specs.Bytes.{byteAt}
+use Rattle.answer.specs.Entries.{entries-all}
 use Rattle.terms.specs.Sections.{sectionsOf}
-use Rattle.format.specs.Limits.{headerSize, maxLength, maxKinds, maxRelations, maxMoves, maxRecords, relationSize, moveSize}
-use Rattle.format.specs.Header.{lengthBad, countsBad, offsetsBad, kindBad, relationBad, moveBad, relation, move, sections}
+use Rattle.limits.specs.Limits.{headerSize, maxLength, maxKinds, maxRelations, maxMoves, maxRecords, relationSize, moveSize}
+use Rattle.format.specs.Header.{lengthBad, countsBad, offsetsBad, relationBad, moveBad, relation, move, sections}
 use Rattle.jobs.specs.Add.{added}
-use Rattle.sections.proofs.Entries.{Entry, relation-entry, move-entry}
+use Rattle.format.proofs.Header.{relation-entry, move-entry}
 use Rattle.lookover.proofs.Laws.{LookedOver}
 use Rattle.adding.specs.ReadBack.{oneMore}
 use Rattle.adding.proofs.Formed.{length-added}
 use Rattle.adding.proofs.Kept.{long, same}
-
--- what follows a row hangs on nothing that the row answers
-row-after : (b : Bool) (num p : ℕ) (j k : ℕ → Answer) → j 0 ≡ k 0 → (refuse b num p >>= j) ≡ (refuse b num p >>= k)
-unfolding _>>=_ refuse
-row-after true num p j k e = refl
-row-after false num p j k e = e
-
--- entries none of which is bad
-entries-all : (item : ℕ → Answer) (bad : ℕ → Bool) (num size : ℕ)
-    → Entry item bad num size
-    → (n at : ℕ)
-    → ((i : ℕ) → i < n → bad (at + size * i) ≡ false)
-    → walk item n at ≡ Good (at + size * n)
-unfolding walk
-entries-all item bad num size is zero at f = rw (mul-zero, add-zero)
-entries-all item bad num size is (suc n) at f =
-    let b : bad at ≡ false = rw (mul-zero, add-zero) at (f 0 (omega arith)) in
-    let next : (i : ℕ) → at + size + size * i ≡ at + size * suc i = λ i. rw mul-suc (omega arith) in
-    bind-good _ _ _ (is at ∙ refuse-unmet _ _ _ _ b)
-    ∙ entries-all item bad num size is n (at + size) (λ i l. rw (next i) (f (suc i) (omega arith)))
-    ∙ ap Good (next n)
+use Rattle.adding.proofs.Reading.{relation-same, move-same}
 
 -- for an old book of good form
 module _ (s r : List ℕ) (n : ℕ) (was : LookedOver s n) (most : length s + length r ≤ maxLength) where
   relations-good : (i : ℕ)
       → i < sectionsOf s .relations .count
       → relationBad (added s r) (sectionsOf s .kinds) (sectionsOf s .relations .at + relationSize * i) ≡ false
-  unfolding relationBad kindBad
   relations-good i l =
       let o = was .sections .offsets in
-      let a = o .relations in
-      let b = o .moves in
-      let c = o .records in
-      let d = o .within in
-      let at = sectionsOf s .relations .at + relationSize * i in
-      let keep : (j : ℕ) → headerSize ≤ j → j < length s → byteAt (added s r) j ≡ byteAt s j = same s r n was most in
-      rw (
-        keep at (omega arith) (omega arith),
-        keep (at + 1) (omega arith) (omega arith),
-        keep (at + 2) (omega arith) (omega arith),
-        keep (at + 3) (omega arith) (omega arith),
-      ) (was .sections .relations i l)
+      relation-same s (added s r) (same s r n was most) (sectionsOf s .kinds) (sectionsOf s .relations .at + relationSize * i)
+      (omega (arith, o .relations)) (omega (arith, o .relations, o .moves, o .records, o .within))
+      ∙ was .sections .relations i l
 
   moves-good : (i : ℕ) → i < sectionsOf s .moves .count → moveBad (added s r) (sectionsOf s .kinds) (sectionsOf s .moves .at + moveSize * i) ≡ false
-  unfolding moveBad kindBad
   moves-good i l =
       let o = was .sections .offsets in
-      let a = o .relations in
-      let b = o .moves in
-      let c = o .records in
-      let d = o .within in
-      let at = sectionsOf s .moves .at + moveSize * i in
-      let keep : (j : ℕ) → headerSize ≤ j → j < length s → byteAt (added s r) j ≡ byteAt s j = same s r n was most in
-      rw (
-        keep at (omega arith) (omega arith),
-        keep (at + 1) (omega arith) (omega arith),
-        keep (at + 2) (omega arith) (omega arith),
-        keep (at + 3) (omega arith) (omega arith),
-        keep (at + 4) (omega arith) (omega arith),
-        keep (at + 5) (omega arith) (omega arith),
-      ) (was .sections .moves i l)
+      move-same s (added s r) (same s r n was most) (sectionsOf s .kinds) (sectionsOf s .moves .at + moveSize * i)
+      (omega (arith, o .moves)) (omega (arith, o .records, o .within))
+      ∙ was .sections .moves i l
 
   length-unmet : lengthBad (added s r) ≡ false
   unfolding lengthBad
@@ -128,4 +84,4 @@ module _ (s r : List ℕ) (n : ℕ) (was : LookedOver s n) (most : length s + le
       ≡ (refuse (ltb maxRecords (sectionsOf s .records .count + 1)) 2 0 >>= λ _. Good (sectionsOf s .moves .at + moveSize * sectionsOf s .moves .count))
   unfolding sections oneMore
   sections-row =
-      refuse-unmet _ _ _ _ length-unmet ∙ rw counts-row (row-after _ _ _ _ _ (refuse-unmet _ _ _ _ offsets-unmet ∙ entries-row))
+      refuse-unmet _ _ _ _ length-unmet ∙ rw counts-row (bind-cong _ _ _ (λ x. refuse-unmet _ _ _ _ offsets-unmet ∙ entries-row))

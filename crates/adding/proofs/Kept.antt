@@ -8,7 +8,7 @@ use lib.ListN.{length}
 use Rattle.input.specs.Bytes.{byteAt, two}
 use Rattle.terms.specs.Sections.{sectionsOf}
 use Rattle.terms.specs.Schema.{schema, relationAt, moveAt}
-use Rattle.format.specs.Limits.{headerSize, maxLength}
+use Rattle.limits.specs.Limits.{headerSize, maxLength}
 use Rattle.format.specs.Records.{stepsIn, body, recordAt}
 use Rattle.jobs.specs.Add.{added}
 use Rattle.lookover.proofs.Laws.{LookedOver}

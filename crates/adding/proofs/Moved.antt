@@ -1,4 +1,4 @@
--- What a record's bytes say does not hang on where they stand: behind k other bytes they read as they do by themselves, with places moved.
+-- What a record's bytes say does not depend on where they stand: behind k other bytes they read as they do by themselves, with places moved.
 use Prim.Native.Nat.{ℕ, zero, suc, _+_}
 use mathlib.Core.Path.{_≡_, refl}
 use mathlib.Core.List.{List}
@@ -7,9 +7,9 @@ use native.Mathlib.Omega.{arith}
 use Rattle.input.specs.Bytes.{byteAt, two}
 use Rattle.terms.specs.Facts.{factAt}
 use Rattle.terms.specs.Steps.{stepAt}
-use Rattle.format.specs.Limits.{headSize, factSize, stepSize}
+use Rattle.limits.specs.Limits.{headSize, factSize, stepSize}
 use Rattle.format.specs.Records.{objectsIn, stepsIn}
-use Rattle.format.specs.Decode.{factsAt, stateAt, stateEnd, filedAt, recordFiled}
+use Rattle.format.specs.Decode.{factsAt, stateAt, stateEnd, filedAt, recordFiled, filedStep}
 use Rattle.adding.specs.ReadBack.{movedBy}
 
 module _ (k : ℕ) (t r : List ℕ) (same : (i : ℕ) → byteAt t (k + i) ≡ byteAt r i) where
@@ -42,7 +42,7 @@ module _ (k : ℕ) (t r : List ℕ) (same : (i : ℕ) → byteAt t (k + i) ≡ b
   end-moved at = rw (two-moved at) (omega arith)
 
   filed-moved : (n at : ℕ) → filedAt t n (k + at) ≡ movedBy k (filedAt r n at)
-  unfolding filedAt movedBy
+  unfolding filedAt filedStep movedBy
   filed-moved zero at = refl
   filed-moved (suc n) at =
       let p = stateEnd r at in

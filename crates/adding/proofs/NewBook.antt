@@ -8,13 +8,13 @@ use borrow.Author.Tests.{eqb-false, ne-eqb}
 use lib.Dec.{eqb}
 use lib.ListN.{length, drop, length-append, length-drop, List·getD-append}
 use lib.Seq.{getD-append-add, getD-drop, ext-getD}
-use Rattle.answer.specs.Laws.{neither}
+use Rattle.truth.specs.Bools.{neither}
 use Rattle.input.specs.Bytes.{byteAt, two}
 use Rattle.terms.specs.Sections.{sectionsOf}
-use Rattle.format.specs.Limits.{headerSize}
+use Rattle.limits.specs.Limits.{headerSize}
 use Rattle.jobs.specs.Add.{added}
 use Rattle.adding.specs.ReadBack.{renewed, oneMore}
-use Rattle.adding.proofs.Written.{two-elsewhere, two-there}
+use Rattle.output.proofs.Two.{two-elsewhere, two-there}
 use Rattle.adding.proofs.Formed.{added-written, counted, length-counted, length-added}
 
 -- behind the header nothing is renewed

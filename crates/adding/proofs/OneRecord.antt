@@ -1,7 +1,6 @@
 -- Looking over the new book, where the old one is of good form, is row 2 and then the record alone.
-use Prim.Native.Nat.{ℕ, zero, suc, _+_, _≤_, _<_}
-use mathlib.Core.Path.{_≡_, refl, sym, ap, _∙_}
-use mathlib.Core.Bool.{Bool, true, false}
+use Prim.Native.Nat.{ℕ, _+_, _≤_, _<_}
+use mathlib.Core.Path.{_≡_, refl, sym, ap, ap₂, _∙_}
 use mathlib.Core.List.{List}
 use native.Mathlib.Omega.{arith}
 use borrow.Author.Tests.{le-ltb, lt-ltb}
@@ -10,44 +9,22 @@ use lib.ListN.{length}
 use Rattle.answer.specs.declared.Answer.{Answer}
 use Rattle.answer.specs.declared.Answer.the-variants.{Good, Refused}
 use Rattle.answer.specs.Answer.{_>>=_, refuse}
-use Rattle.answer.specs.Laws.{refuse-met, refuse-unmet, bind-good, parted}
-use Rattle.answer.specs.Walk.{walk}
+use Rattle.answer.specs.Laws.{refuse-met, refuse-unmet, bind-good, bind-unit, bind-assoc, bind-cong}
+use Rattle.answer.specs.Walk.{walk, walk-last, walk-again}
 use Rattle.terms.specs.declared.Sections.{Sections}
 use Rattle.terms.specs.Sections.{sectionsOf}
-use Rattle.format.specs.Limits.{headerSize, maxLength, maxRecords}
+use Rattle.limits.specs.Limits.{headerSize, maxLength, maxRecords}
 use Rattle.format.specs.Header.{sections}
 use Rattle.format.specs.Records.{stepsIn, recordAt}
-use Rattle.format.specs.LookOver.{stepTotal, lookOverBy, lookOver}
+use Rattle.format.specs.LookOver.{stepTotal, lookOverBy, lookOver, allRecords}
 use Rattle.jobs.specs.Add.{added}
-use Rattle.records.specs.Parts.{allRecords}
 use Rattle.lookover.proofs.Laws.{LookedOver, look-over-good}
 use Rattle.adding.specs.OneRecord.{lookRecord, OnlyTheRecord}
 use Rattle.adding.proofs.Formed.{length-added}
 use Rattle.adding.proofs.Kept.{long, header, same, from, count-more, start-same, steps-added, record-either, schema-kept}
 use Rattle.adding.proofs.Reading.{total-more}
-use Rattle.adding.proofs.Again.{walk-again, record-again}
+use Rattle.adding.proofs.Again.{Again, record-again}
 use Rattle.adding.proofs.Front.{sections-row}
-
-row-then : (b : Bool) (num p n : ℕ) (k : Answer) → (refuse b num p >>= (λ _. Good n) >>= λ _. k) ≡ (refuse b num p >>= λ _. k)
-unfolding _>>=_ refuse
-row-then true num p n k = refl
-row-then false num p n k = refl
-
-bind-unit : (a : Answer) → (a >>= λ n. Good n) ≡ a
-unfolding _>>=_
-bind-unit (Good n) = refl
-bind-unit (Refused k p) = refl
-
--- one item more than a good walk has
-walk-last : (item : ℕ → Answer) (n at last : ℕ) → walk item n at ≡ Good last → walk item (suc n) at ≡ item last
-unfolding walk
-walk-last item zero at last e = let p : at ≡ last = cc in rw p (bind-unit (item last))
-walk-last item (suc n) at last e =
-    let p = parted _ _ _ e in
-    bind-good _ _ _ (p .1) ∙ walk-last item n (p .0) last (p .2)
-
-walk-last-by : (item : ℕ → Answer) (n at m start last : ℕ) → m ≡ suc n → start ≡ at → walk item n at ≡ Good last → walk item m start ≡ item last
-walk-last-by item n at m start last p q e = rw (p, q) (walk-last item n at last e)
 
 -- the new book's rows, for an old book of good form
 module _ (s r : List ℕ) (n : ℕ) (was : LookedOver s n) (most : length s + length r ≤ maxLength) where
@@ -58,15 +35,12 @@ module _ (s r : List ℕ) (n : ℕ) (was : LookedOver s n) (most : length s + le
       let l = length-added s r (long s r n was most) in
       let longer : length s ≤ length (added s r) = omega arith in
       let keep = same s r n was most in
-      let again : (at next : ℕ)
-      → headerSize ≤ at
-      → recordAt (sectionsOf s) s at ≡ Good next
-      → (recordAt (sectionsOf (added s r)) (added s r) at ≡ Good next) × (headerSize ≤ next) =
+      let again : Again (recordAt (sectionsOf s) s) (recordAt (sectionsOf (added s r)) (added s r)) =
       λ at next low e.
       let z = record-again s (added s r) longer keep (sectionsOf s) (schema-kept s r n was most) at next low e in
       (record-either s r n was most at ∙ z .0, z .1) in
-      walk-last-by _ _ _ _ _ _ (count-more s r n was most) (start-same s r n was most)
-      (walk-again (recordAt (sectionsOf s) s) _ headerSize again _ _ _ (from s r n was most) (was .records))
+      ap₂ (λ (m start : ℕ). walk (recordAt (sectionsOf (added s r)) (added s r)) m start) (count-more s r n was most) (start-same s r n was most)
+      ∙ walk-last _ _ _ _ (walk-again (recordAt (sectionsOf s) s) _ headerSize again _ _ _ (from s r n was most) (was .records))
 
   total-row : stepTotal (added s r) (sectionsOf (added s r) .records .count) (sectionsOf (added s r) .records .at) ≡ n + stepsIn r 0
   total-row =
@@ -77,22 +51,16 @@ module _ (s r : List ℕ) (n : ℕ) (was : LookedOver s n) (most : length s + le
       rw (count-more s r n was most, start-same s r n was most) (omega arith)
 
   whole : lookOver (added s r) ≡ lookRecord s r n
-  unfolding lookOver lookOverBy lookRecord
+  unfolding lookOver lookOverBy allRecords lookRecord
   whole =
       let first = ap (λ (h : Sections). sections h (added s r)) (header s r n was most) ∙ sections-row s r n was most in
-      rw (first, records-row, total-row, length-added s r (long s r n was most)) (row-then _ _ _ _ _)
-
-row-sum : (b : Bool) (num p m n : ℕ) → (refuse b num p >>= (λ _. Good m) >>= λ k. Good (n + k)) ≡ (refuse b num p >>= λ _. Good (n + m))
-unfolding _>>=_ refuse
-row-sum true num p m n = refl
-row-sum false num p m n = refl
+      rw (first, records-row, total-row, length-added s r (long s r n was most)) (bind-assoc _ _ _ ∙ bind-cong _ _ _ (λ x. bind-good _ _ _ refl))
 
 -- the steps of a record are added to those before it
 tail-sum : (a : Answer) (end m n : ℕ)
     → (a >>= (λ last. refuse (ltb last end) 6 last >>= λ _. Good m) >>= λ k. Good (n + k)) ≡ (a >>= λ last. refuse (ltb last end) 6 last >>= λ _. Good (n + m))
 unfolding _>>=_
-tail-sum (Good last) end m n = row-sum (ltb last end) 6 last m n
-tail-sum (Refused k p) end m n = refl
+tail-sum a end m n = bind-assoc a _ _ ∙ bind-cong a _ _ (λ last. bind-assoc (refuse (ltb last end) 6 last) _ _)
 
 -- Of the rows of the new book only the record count's, and those of the record behind the old book, can be met.
 pub only-the-record : OnlyTheRecord

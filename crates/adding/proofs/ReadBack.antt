@@ -6,17 +6,17 @@ use native.Mathlib.Omega.{arith}
 use borrow.Author.Tests.{ltb-false}
 use lib.ListN.{length, drop, length-append, length-drop}
 use lib.Seq.{take-at, drop-at}
+use Rattle.answer.specs.Answer.{kept}
 use Rattle.answer.specs.declared.Answer.the-variants.{Good}
 use Rattle.answer.specs.Laws.{passed, parted}
 use Rattle.terms.specs.Sections.{sectionsOf}
-use Rattle.format.specs.Limits.{maxLength}
+use Rattle.limits.specs.Limits.{maxLength}
 use Rattle.format.specs.Records.{stepsIn, recordAt}
 use Rattle.format.specs.LookOver.{lookOver}
 use Rattle.format.specs.Decode.{recordFiled, filed}
 use Rattle.jobs.specs.Planning.{schemaOf}
-use Rattle.jobs.specs.Learn.{kept}
 use Rattle.jobs.specs.Add.{added, add, addBytes}
-use Rattle.records.proofs.Laws.{record-within}
+use Rattle.format.proofs.Records.{record-within}
 use Rattle.lookover.proofs.Laws.{LookedOver, look-over-good}
 use Rattle.adding.specs.OneRecord.{lookRecord}
 use Rattle.adding.specs.ReadBack.{SchemaKept, AddedIsReadBack, AddedIsStored, RefusedIsUntouched}

@@ -7,42 +7,56 @@ use native.Mathlib.Omega.{arith}
 use borrow.Author.Tests.{ltb-false}
 use lib.ListN.{length}
 use Rattle.answer.specs.declared.Answer.the-variants.{Good}
-use Rattle.answer.specs.Laws.{passed, parted, neither}
+use Rattle.truth.specs.Bools.{neither}
+use Rattle.answer.specs.Laws.{passed, parted}
 use Rattle.answer.specs.Walk.{walk}
 use Rattle.input.specs.Bytes.{byteAt, two}
 use Rattle.terms.specs.declared.Sections.{Sections}
 use Rattle.terms.specs.Schema.{Schema, Hall}
 use Rattle.terms.specs.Facts.{factAt}
 use Rattle.terms.specs.Steps.{stepAt}
-use Rattle.format.specs.Limits.{headerSize, factSize, stepSize}
+use Rattle.limits.specs.Limits.{headerSize, factSize, stepSize, relationSize, moveSize}
+use Rattle.format.specs.Header.{kindBad, relationBad, moveBad}
 use Rattle.format.specs.States.{cut, state}
-use Rattle.format.specs.Records.{objectsIn, stepsIn, lengthIn, step, trajectory, body, recordAt}
+use Rattle.format.specs.Records.{objectsIn, stepsIn, lengthIn, step, trajectory, body, recordAt, stepRefused, closed}
 use Rattle.format.specs.LookOver.{stepTotal}
-use Rattle.format.specs.Decode.{factsAt, stateAt, stateEnd, filedAt, recordFiled, recordsFiled}
-use Rattle.states.proofs.Laws.{state-within, state-end}
-use Rattle.records.proofs.Parts.{objects-end}
-use Rattle.records.proofs.Laws.{head-limits, record-within}
+use Rattle.format.specs.Decode.{factsAt, stateAt, stateEnd, filedAt, recordFiled, recordsFiled, filedStep}
+use Rattle.format.proofs.States.{state-within, state-end}
+use Rattle.format.proofs.Records.{objects-end, head-limits, record-within}
 
 -- s the book that was looked over, t the one that is read
 module _ (s t : List ℕ) (same : (i : ℕ) → headerSize ≤ i → i < length s → byteAt t i ≡ byteAt s i) where
+  byte-same : (at size : ℕ) → headerSize ≤ at → at + size ≤ length s → (j : ℕ) → j < size → byteAt t (at + j) ≡ byteAt s (at + j)
+  byte-same at size h l j k = same (at + j) (omega arith) (omega arith)
+
   pub two-same : (at : ℕ) → headerSize ≤ at → at + 2 ≤ length s → two t at ≡ two s at
   unfolding two
-  two-same at h l = rw (same at h (omega arith), same (at + 1) (omega arith) (omega arith))
+  two-same at h l = rw (same at h (omega arith), byte-same at 2 h l 1 (omega arith))
 
   pub fact-same : (at : ℕ) → headerSize ≤ at → at + factSize ≤ length s → factAt t at ≡ factAt s at
   unfolding factAt
-  fact-same at h l = rw (same at h (omega arith), same (at + 1) (omega arith) (omega arith), same (at + 2) (omega arith) (omega arith))
+  fact-same at h l =
+      let k = byte-same at factSize h l in
+      rw (same at h (omega arith), k 1 (omega arith), k 2 (omega arith))
 
   pub step-same : (at : ℕ) → headerSize ≤ at → at + stepSize ≤ length s → stepAt t at ≡ stepAt s at
   unfolding stepAt
   step-same at h l =
-      rw (
-        same at h (omega arith),
-        same (at + 1) (omega arith) (omega arith),
-        same (at + 2) (omega arith) (omega arith),
-        same (at + 3) (omega arith) (omega arith),
-        same (at + 4) (omega arith) (omega arith),
-      )
+      let k = byte-same at stepSize h l in
+      rw (same at h (omega arith), k 1 (omega arith), k 2 (omega arith), k 3 (omega arith), k 4 (omega arith))
+
+  -- rows 4 and 5 read an entry and no more
+  pub relation-same : (kinds at : ℕ) → headerSize ≤ at → at + relationSize ≤ length s → relationBad t kinds at ≡ relationBad s kinds at
+  unfolding relationBad kindBad
+  relation-same kinds at h l =
+      let k = byte-same at relationSize h l in
+      rw (same at h (omega arith), k 1 (omega arith), k 2 (omega arith), k 3 (omega arith))
+
+  pub move-same : (kinds at : ℕ) → headerSize ≤ at → at + moveSize ≤ length s → moveBad t kinds at ≡ moveBad s kinds at
+  unfolding moveBad kindBad
+  move-same kinds at h l =
+      let k = byte-same at moveSize h l in
+      rw (same at h (omega arith), k 1 (omega arith), k 2 (omega arith), k 3 (omega arith), k 4 (omega arith), k 5 (omega arith))
 
   facts-same : (n at : ℕ) → headerSize ≤ at → at + factSize * n ≤ length s → factsAt t n at ≡ factsAt s n at
   unfolding factsAt
@@ -70,7 +84,7 @@ module _ (s t : List ℕ) (same : (i : ℕ) → headerSize ≤ i → i < length 
         → at ≡ x
         → step sch hl s end at ≡ Good next
         → (x + stepSize ≤ length s) × (state sch hl s end (x + stepSize) ≡ Good next)
-    unfolding step cut
+    unfolding step stepRefused cut
     step-parts at x next e g =
         let p = passed _ _ _ _ _ (rw e at g) in
         let l : x + stepSize ≤ end = ltb-false _ _ (neither _ _ (p .0) .0) in
@@ -81,7 +95,7 @@ module _ (s t : List ℕ) (same : (i : ℕ) → headerSize ≤ i → i < length 
         → state sch hl s end at ≡ Good next
         → walk (step sch hl s end) n next ≡ Good last
         → filedAt t n at ≡ filedAt s n at
-    unfolding walk filedAt
+    unfolding walk filedAt filedStep
     filed-same zero at next last h e w = refl
     filed-same (suc n) at next last h e w =
         let a = state-ends at next e in
@@ -116,7 +130,7 @@ module _ (s t : List ℕ) (same : (i : ℕ) → headerSize ≤ i → i < length 
         (same at l (omega arith), same (at + 1) (omega arith) (omega arith), two-same (at + 2) (omega arith) (omega arith))
 
     record-same : (at next : ℕ) → headerSize ≤ at → recordAt h s at ≡ Good next → recordFiled t at ≡ recordFiled s at
-    unfolding recordAt body recordFiled
+    unfolding recordAt body closed recordFiled
     record-same at next l e =
         let p = passed _ _ _ _ _ e in
         let w = head-limits s at (p .0) in

@@ -9,32 +9,25 @@ use lib.ListN.{length, take}
 use lib.Seq.{take-at}
 use Rattle.answer.specs.declared.Answer.{Answer}
 use Rattle.answer.specs.declared.Answer.the-variants.{Good, Refused}
-use Rattle.answer.specs.Answer.{_>>=_, refuse, isRefused, valueOf}
-use Rattle.answer.specs.Laws.{clash, stays, follows, refuse-met, refuse-unmet}
+use Rattle.answer.specs.Answer.{_>>=_, refuse, isRefused, valueOf, kept}
+use Rattle.truth.specs.Bools.{clash}
+use Rattle.answer.specs.Laws.{stays, follows, bind-assoc, refuse-met, refuse-unmet}
 use Rattle.terms.specs.declared.Sections.{Sections}
 use Rattle.terms.specs.Sections.{sectionsOf}
-use Rattle.format.specs.Limits.{headerSize, maxLength, maxRecords}
-use Rattle.format.specs.LookOver.{lookOver}
-use Rattle.jobs.specs.Learn.{kept}
+use Rattle.limits.specs.Limits.{headerSize, maxLength, maxRecords}
+use Rattle.format.specs.LookOver.{lookOver, allRecords}
 use Rattle.jobs.specs.Add.{added, add, addBytes}
-use Rattle.records.specs.Parts.{allRecords}
 use Rattle.answer.specs.Turns.{is-good, part-stays}
 use Rattle.lookover.proofs.Laws.{look-over-good}
-use Rattle.adding.specs.Written.{written}
+use Rattle.output.specs.Written.{written}
 use Rattle.adding.specs.Outcome.{Outcome}
-use Rattle.adding.proofs.Written.{front-written}
+use Rattle.output.proofs.Written.{front-written}
 use Rattle.adding.proofs.Formed.{length-added}
 use Rattle.adding.proofs.OneRecord.{book-full, record-alone}
 
 -- a book that was looked over has a whole header
 pub long-enough : (s : List ℕ) (a : Answer) (b : Bool) → a ≡ lookOver s → b ≡ isRefused a → b ≡ false → headerSize ≤ length s
 long-enough s a b e f g = look-over-good s _ (sym e ∙ is-good a (sym f ∙ g)) .sections .size .least
-
--- what hangs on no sum of steps
-sum-then : (a : Answer) (n : ℕ) (k : Answer) → (a >>= λ _. k) ≡ (a >>= (λ m. Good (n + m)) >>= λ _. k)
-unfolding _>>=_
-sum-then (Good m) n k = refl
-sum-then (Refused m p) n k = refl
 
 module _ (s r old : List ℕ) where
   kept-old : (a : Answer) → a ≡ add s r (length old) → isRefused a ≡ true → Outcome s r old old a
@@ -73,7 +66,7 @@ module _ (s r old : List ℕ) where
 
           behind : (a₂ >>= λ _. refuse (ltb (length old) (length s + length r)) 13 0 >>= λ _. Good (length s + length r)) ≡ add s r (length old)
           unfolding add _>>=_ refuse
-          behind = rw (first-good, le-ltb maxLength (length s + length r) m, is₂) (sum-then a₂ _ _)
+          behind = rw (first-good, le-ltb maxLength (length s + length r) m, is₂) (sym (bind-assoc a₂ _ _))
 
           pub new-refused : b₂ ≡ true → Outcome s r old old a₂
           new-refused g₂ = kept-old a₂ (stays a₂ _ (sym f₂ ∙ g₂) ∙ behind) (sym f₂ ∙ g₂)

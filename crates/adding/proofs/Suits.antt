@@ -1,26 +1,19 @@
 -- A fact and a step that suit a schema and a hall suit others that say the same of what is there: the tests that pass ask for no more.
 use Prim.Native.Nat.{ℕ, _≤_}
 use mathlib.Core.Path.{_≡_}
-use mathlib.Core.Bool.{Bool, true, false, _||_}
+use mathlib.Core.Bool.{Bool, true, false}
 use native.Mathlib.Omega.{arith}
-use borrow.Author.Tests.{ltb-false}
 use lib.Dec.{leb}
-use Rattle.answer.specs.Laws.{neither}
+use Rattle.truth.specs.Bools.{neither, neither-in}
 use Rattle.terms.specs.declared.Object.{Object}
 use Rattle.terms.specs.declared.Fact.{Fact}
 use Rattle.terms.specs.declared.Step.{Step}
 use Rattle.terms.specs.Schema.{Schema, Hall, numberBad, kindSuits, objectBad}
 use Rattle.terms.specs.Facts.{factBad}
 use Rattle.terms.specs.Steps.{argumentBad, stepBad}
-use Rattle.format.specs.Limits.{maxPlaces, maxParams}
+use Rattle.terms.proofs.Atoms.{number-out}
+use Rattle.limits.specs.Limits.{maxPlaces, maxParams}
 use Rattle.adding.specs.ReadBack.{SchemaKept}
-
-pub both-unmet : (a b : Bool) → a ≡ false → b ≡ false → (a || b) ≡ false
-both-unmet a b p q = rw (p, q)
-
-number-within : (count n : ℕ) → numberBad count n ≡ false → (1 ≤ n) × (n ≤ count)
-unfolding numberBad
-number-within count n e = let p = neither _ _ e in (ltb-false _ _ (p .0), ltb-false _ _ (p .1))
 
 -- two halls have as many objects, of the same kinds
 pub record HallKept (old new : Hall) : Type 0 where
@@ -31,7 +24,7 @@ module _ (sch sch′ : Schema) (k : SchemaKept sch sch′) (hl hl′ : Hall) (o 
   object-again : (used : Bool) (named : ℕ) (x : Object) → objectBad sch hl used named x ≡ false → objectBad sch′ hl′ used named x ≡ false
   unfolding objectBad kindSuits
   object-again true named x e =
-      let w = number-within (hl .count) (x .0) (neither (numberBad (hl .count) (x .0)) _ (neither _ _ e .0) .0) in
+      let w = number-out (hl .count) (x .0) (neither (numberBad (hl .count) (x .0)) _ (neither _ _ e .0) .0) in
       rw (o .count, o .kind x (w .0) (w .1)) e
   object-again false named x e = e
 
@@ -40,7 +33,7 @@ module _ (sch sch′ : Schema) (k : SchemaKept sch sch′) (hl hl′ : Hall) (o 
   fact-again f e =
       let p = neither _ _ e in
       let q = neither _ _ (p .0) in
-      let w = number-within (sch .relations) (f .relation .0) (q .0) in
+      let w = number-out (sch .relations) (f .relation .0) (q .0) in
       let places : sch′ .places (f .relation) ≡ sch .places (f .relation) = k .places (f .relation) (w .0) (w .1) in
       let kinds : (i : ℕ) → i ≤ maxPlaces → sch′ .placeKind (f .relation) i ≡ sch .placeKind (f .relation) i =
       k .placeKind (f .relation) (w .0) (w .1) in
@@ -49,7 +42,7 @@ module _ (sch sch′ : Schema) (k : SchemaKept sch sch′) (hl hl′ : Hall) (o 
       rw (places, kinds 1 (omega arith)) (object-again _ _ _ (q .1)) in
       let second : objectBad sch′ hl′ (leb 2 (sch′ .places (f .relation))) (sch′ .placeKind (f .relation) 2) (f .second) ≡ false =
       rw (places, kinds 2 (omega arith)) (object-again _ _ _ (p .1)) in
-      both-unmet _ _ (both-unmet _ _ number first) second
+      neither-in _ _ (neither-in _ _ number first) second
 
   argument-again : (st : Step) (i : ℕ)
       → i ≤ maxParams
@@ -68,12 +61,12 @@ module _ (sch sch′ : Schema) (k : SchemaKept sch sch′) (hl hl′ : Hall) (o 
       let b = neither _ _ (a .0) in
       let c = neither _ _ (b .0) in
       let d = neither _ _ (c .0) in
-      let w = number-within (sch .moves) (st .action .0) (d .0) in
+      let w = number-out (sch .moves) (st .action .0) (d .0) in
       let again : (i : ℕ) → i ≤ maxParams → argumentBad sch hl st i ≡ false → argumentBad sch′ hl′ st i ≡ false =
       λ i l. argument-again st i l (w .0) (w .1) in
       let number : numberBad (sch′ .moves) (st .action .0) ≡ false = rw (k .moves) (d .0) in
-      both-unmet _ _
-      (both-unmet _ _
-      (both-unmet _ _ (both-unmet _ _ number (again 1 (omega arith) (d .1))) (again 2 (omega arith) (c .1)))
+      neither-in _ _
+      (neither-in _ _
+      (neither-in _ _ (neither-in _ _ number (again 1 (omega arith) (d .1))) (again 2 (omega arith) (c .1)))
       (again 3 (omega arith) (b .1)))
       (again 4 (omega arith) (a .1))

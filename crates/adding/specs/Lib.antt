@@ -1,5 +1,4 @@
--- What the functions promise: bytes written over others, and a call's answer with the lent output; and what follows for the new book.
-pub mod Written
+-- What the functions promise: a call's answer with the lent output; and what follows for the new book.
 pub mod Outcome
 pub mod ReadBack
 pub mod OneRecord

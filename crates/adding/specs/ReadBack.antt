@@ -13,7 +13,7 @@ use Rattle.terms.specs.declared.Move.{Move}
 use Rattle.terms.specs.declared.Sections.{Sections}
 use Rattle.terms.specs.Sections.{sectionsOf}
 use Rattle.terms.specs.Schema.{Schema}
-use Rattle.format.specs.Limits.{maxPlaces, maxParams}
+use Rattle.limits.specs.Limits.{maxPlaces, maxParams}
 use Rattle.format.specs.Records.{stepsIn, recordAt}
 use Rattle.format.specs.LookOver.{lookOver}
 use Rattle.format.specs.Decode.{Filed, recordFiled, filed}

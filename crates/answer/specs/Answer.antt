@@ -1,6 +1,7 @@
--- An answer's number and place as the paper has them, and the order of rows: the first refusal met is the answer.
+-- An answer's number and place as the paper has them, the order of rows (the first refusal met is the answer), and what a call leaves behind.
 use Prim.Native.Nat.{ℕ, _+_, _*_}
 use mathlib.Core.Bool.{Bool, true, false}
+use mathlib.Core.List.{List}
 use Rattle.answer.specs.declared.Answer.{Answer}
 use Rattle.answer.specs.declared.Answer.the-variants.{Good, Refused}
 
@@ -36,3 +37,8 @@ place (Refused n p) = p
 -- the two as C has them: number times 2^48, plus place
 unfoldable pub packed : Answer → ℕ
 packed a = number a * 281474976710656 + place a
+
+-- lent bytes after a call: the new ones on success, the old ones on a refusal
+unfoldable pub kept : Answer → List ℕ → List ℕ → List ℕ
+kept (Good n) new old = new
+kept (Refused n p) new old = old

@@ -62,7 +62,11 @@ module _ (most size : ℕ) where
   bounded-place (Good n) h = h
   bounded-place (Refused k p) h = h .1
 
-pub bounded-wider : (most size more : ℕ) (a : Answer) → size ≤ more → Bounded most size a → Bounded most more a
+-- wider bounds hold too
+pub bounded-more : (most more size room : ℕ) (a : Answer) → most ≤ more → size ≤ room → Bounded most size a → Bounded more room a
 unfolding Bounded
-bounded-wider most size more (Good n) l h = omega arith
-bounded-wider most size more (Refused k p) l h = (h .0, omega arith)
+bounded-more most more size room (Good n) l k h = omega arith
+bounded-more most more size room (Refused m p) l k h = (omega (arith, h .0), omega (arith, h .1))
+
+pub bounded-wider : (most size more : ℕ) (a : Answer) → size ≤ more → Bounded most size a → Bounded most more a
+bounded-wider most size more a l h = bounded-more most most size more a (omega arith) l h

@@ -1,15 +1,18 @@
 -- Laws of an answer and of rows in order, for the proofs of code that meets the rows one by one.
 use Prim.Native.Nat.{ℕ, _≤_}
-use mathlib.Core.Path.{_≡_, refl, sym, ap, _∙_}
+use mathlib.Core.Path.{_≡_, refl, sym}
 use mathlib.Core.Bool.{Bool, true, false, _||_}
 use native.Mathlib.Omega.{arith}
+use borrow.Author.Tests.{ltb-false}
+use lib.Dec.{ltb}
 use Rattle.answer.specs.declared.Answer.{Answer}
 use Rattle.answer.specs.declared.Answer.the-variants.{Good, Refused}
-use Rattle.answer.specs.Answer.{_>>=_, refuse, isRefused, valueOf, number, place}
+use Rattle.answer.specs.Answer.{_>>=_, refuse, isRefused, valueOf}
+use Rattle.truth.specs.Bools.{clash, neither}
 
--- two values of a Bool at once
-pub clash {ℓ} : {A : Type ℓ} (b : Bool) → b ≡ true → b ≡ false → A
-clash b p q = absurd (let z : _≡_ {A = ℕ} 0 1 = cc in omega arith)
+-- an answer is not both good and refused
+pub good-refused {ℓ} : {A : Type ℓ} (n k p : ℕ) → Good n ≡ Refused k p → A
+good-refused n k p e = absurd (let z : _≡_ {A = ℕ} 0 1 = cc in omega arith)
 
 -- a refusal is the answer, whatever would follow
 pub stays : (a : Answer) (k : ℕ → Answer) → isRefused a ≡ true → a ≡ (a >>= k)
@@ -31,6 +34,20 @@ pub bind-refused : (a : Answer) (k : ℕ → Answer) (n p : ℕ) → a ≡ Refus
 unfolding _>>=_
 bind-refused a k n p e = rw e
 
+-- nothing follows, or what follows has two parts, or may be told another way
+pub bind-unit : (a : Answer) → (a >>= λ n. Good n) ≡ a
+unfolding _>>=_
+bind-unit (Good n) = refl
+bind-unit (Refused n p) = refl
+
+pub bind-assoc : (a : Answer) (j k : ℕ → Answer) → (a >>= j >>= k) ≡ (a >>= λ n. j n >>= k)
+unfolding _>>=_
+bind-assoc (Good n) j k = refl
+bind-assoc (Refused n p) j k = refl
+
+pub bind-cong : (a : Answer) (j k : ℕ → Answer) → ((n : ℕ) → j n ≡ k n) → (a >>= j) ≡ (a >>= k)
+bind-cong a j k e = λ i. a >>= λ n. e n i
+
 -- a row that is met, and one that is not
 pub refuse-met : (b : Bool) (n p : ℕ) (k : ℕ → Answer) → b ≡ true → (refuse b n p >>= k) ≡ Refused n p
 unfolding _>>=_ refuse
@@ -43,16 +60,19 @@ refuse-unmet b n p k e = rw e
 -- a good answer says that its first row was not met, and that what follows is good
 pub passed : (b : Bool) (n p m : ℕ) (k : ℕ → Answer) → (refuse b n p >>= k) ≡ Good m → (b ≡ false) × (k 0 ≡ Good m)
 unfolding _>>=_ refuse
-passed true n p m k e = absurd (let z : _≡_ {A = ℕ} 0 1 = cc in omega arith)
+passed true n p m k e = good-refused m n p (sym e)
 passed false n p m k e = (refl, e)
 
 -- a good answer's first part is good
 pub parted : (a : Answer) (m : ℕ) (k : ℕ → Answer) → (a >>= k) ≡ Good m → (n : ℕ) × (a ≡ Good n) × (k n ≡ Good m)
 unfolding _>>=_
 parted (Good n) m k e = (n, refl, e)
-parted (Refused n p) m k e = absurd (let z : _≡_ {A = ℕ} 0 1 = cc in omega arith)
+parted (Refused n p) m k e = good-refused m n p (sym e)
 
--- neither of two tests holds
-pub neither : (a b : Bool) → (a || b) ≡ false → (a ≡ false) × (b ≡ false)
-neither true b e = clash true refl e
-neither false b e = (refl, e)
+-- four counts, none of them over its limit
+pub none-over : (a b c d k l m n : ℕ) → (ltb k a || ltb l b || ltb m c || ltb n d) ≡ false → (a ≤ k) × (b ≤ l) × (c ≤ m) × (d ≤ n)
+none-over a b c d k l m n e =
+    let x = neither _ _ e in
+    let y = neither _ _ (x .0) in
+    let z = neither _ _ (y .0) in
+    (ltb-false k a (z .0), ltb-false l b (z .1), ltb-false m c (y .1), ltb-false n d (x .1))

@@ -5,3 +5,4 @@ pub mod Walk
 pub mod Turns
 pub mod Bounds
 pub mod Refusals
+pub mod Entries

@@ -1,13 +1,13 @@
 -- Parts of a sequence and turns of a loop, over answers: what holds of the whole, by what the calls in the code return of a part.
-use Prim.Native.Nat.{ℕ, zero, suc, _-_, _≤_, _<_}
+use Prim.Native.Nat.{ℕ, _-_, _≤_, _<_}
 use mathlib.Core.Path.{_≡_, refl, sym, _∙_}
 use mathlib.Core.Bool.{Bool, true, false}
-use native.Mathlib.Omega.{arith}
 use Rattle.answer.specs.declared.Answer.{Answer}
 use Rattle.answer.specs.declared.Answer.the-variants.{Good, Refused}
 use Rattle.answer.specs.Answer.{_>>=_, isRefused, valueOf}
-use Rattle.answer.specs.Laws.{clash, parted, stays, follows}
-use Rattle.answer.specs.Walk.{walk, walk-none, walk-refused, walk-good}
+use Rattle.truth.specs.Bools.{clash}
+use Rattle.answer.specs.Laws.{stays, follows}
+use Rattle.answer.specs.Walk.{walk, walk-none, walk-refused, walk-good, walk-induction}
 
 -- an answer that is not refused is good
 pub is-good : (a : Answer) → isRefused a ≡ false → a ≡ Good (valueOf a)
@@ -22,6 +22,10 @@ module _ (x : Answer) (k : ℕ → Answer) (a : Answer) (b : Bool) where
 
   pub part-follows : (v : ℕ) → a ≡ x → b ≡ isRefused a → b ≡ false → v ≡ valueOf a → k v ≡ (x >>= k)
   part-follows v p q r t = rw (← p, t) (follows a k (sym q ∙ r))
+
+-- the same, where what follows does not ask for the part's value
+pub part-then : (x y a : Answer) (b : Bool) → a ≡ x → b ≡ isRefused a → b ≡ false → y ≡ (x >>= λ _. y)
+part-then x y a b p q r = part-follows x (λ _. y) a b _ p q r refl
 
 -- a turn of a loop that walks: what is left of the walk answers as the whole, by what the item's call returned
 module _ (item : ℕ → Answer) (whole : Answer) where
@@ -46,8 +50,5 @@ pub walk-within : (item : ℕ → Answer) (end : ℕ)
     → at ≤ end
     → walk item n at ≡ Good next
     → next ≤ end
-unfolding walk
-walk-within item end f zero at next h e = let p : at ≡ next = cc in omega arith
-walk-within item end f (suc n) at next h e =
-    let p = parted _ _ _ e in
-    walk-within item end f n (p .0) next (f at (p .0) (p .1)) (p .2)
+walk-within item end f n at next h e =
+    walk-induction item (λ n at last. at ≤ end → last ≤ end) (λ at h. h) (λ n at next last good rest h. rest (f at next good)) n at next e h

@@ -1,9 +1,18 @@
--- A call's promise from the answer that it packed.
+-- A call's promise from the answer that it packed, and from the bounds of the answer.
 use Prim.Native.Nat.{ℕ, _<_}
 use mathlib.Core.Path.{_≡_, ap, _∙_}
+use native.Mathlib.Omega.{arith}
 use Rattle.answer.specs.declared.Answer.{Answer}
 use Rattle.answer.specs.Answer.{number, place, packed}
+use Rattle.answer.specs.Bounds.{Bounded, bounded-number, bounded-place}
 use Rattle.changeover.specs.Calls.{Says}
 
-pub says-by : (a b : Answer) (r : ℕ) → a ≡ b → number b < 65536 → place b < 4294967296 → r ≡ packed a → Says b r
-says-by a b r e n p h = record { packs = h ∙ ap packed e; number-fits = n; place-fits = p }
+-- number and place can be packed into one number
+abbrev pub Fits : Answer → Type 0
+Fits a = (number a < 65536) × (place a < 4294967296)
+
+pub fits-by : (most size : ℕ) (a : Answer) → Bounded most size a → most < 65536 → size < 4294967296 → Fits a
+fits-by most size a b h k = (omega (arith, bounded-number most size a b), omega (arith, bounded-place most size a b))
+
+pub says-by : (a b : Answer) (r : ℕ) → a ≡ b → Fits b → r ≡ packed a → Says b r
+says-by a b r e f h = record { packs = h ∙ ap packed e; number-fits = f .0; place-fits = f .1 }

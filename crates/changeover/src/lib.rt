@@ -1,6 +1,5 @@
 // The jobs as calls for C (include/changeover.h): thin over the proved library, with number and place packed into one answer.
 // A lent slice is a pointer and a length in C.
-ghost use mathlib.Core.Path.{_≡_};
 ghost use Rattle.changeover.specs.Calls.{LookedOver, Learned, Checked, Added};
 
 #[no_mangle]

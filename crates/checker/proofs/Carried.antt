@@ -1,67 +1,64 @@
 -- For a book that learns and an order of good form, masks by what is held come to what the plan comes to under the learned model.
 use Prim.Native.Nat.{ℕ, zero, suc, _+_, _*_, _≤_, _<_}
-use mathlib.Core.Path.{_≡_, refl, sym, ap, _∙_, subst}
-use mathlib.Core.Bool.{Bool, true, false}
+use mathlib.Core.Path.{_≡_, sym, _∙_}
+use mathlib.Core.Bool.{true, false}
 use mathlib.Core.Logic.{_⊎_, inl, inr}
-use mathlib.Core.List.{List, _∷_}
+use mathlib.Core.List.{List}
 use native.Mathlib.Omega.{arith}
 use lib.ListN.{length}
-use Rattle.answer.specs.declared.Answer.{Answer}
-use Rattle.answer.specs.declared.Answer.the-variants.{Good, Refused}
-use Rattle.answer.specs.Laws.{parted}
-use Rattle.input.specs.Bytes.{byteAt}
+use Rattle.answer.specs.declared.Answer.the-variants.{Good}
+use Rattle.truth.specs.Bools.{decide}
+use Rattle.answer.specs.Laws.{good-refused}
 use Rattle.terms.specs.declared.Step.{Step}
 use Rattle.terms.specs.Schema.{Schema}
 use Rattle.terms.specs.Steps.{stepAt}
-use Rattle.format.specs.Limits.{maxMoves, stepSize}
+use Rattle.limits.specs.Limits.{maxMoves, stepSize, heldSize}
 use Rattle.format.specs.LookOver.{lookOver}
 use Rattle.format.specs.Order.{stepCount, stepsAt, orderForm, startFacts, goal, plan, planFrom}
 use Rattle.model.specs.Quantify.{Mem, here, there}
 use Rattle.model.specs.Domain.{Transition}
-use Rattle.model.specs.Model.{Run, run}
 use Rattle.model.specs.Learned.{learned}
-use Rattle.model.proofs.Truth.{decide}
 use Rattle.model.proofs.Impossible.{learned-consistent}
 use Rattle.jobs.specs.Planning.{domain, schemaOf, filedIn, transitionsOf, groundAction, startState, planOf, goalOf}
 use Rattle.jobs.specs.Learn.{learnable, learnedFrom}
 use Rattle.jobs.specs.Check.{planRun, runAnswer, endSheet}
-use Rattle.held.specs.Held.{heldSize, holdAll, nothingSeen}
 use Rattle.held.specs.Rules.{ruleSet, heldSet}
-use Rattle.held.specs.Seen.{Seen, shown}
+use Rattle.held.specs.Seen.{Seen, inSet}
 use Rattle.held.proofs.Hold.{seen-held}
 use Rattle.held.proofs.Sheet.{atoms-in, atoms-out}
 use Rattle.heldright.proofs.HeldRight.{filed-faithful}
 use Rattle.wellformed.proofs.Headers.{relations-few, moves-few}
 use Rattle.wellformed.proofs.Formed.{formed}
-use Rattle.wellformed.proofs.Atoms.{atom-below, ground-below}
+use Rattle.terms.proofs.Atoms.{atom-below}
+use Rattle.wellformed.proofs.Atoms.{ground-below}
 use Rattle.wellformed.proofs.Suits.{move-known}
 use Rattle.wellformed.proofs.Orders.{order-right, start-under}
 use Rattle.wellformed.specs.Right.{orderHall}
-use Rattle.demand.proofs.Rows.{conflictIn, learnable-conflict}
+use Rattle.demand.proofs.Rows.{inconsistentIn, learnable-inconsistent}
 use Rattle.statemask.specs.Statemask.{carry, startMask}
-use Rattle.statemask.specs.Carrying.{Ruled, Fitting, Carrying, carriedAnswer}
+use Rattle.statemask.specs.Carrying.{Ruled, Carrying, carriedAnswer}
 use Rattle.statemask.proofs.Plan.{carry-start, carry-answer, agrees-sheet}
-use Rattle.orders.proofs.Laws.{order-good}
+use Rattle.format.proofs.OrderForm.{order-good}
 use Rattle.execution.specs.Execution.{Carriable}
 use Rattle.learner.specs.Learner.{heldOf}
 
 -- the sets of a move's rules are its learned ones
 ruled : (sch : Schema) (ts : List Transition) (l : List ℕ) → Seen sch ts l → (a : ℕ) → 1 ≤ a → a ≤ 32 → Ruled (learned (domain sch) ts) a (ruleSet sch l a)
-unfolding ruleSet learned domain shown
+unfolding ruleSet learned domain inSet
 ruled sch ts l seen a h h′ =
     record {
-      hold = atoms-in sch a (heldSet l a 0) (shown ts 0 a) (λ n. seen .says 0 (omega arith) a h h′ n);
-      bar = atoms-out sch a (heldSet l a 1) (shown ts 1 a) (λ n. seen .says 1 (omega arith) a h h′ n);
-      added = atoms-in sch a (heldSet l a 4) (shown ts 4 a) (λ n. seen .says 4 (omega arith) a h h′ n);
-      removed = atoms-in sch a (heldSet l a 5) (shown ts 5 a) (λ n. seen .says 5 (omega arith) a h h′ n);
+      positive = atoms-in sch a (heldSet l a 0) (inSet ts 0 a) (λ n. seen .says 0 (omega arith) a h h′ n);
+      negative = atoms-out sch a (heldSet l a 1) (inSet ts 1 a) (λ n. seen .says 1 (omega arith) a h h′ n);
+      added = atoms-in sch a (heldSet l a 4) (inSet ts 4 a) (λ n. seen .says 4 (omega arith) a h h′ n);
+      removed = atoms-in sch a (heldSet l a 5) (inSet ts 5 a) (λ n. seen .says 5 (omega arith) a h h′ n);
     }
 
 -- a book that learns has no conflict
-clean : (s : List ℕ) (n m : ℕ) → lookOver s ≡ Good n → learnable s ≡ Good m → conflictIn s ≡ false
-clean s n m good e = go (decide (conflictIn s))
+clean : (s : List ℕ) (n m : ℕ) → lookOver s ≡ Good n → learnable s ≡ Good m → inconsistentIn s ≡ false
+clean s n m good e = go (decide (inconsistentIn s))
   where
-    go : (conflictIn s ≡ true) ⊎ (conflictIn s ≡ false) → conflictIn s ≡ false
-    go (inl h) = let (num, p, q, r) = learnable-conflict s n good h in absurd (let z : _≡_ {A = ℕ} 0 1 = cc in omega arith)
+    go : (inconsistentIn s ≡ true) ⊎ (inconsistentIn s ≡ false) → inconsistentIn s ≡ false
+    go (inl h) = let (num, p, q, r) = learnable-inconsistent s n good h in good-refused m num p (sym e ∙ q)
     go (inr h) = h
 
 -- a step of the plan is one of its members

@@ -2,9 +2,8 @@
 use Prim.Native.Nat.{ℕ, zero, suc}
 use mathlib.Core.Path.{_≡_, refl, sym, ap, _∙_}
 use mathlib.Core.List.{List}
-use native.Mathlib.Omega.{arith}
-use Rattle.answer.specs.declared.Answer.{Answer}
 use Rattle.answer.specs.declared.Answer.the-variants.{Good, Refused}
+use Rattle.answer.specs.Laws.{good-refused}
 use Rattle.terms.specs.Schema.{Schema}
 use Rattle.format.specs.Order.{GoalEntry, stepCount, stepsAt, goalCount, goalAt, goal, goalFrom, plan, planFrom}
 use Rattle.jobs.specs.Check.{goalAnswer}
@@ -44,7 +43,7 @@ module _ (sch : Schema) (l o old new : List ℕ) (steps at k : ℕ)
       record {
         says = stop-answer _ _ _ k (sym stops) h;
         mask = leaves;
-        ends = λ m e. absurd (let z : _≡_ {A = ℕ} 0 1 = cc in omega arith);
+        ends = λ m e. good-refused _ _ _ (sym e);
       }
 
   module _ (none : k ≡ 0) (n g i : ℕ) (r : n ≡ goalCount o) (t : g ≡ goalAt o) (first : i ≡ missed new (goalFrom o n g)) where
@@ -57,7 +56,7 @@ module _ (sch : Schema) (l o old new : List ℕ) (steps at k : ℕ)
         record {
           says = miss-answer _ _ _ i (sym stops ∙ none) misses h;
           mask = leaves;
-          ends = λ m e. absurd (let z : _≡_ {A = ℕ} 0 1 = cc in omega arith);
+          ends = λ m e. good-refused _ _ _ (sym e);
         }
 
     pub out-pass : i ≡ 0 → CarriedOut (carry sch l (plan o) old 1) (stepCount o) (goal o) new (Good steps)

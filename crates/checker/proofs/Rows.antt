@@ -4,12 +4,12 @@ use mathlib.Core.Path.{_≡_, refl, sym, ap, _∙_}
 use mathlib.Core.Bool.{Bool, true, false, not}
 use mathlib.Core.List.{List}
 use lib.ListN.{length}
-use lib.Dec.{eqb}
 use borrow.Author.Tests.{eq-eqb, ne-eqb}
 use Rattle.answer.specs.declared.Answer.{Answer}
 use Rattle.answer.specs.declared.Answer.the-variants.{Good, Refused}
-use Rattle.answer.specs.Answer.{_>>=_, refuse, isRefused}
-use Rattle.answer.specs.Laws.{clash, stays, bind-good, refuse-unmet}
+use Rattle.answer.specs.Answer.{_>>=_, refuse, isRefused, kept}
+use Rattle.truth.specs.Bools.{clash}
+use Rattle.answer.specs.Laws.{stays, bind-good, refuse-unmet}
 use Rattle.terms.specs.declared.Sections.{Sections}
 use Rattle.terms.specs.Sections.{sectionsOf}
 use Rattle.terms.specs.Schema.{schema}
@@ -17,18 +17,18 @@ use Rattle.format.specs.LookOver.{lookOver}
 use Rattle.format.specs.Decode.{factsAt}
 use Rattle.format.specs.Order.{startCount, startAt, stepCount, orderForm, startFacts, goal, plan}
 use Rattle.jobs.specs.Planning.{schemaOf, goalOf}
-use Rattle.jobs.specs.Learn.{learnable, kept}
+use Rattle.jobs.specs.Learn.{learnable}
 use Rattle.jobs.specs.Check.{planRun, runAnswer, check, checkBytes, endSheet}
 use Rattle.statemask.specs.Statemask.{carry, startMask}
 use Rattle.statemask.specs.Carrying.{carriedAnswer}
 use Rattle.answer.specs.Turns.{is-good}
 use Rattle.learner.specs.Learner.{heldOf}
 use Rattle.learner.proofs.Book.{schema-own, form-good}
-use Rattle.checker.specs.Checker.{CarriedOut, Checked}
+use Rattle.checker.specs.Checker.{CarriedOut, CheckOutcome}
 use Rattle.checker.proofs.Carried.{plan-answer, plan-sheet}
 
 -- a refusal leaves the sheet as it was
-refused-kept : (s o old : List ℕ) (r : Answer) → r ≡ check s o (length old) → isRefused r ≡ true → Checked s o old old r
+refused-kept : (s o old : List ℕ) (r : Answer) → r ≡ check s o (length old) → isRefused r ≡ true → CheckOutcome s o old old r
 unfolding checkBytes kept isRefused
 refused-kept s o old r e f = record { says = e; bytes = go r f e }
   where
@@ -43,14 +43,14 @@ start-by o n at p q e = rw (p, q) at e
 
 module _ (s o old : List ℕ) where
   -- rows 1 to 12
-  pub at-book : (a : Answer) (b : Bool) → a ≡ learnable s → b ≡ isRefused a → b ≡ true → Checked s o old old a
+  pub at-book : (a : Answer) (b : Bool) → a ≡ learnable s → b ≡ isRefused a → b ≡ true → CheckOutcome s o old old a
   unfolding check
   at-book a b e q r =
       refused-kept s o old a (e ∙ stays (learnable s) _ (sym (ap isRefused e) ∙ sym q ∙ r)) (sym q ∙ r)
 
   module _ (m : ℕ) (learns : learnable s ≡ Good m) where
     -- row 13
-    pub at-size : (length old ≡ 512 → ⊥) → Checked s o old old (Refused 13 0)
+    pub at-size : (length old ≡ 512 → ⊥) → CheckOutcome s o old old (Refused 13 0)
     unfolding check refuse _>>=_ isRefused
     at-size h =
         let e : Refused 13 0 ≡ check s o (length old) = rw (learns, ne-eqb (length old) 512 h) in
@@ -65,7 +65,7 @@ module _ (s o old : List ℕ) where
       reaches = bind-good _ _ m learns ∙ refuse-unmet _ 13 0 _ (ap not (eq-eqb (length old) 512 size))
 
       -- rows 14 to 18
-      pub at-order : (a : Answer) (b : Bool) → a ≡ orderForm (schema h s) o → b ≡ isRefused a → b ≡ true → Checked s o old old a
+      pub at-order : (a : Answer) (b : Bool) → a ≡ orderForm (schema h s) o → b ≡ isRefused a → b ≡ true → CheckOutcome s o old old a
       at-order a b e q r =
           let f : a ≡ orderForm (schemaOf s) o = rw (schema-own s h own) at e in
           refused-kept s o old a (stays a then (sym q ∙ r) ∙ ap (λ x. x >>= then) f ∙ sym reaches) (sym q ∙ r)
@@ -92,11 +92,11 @@ module _ (s o old : List ℕ) where
             ∙ sym reaches
 
         -- rows 19 and 20
-        pub at-plan : (b : Bool) → b ≡ isRefused c → b ≡ true → Checked s o old old c
+        pub at-plan : (b : Bool) → b ≡ isRefused c → b ≡ true → CheckOutcome s o old old c
         at-plan b q r = refused-kept s o old c says (sym q ∙ r)
 
         -- a pass: the sheet is the end state
-        pub at-end : (b : Bool) → b ≡ isRefused c → b ≡ false → (sheet : List ℕ) → sheet ≡ new → Checked s o old sheet c
+        pub at-end : (b : Bool) → b ≡ isRefused c → b ≡ false → (sheet : List ℕ) → sheet ≡ new → CheckOutcome s o old sheet c
         unfolding checkBytes kept
         at-end b q r sheet e =
             let g = is-good c (sym q ∙ r) in

@@ -17,6 +17,6 @@ pub record CarriedOut (c : Carried) (steps : ℕ) (goal : List GoalEntry) (new :
   pub ends : (m : ℕ) → r ≡ Good m → c .stop ≡ 0
 
 -- a check with a lent end sheet: the answer, and every byte of the sheet afterwards
-pub record Checked (s o old new : List ℕ) (r : Answer) : Type 0 where
+pub record CheckOutcome (s o old new : List ℕ) (r : Answer) : Type 0 where
   pub says : r ≡ check s o (length old)
   pub bytes : new ≡ checkBytes s o old

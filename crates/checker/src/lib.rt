@@ -1,28 +1,38 @@
 // Checking a plan: the book's rows 1 to 12 as in learning, row 13 for the end sheet, the order's rows 14 to 18, then the plan and its goal.
-// Uses learner, orders and execution; the state is a local mask, so that a refusal leaves the lent sheet untouched.
+// Uses learner, orderhead, orders, execution and output; the state is a local mask, so that a refusal leaves the lent sheet untouched.
 use answer::Answer;
 use terms::Sections;
 ghost use mathlib.Core.Path.{_≡_};
 ghost use lib.ListN.{length};
+ghost use Rattle.limits.specs.Limits.{endSize};
 ghost use Rattle.terms.specs.Schema.{schema};
 ghost use Rattle.format.specs.Order.{stepCount, stepsAt, goal, plan};
 ghost use Rattle.statemask.specs.Statemask.{carry};
 ghost use Rattle.execution.specs.Execution.{Carriable};
-ghost use Rattle.checker.specs.Checker.{CarriedOut, Checked};
-
-const END_SIZE: usize = 512;
+ghost use Rattle.checker.specs.Checker.{CarriedOut, CheckOutcome};
 
 // Rows 19 and 20, from the state of the start facts on.
-fn carry_out(book: &[u8], h: Sections, held: &[u8], o: &[u8], state: &mut [u8; 512]) -> Answer
+fn carry_out(
+    book: &[u8],
+    h: Sections,
+    held: &[u8],
+    o: &[u8],
+    state: &mut [u8; limits::END_SIZE],
+) -> Answer
     requires { ⌜ Carriable (now held) (now o) (stepCount (now o)) (stepsAt (now o)) ⌝ }
     ensures { λ r. ⌜ CarriedOut (carry (schema h (now (book .entry))) (now (held .entry)) (plan (now (o .entry))) (now (state .entry)) 1) (stepCount (now (o .entry))) (goal (now (o .entry))) (now (state .exit)) r ⌝ }
 {
-    let steps = orders::step_count(o) as usize;
-    let stop = execution::carry(book, h, held, o, steps, orders::steps_at(o), state);
+    let steps = orderhead::step_count(o) as usize;
+    let stop = execution::carry(book, h, held, o, steps, orderhead::steps_at(o), state);
     if stop != 0 {
         return Answer::Refused(19, stop);
     }
-    let entry = execution::missed(o, orders::goal_count(o) as usize, orders::goal_at(o), state);
+    let entry = execution::missed(
+        o,
+        orderhead::goal_count(o) as usize,
+        orderhead::goal_at(o),
+        state,
+    );
     if entry != 0 {
         return Answer::Refused(20, entry);
     }
@@ -30,30 +40,34 @@ fn carry_out(book: &[u8], h: Sections, held: &[u8], o: &[u8], state: &mut [u8; 5
 }
 
 // The end sheet: the state by value, so that its length is known.
-fn write_end(end: &mut [u8], state: [u8; 512])
-    requires { ⌜ length (now end) ≡ 512 ⌝ }
+fn write_end(end: &mut [u8], state: [u8; limits::END_SIZE])
+    requires { ⌜ length (now end) ≡ endSize ⌝ }
     ensures { λ _. ⌜ now (end .exit) ≡ state ⌝ }
 {
-    rulesheet::write_bytes(end, 0, &state);
+    output::write_bytes(end, 0, &state);
 }
 
 pub fn check(s: &[u8], o: &[u8], end: &mut [u8]) -> Answer
-    ensures { λ r. ⌜ Checked (now (s .entry)) (now (o .entry)) (now (end .entry)) (now (end .exit)) r ⌝ }
+    ensures { λ r. ⌜ CheckOutcome (now (s .entry)) (now (o .entry)) (now (end .entry)) (now (end .exit)) r ⌝ }
 {
     let h = Sections::read(s);
-    let mut held = [0u8; 6144];
+    let mut held = [0u8; limits::HELD_SIZE];
     let a = learner::note_book(s, h, &mut held);
     if answer::is_refused(a) {
         return a;
     }
-    if end.len() != END_SIZE {
+    if end.len() != limits::END_SIZE {
         return Answer::Refused(13, 0);
     }
     let b = orders::order_form(s, h, o);
     if answer::is_refused(b) {
         return b;
     }
-    let mut state = execution::start_mask(o, orders::start_count(o) as usize, orders::start_at(o));
+    let mut state = execution::start_mask(
+        o,
+        orderhead::start_count(o) as usize,
+        orderhead::start_at(o),
+    );
     let c = carry_out(s, h, &held, o, &mut state);
     if answer::is_refused(c) {
         return c;

@@ -5,6 +5,7 @@ use mathlib.Core.Bool.{true}
 use mathlib.Core.List.{List}
 use native.Mathlib.Omega.{arith}
 use Rattle.answer.specs.declared.Answer.the-variants.{Good}
+use Rattle.truth.specs.Bools.{bool-eq}
 use Rattle.input.specs.Bytes.{byteAt}
 use Rattle.terms.specs.declared.Param.{Param}
 use Rattle.terms.specs.declared.Relation.{Relation}
@@ -13,13 +14,12 @@ use Rattle.terms.specs.declared.Binding.{Binding}
 use Rattle.terms.specs.Sections.{sectionsOf}
 use Rattle.terms.specs.Schema.{Schema, relationAt, moveAt, schema, kindSuits}
 use Rattle.terms.specs.Steps.{atomRelation, atomFirst, atomSecond, parameterFills, isAtom, placed, ground}
+use Rattle.terms.proofs.Atoms.{relation-from-1, first-range, second-range, atom-out, atom-in}
 use Rattle.format.specs.LookOver.{lookOver}
-use Rattle.model.proofs.Truth.{bool-eq}
 use Rattle.jobs.specs.Planning.{domain, schemaOf}
 use Rattle.wellformed.specs.Grounding.{objectIn, factOf}
 use Rattle.wellformed.proofs.Headers.{header-right}
-use Rattle.wellformed.proofs.Atoms.{relation-from-1, first-range, second-range, atom-out, atom-in}
-use Rattle.demand.specs.Twins.{SameSchema}
+use Rattle.demand.specs.TwoBooks.{SameSchema}
 
 pub record Agree (S T : Schema) : Type 0 where
   pub relations : S .relations ≡ T .relations

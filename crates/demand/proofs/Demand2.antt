@@ -2,12 +2,15 @@
 use Prim.Native.Nat.{ℕ, _+_, _-_, _*_, _≤_, _<_}
 use mathlib.Core.Path.{_≡_, refl, sym, ap, _∙_}
 use mathlib.Core.Logic.{_↔_}
-use mathlib.Core.Bool.{Bool, true, false, not}
+use mathlib.Core.Bool.{Bool, true, false, not, not-eq-not}
 use mathlib.Core.List.{List}
 use native.Mathlib.Omega.{arith}
 use lib.ListN.{length}
 use borrow.Author.Tests.{eq-eqb}
+use Rattle.answer.specs.Answer.{kept}
+use Rattle.limits.specs.Limits.{ruleSize}
 use Rattle.answer.specs.declared.Answer.the-variants.{Good}
+use Rattle.truth.specs.Bools.{clash, not-self, is-false}
 use Rattle.answer.specs.Laws.{bind-good, refuse-unmet}
 use Rattle.mask.specs.Bits.{testBit}
 use Rattle.terms.specs.Steps.{isAtom}
@@ -15,24 +18,16 @@ use Rattle.format.specs.Decode.{Filed}
 use Rattle.format.specs.LookOver.{lookOver}
 use Rattle.model.specs.Quantify.{Mem}
 use Rattle.model.specs.Learned.{learned}
-use Rattle.model.proofs.Truth.{clash, not-self, is-false}
 use Rattle.model.proofs.Seen.{before-in, before-out, turned-in, turned-out, need-in, need-out, effect-in, effect-out}
 use Rattle.model.proofs.Bounds.{precondition-iff-some, effect-iff-every}
 use Rattle.jobs.specs.Planning.{domain, schemaOf, filedIn, transitionsOf}
-use Rattle.jobs.specs.Learn.{ruleSize, learnable, learnedFrom, ruleRow, ruleSheet, learn, kept, learnBytes}
+use Rattle.jobs.specs.Learn.{learnable, learnedFrom, ruleRow, ruleSheet, learn, learnBytes}
 use Rattle.wellformed.proofs.Formed.{formed}
 use Rattle.demand.specs.Demand2.{needBit, effectBit, valueIn, Bits, Demand2}
-use Rattle.demand.proofs.Rows.{conflictIn, learnable-conflict}
+use Rattle.demand.proofs.Rows.{inconsistentIn, learnable-inconsistent}
 use Rattle.demand.proofs.Demand3.{demand3}
 use Rattle.demand.proofs.Sheet.{length-rows, sheet-bit, bit-held, bit-unheld, bit-added, bit-removed}
 use Rattle.demand.proofs.Filed.{sight-of-filed, filed-of-sight}
-
--- the other value is ruled out
-other : (b x : Bool) → (x ≡ not b → ⊥) → x ≡ b
-other true true h = refl
-other true false h = absurd (h refl)
-other false true h = absurd (h refl)
-other false false h = refl
 
 module _ (s : List ℕ) (b : Bool) (a n : ℕ) where
   -- ---- what is learned, told of the steps as they are filed
@@ -44,7 +39,7 @@ module _ (s : List ℕ) (b : Bool) (a n : ℕ) where
         let (atom, never) = need-out (domain (schemaOf s)) (transitionsOf s) b a n e in (
           atom,
           λ f m q.
-              other b (valueIn s f (f .pre) n)
+              not-eq-not {a = valueIn s f (f .pre) n} {b = b} .0
               (λ w.
               clash _
               (before-in (transitionsOf s) a n (not b) _
@@ -100,7 +95,7 @@ module _ (s : List ℕ) (a n : ℕ) (low : 1 ≤ a) (high : a ≤ schemaOf s .mo
   unfolding learnedFrom learned domain
   effect-none b e = rw e
 
-  bits : (m : ℕ) → lookOver s ≡ Good m → conflictIn s ≡ false → (b : Bool) → Bits s b a n
+  bits : (m : ℕ) → lookOver s ≡ Good m → inconsistentIn s ≡ false → (b : Bool) → Bits s b a n
   unfolding learnedFrom
   bits m good clean b =
       record {
@@ -113,11 +108,11 @@ module _ (s : List ℕ) (a n : ℕ) (low : 1 ≤ a) (high : a ≤ schemaOf s .mo
 
 -- ---- the whole
 module _ (s : List ℕ) (n : ℕ) (good : lookOver s ≡ Good n) (total : ℕ) (accepted : learnable s ≡ Good total) where
-  accepted-clean : conflictIn s ≡ false
+  accepted-clean : inconsistentIn s ≡ false
   accepted-clean =
       is-false _
       (λ e.
-      let (num, p, q, h) = learnable-conflict s n good e in
+      let (num, p, q, h) = learnable-inconsistent s n good e in
       let z : _≡_ {A = ℕ} 0 1 = cc in
       omega arith)
 

@@ -6,10 +6,13 @@ use mathlib.Core.Bool.{true, false}
 use mathlib.Core.List.{List}
 use native.Mathlib.Omega.{arith}
 use lib.ListN.{length}
+use Rattle.limits.specs.Limits.{endSize}
 use Rattle.answer.specs.declared.Answer.{Answer}
 use Rattle.answer.specs.declared.Answer.the-variants.{Good, Refused}
-use Rattle.answer.specs.Answer.{_>>=_, number, place}
+use Rattle.answer.specs.Answer.{_>>=_, number, place, kept}
+use Rattle.truth.specs.Bools.{decide, is-true}
 use Rattle.answer.specs.Laws.{bind-good, bind-refused, refuse-unmet}
+use Rattle.answer.specs.Refusals.{RefusedFrom, from-good, from-refused, from-row, from-bind}
 use Rattle.mask.specs.Sets.{maskOf}
 use Rattle.mask.proofs.Whole.{length-maskOf, test-maskOf}
 use Rattle.format.specs.LookOver.{lookOver}
@@ -19,21 +22,20 @@ use Rattle.model.specs.Domain.{State, Entry}
 use Rattle.model.specs.Model.{Run, stopped, ended}
 use Rattle.model.specs.Judge.{Verdict, impossible, passes, wrong}
 use Rattle.model.specs.Check.{reached, judgedRun, checked}
-use Rattle.model.proofs.Truth.{decide, is-true}
 use Rattle.model.proofs.Judge.{unique}
 use Rattle.model.proofs.Impossible.{learned-valid, impossible-iff}
-use Rattle.model.proofs.Exact.{exact, verdict-iff, checked-conflict, checked-plan}
+use Rattle.model.proofs.Exact.{exact, verdict-iff, checked-inconsistent, checked-plan}
 use Rattle.jobs.specs.Planning.{domain, schemaOf, transitionsOf, startState, planOf, goalOf}
-use Rattle.jobs.specs.Learn.{learnable, learnedFrom, learn, kept}
-use Rattle.jobs.specs.Check.{endSize, planRun, goalAnswer, runAnswer, check, endSheet, checkBytes}
-use Rattle.jobs.specs.Judge.{Held, Rules}
+use Rattle.jobs.specs.Learn.{learnable, learnedFrom, learn}
+use Rattle.jobs.specs.Check.{planRun, goalAnswer, runAnswer, check, endSheet, checkBytes}
+use Rattle.jobs.specs.Judge.{FitsBook, Rules}
 use Rattle.wellformed.proofs.Headers.{relations-few}
 use Rattle.wellformed.proofs.Formed.{formed}
 use Rattle.wellformed.proofs.Orders.{grounded, plan-under, start-under}
-use Rattle.wellformed.proofs.Refusals.{RefusedFrom, from-good, from-refused, from-row, from-bind, order-refused-from}
+use Rattle.wellformed.proofs.Refusals.{order-refused-from}
 use Rattle.wellformed.proofs.Ends.{run-under}
 use Rattle.demand.specs.Demand3.{NoneFits, Impossible, Answers, Shows, Demand3}
-use Rattle.demand.proofs.Rows.{conflictIn, learnable-clean, learnable-conflict}
+use Rattle.demand.proofs.Rows.{inconsistentIn, learnable-clean, learnable-inconsistent}
 
 -- ---- answers and verdicts
 refused-impossible : (a : Answer) (num p : ℕ) → a ≡ Refused num p → (num ≡ 11) ⊎ (num ≡ 12) → Impossible a
@@ -80,7 +82,7 @@ pass-run steps goal (ended st) end e = go (first (wrong st) goal) e
 
 module _ (s : List ℕ) (n : ℕ) (good : lookOver s ≡ Good n) where
   -- ---- 11 or 12
-  fits-none : conflictIn s ≡ true ↔ NoneFits s
+  fits-none : inconsistentIn s ≡ true ↔ NoneFits s
   fits-none = impossible-iff (domain (schemaOf s)) (transitionsOf s) (formed s n good)
 
   -- an answer that begins with learning, and has only later rows behind it
@@ -88,21 +90,20 @@ module _ (s : List ℕ) (n : ℕ) (good : lookOver s ≡ Good n) where
   exactly a k e from = (
     λ h. fits-none .0 (is-true _ (λ clean. late (k n) from (rw (e ∙ bind-good (learnable s) k n (learnable-clean s n good clean)) at h))),
     λ none.
-        let (num, p, q, h) = learnable-conflict s n good (fits-none .1 none) in
+        let (num, p, q, h) = learnable-inconsistent s n good (fits-none .1 none) in
         refused-impossible a num p (e ∙ bind-refused (learnable s) k num p q) h,
   )
 
   learning : (size : ℕ) → Impossible (learn s size) ↔ NoneFits s
   unfolding learn
-  learning size = exactly (learn s size) _ refl (from-bind 13 _ _ (from-row 13 _ 13 0 (omega arith)) (λ x. from-good 13 n))
+  learning size = exactly (learn s size) _ refl (from-row 13 _ 13 0 _ (omega arith) (from-good 13 n))
 
   checking : (o : List ℕ) (size : ℕ) → Impossible (check s o size) ↔ NoneFits s
   unfolding check
   checking o size =
       exactly (check s o size) _ refl
-      (from-bind 13 _ _ (from-row 13 _ 13 0 (omega arith))
-      (λ x.
-      from-bind 13 _ _ (λ num p e. omega (arith, order-refused-from (schemaOf s) o num p e)) (λ y. from-run (stepCount o) (goalOf o) (planRun s o))))
+      (from-row 13 _ 13 0 _ (omega arith)
+      (from-bind 13 _ _ (λ num p e. omega (arith, order-refused-from (schemaOf s) o num p e)) (λ y. from-run (stepCount o) (goalOf o) (planRun s o))))
 
   -- ---- orders of good form
   module _ (o : List ℕ) (m : ℕ) (form : orderForm (schemaOf s) o ≡ Good m) where
@@ -110,7 +111,7 @@ module _ (s : List ℕ) (n : ℕ) (good : lookOver s ≡ Good n) where
     says : (v : Verdict) → Rules s o v ↔ (checked (domain (schemaOf s)) (transitionsOf s) (planOf (schemaOf s) o) (startState o) (goalOf o) ≡ v)
     says = verdict-iff (domain (schemaOf s)) (transitionsOf s) (planOf (schemaOf s) o) (startState o) (goalOf o) (formed s n good) (grounded (schemaOf s) o m form)
 
-    module _ (clean : conflictIn s ≡ false) where
+    module _ (clean : inconsistentIn s ≡ false) where
       check-runs : check s o endSize ≡ runAnswer (stepCount o) (goalOf o) (planRun s o)
       unfolding check
       check-runs =
@@ -123,16 +124,16 @@ module _ (s : List ℕ) (n : ℕ) (good : lookOver s ≡ Good n) where
       run-verdict v h =
           sym (checked-plan (domain (schemaOf s)) (transitionsOf s) (planOf (schemaOf s) o) (startState o) (goalOf o) clean) ∙ says v .0 h
 
-    conflict-verdict : conflictIn s ≡ true → (v : Verdict) → Rules s o v → impossible ≡ v
-    conflict-verdict e v h =
-        sym (checked-conflict (domain (schemaOf s)) (transitionsOf s) (planOf (schemaOf s) o) (startState o) (goalOf o) e) ∙ says v .0 h
+    inconsistent-verdict : inconsistentIn s ≡ true → (v : Verdict) → Rules s o v → impossible ≡ v
+    inconsistent-verdict e v h =
+        sym (checked-inconsistent (domain (schemaOf s)) (transitionsOf s) (planOf (schemaOf s) o) (startState o) (goalOf o) e) ∙ says v .0 h
 
     verdict : (v : Verdict) → Rules s o v → Answers (stepCount o) v (check s o endSize)
-    verdict v h = go (decide (conflictIn s))
+    verdict v h = go (decide (inconsistentIn s))
       where
-        go : (conflictIn s ≡ true) ⊎ (conflictIn s ≡ false) → Answers (stepCount o) v (check s o endSize)
+        go : (inconsistentIn s ≡ true) ⊎ (inconsistentIn s ≡ false) → Answers (stepCount o) v (check s o endSize)
         go (inl e) =
-            subst (λ (w : Verdict). Answers (stepCount o) w (check s o endSize)) (conflict-verdict e v h) (checking o endSize .1 (fits-none .0 e))
+            subst (λ (w : Verdict). Answers (stepCount o) w (check s o endSize)) (inconsistent-verdict e v h) (checking o endSize .1 (fits-none .0 e))
         go (inr e) =
             rw (check-runs e) (subst (λ (w : Verdict). Answers (stepCount o) w (runAnswer (stepCount o) (goalOf o) (planRun s o))) (run-verdict e v h)
             (run-answers (stepCount o) (goalOf o) (planRun s o)))
@@ -141,7 +142,7 @@ module _ (s : List ℕ) (n : ℕ) (good : lookOver s ≡ Good n) where
     some = (checked (domain (schemaOf s)) (transitionsOf s) (planOf (schemaOf s) o) (startState o) (goalOf o), exact (domain (schemaOf s)) (transitionsOf s) (planOf (schemaOf s) o) (startState o) (goalOf o) (formed s n good) (grounded (schemaOf s) o m form))
 
     -- the end state has no fact from 4096 on
-    end-under : conflictIn s ≡ false → (end : State) → planRun s o ≡ ended end → (f : ℕ) → 4096 ≤ f → end f ≡ false
+    end-under : inconsistentIn s ≡ false → (end : State) → planRun s o ≡ ended end → (f : ℕ) → 4096 ≤ f → end f ≡ false
     unfolding planRun learnedFrom domain
     end-under clean end e f h =
         let few = relations-few s n good in
@@ -150,10 +151,10 @@ module _ (s : List ℕ) (n : ℕ) (good : lookOver s ≡ Good n) where
 
     sheet : (end : State) → Rules s o (passes end) → (lent : List ℕ) → length lent ≡ endSize → Shows (checkBytes s o lent) end
     unfolding checkBytes kept endSheet
-    sheet end h lent long = go (decide (conflictIn s))
+    sheet end h lent long = go (decide (inconsistentIn s))
       where
-        go : (conflictIn s ≡ true) ⊎ (conflictIn s ≡ false) → Shows (checkBytes s o lent) end
-        go (inl e) = absurd (let q = conflict-verdict e (passes end) h in let z : _≡_ {A = ℕ} 0 1 = cc in omega arith)
+        go : (inconsistentIn s ≡ true) ⊎ (inconsistentIn s ≡ false) → Shows (checkBytes s o lent) end
+        go (inl e) = absurd (let q = inconsistent-verdict e (passes end) h in let z : _≡_ {A = ℕ} 0 1 = cc in omega arith)
         go (inr e) =
             let (ends, answer) = pass-run (stepCount o) (goalOf o) (planRun s o) end (run-verdict e (passes end) h) in
             let bytes : checkBytes s o lent ≡ maskOf endSize end = rw (long, check-runs e, answer, ends) in
@@ -174,5 +175,5 @@ demand3 s n good =
       verdict = verdict s n good;
       sheet = sheet s n good;
       some = some s n good;
-      one = λ o v w. unique (domain (schemaOf s)) (Held s) (planOf (schemaOf s) o) (startState o) (goalOf o) v w;
+      one = λ o v w. unique (domain (schemaOf s)) (FitsBook s) (planOf (schemaOf s) o) (startState o) (goalOf o) v w;
     }

@@ -1,9 +1,9 @@
--- The demands, proved: Demand3 and Demand2 for one book, Twins and Renumbered for two. Rows, Sheet, Filed and Agree serve them.
+-- The demands, proved: Demand3 and Demand2 for one book, TwoBooks and Renumbered for two. Rows, Sheet, Filed and Agree serve them.
 pub mod Rows
 pub mod Demand3
 pub mod Sheet
 pub mod Filed
 pub mod Demand2
 pub mod Agree
-pub mod Twins
+pub mod TwoBooks
 pub mod Renumbered

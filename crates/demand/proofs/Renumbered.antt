@@ -5,27 +5,26 @@ use mathlib.Core.Path.{_≡_, refl, sym, ap, _∙_, subst}
 use mathlib.Core.Bool.{Bool, true, false, cond}
 use mathlib.Core.List.{List, [], _∷_}
 use lib.Dec.{leb}
+use Rattle.truth.specs.Bools.{bool-eq}
 use Rattle.terms.specs.declared.Param.{Param}
 use Rattle.terms.specs.declared.Binding.{Binding}
 use Rattle.terms.specs.declared.Fact.{Fact}
 use Rattle.terms.specs.Schema.{Schema, Hall}
 use Rattle.terms.specs.Steps.{objectOf, atomRelation, atomFirst, atomSecond, isAtom, ground}
-use Rattle.format.specs.Limits.{maxObjects}
+use Rattle.terms.proofs.Atoms.{fact-path, first-range, second-range}
+use Rattle.limits.specs.Limits.{maxObjects}
 use Rattle.format.specs.Decode.{Filed}
 use Rattle.model.specs.Quantify.{Mem, here, there}
-use Rattle.model.proofs.Truth.{bool-eq}
 use Rattle.jobs.specs.Planning.{domain, holding, groundAction, transition, schemaOf, filedIn}
 use Rattle.jobs.specs.Learn.{learnedFrom, ruleRows, ruleSheet}
 use Rattle.wellformed.specs.Right.{RightStep, RightState, RightSomewhere}
 use Rattle.wellformed.specs.Grounding.{objectIn, factOf}
 use Rattle.wellformed.proofs.Records.{filed-right}
-use Rattle.wellformed.proofs.Numbers.{fact-path}
-use Rattle.wellformed.proofs.Atoms.{first-range, second-range}
 use Rattle.wellformed.proofs.Values.{holds-in, holds-out}
-use Rattle.demand.specs.Twins.{Renumbering, renumbered, RenumberedFacts, RenumberedStep, RenumberedSteps, RenumberedSameSheet}
+use Rattle.demand.specs.TwoBooks.{Renumbering, renumbered, RenumberedFacts, RenumberedStep, RenumberedSteps, RenumberedSameSheet}
 use Rattle.demand.proofs.Agree.{Agree, fact-same, atom-same, schemas-agree}
 use Rattle.demand.proofs.Sheet.{rows-same}
-use Rattle.demand.proofs.Twins.{AlikeFiled, same-row}
+use Rattle.demand.proofs.TwoBooks.{AlikeFiled, same-row}
 
 -- facts that are one when renumbered are one
 renumbered-apart : (to : ℕ → ℕ) → Renumbering to → (f g : Fact) → renumbered to f ≡ renumbered to g → f ≡ g

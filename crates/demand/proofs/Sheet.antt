@@ -6,12 +6,13 @@ use mathlib.Core.List.{List, _++_}
 use native.Mathlib.Omega.{arith}
 use lib.ListN.{length, take, drop, length-append}
 use lib.Seq.{take-at, drop-at, drop-drop}
+use Rattle.limits.specs.Limits.{setSize, ruleSize}
 use Rattle.mask.specs.Bits.{testBit}
 use Rattle.mask.specs.Sets.{maskOf}
 use Rattle.mask.proofs.Whole.{length-maskOf, test-maskOf, maskOf-same}
 use Rattle.mask.proofs.Joined.{test-left, test-right}
 use Rattle.model.specs.Model.{Model}
-use Rattle.jobs.specs.Learn.{setSize, ruleSize, ruleRow, ruleRows}
+use Rattle.jobs.specs.Learn.{ruleRow, ruleRows}
 
 module _ (M : Model) where
   pub length-row : (a : ℕ) → length (ruleRow M a) ≡ ruleSize

@@ -1,11 +1,12 @@
 -- Demand 3, whole: what learning and checking say of a book of good form is what the judge says, who never sees the rule sheet.
--- The judge is `Held` and `Rules` of jobs/specs/Judge.antt; `learn`, `check` and `checkBytes` are what the calls return and leave behind.
+-- The judge is `FitsBook` and `Rules` of jobs/specs/Judge.antt; `learn`, `check` and `checkBytes` are what the calls return and leave behind.
 use Prim.Native.Nat.{ℕ, _≤_, _<_}
 use mathlib.Core.Path.{_≡_}
 use mathlib.Core.Logic.{_⊎_, _↔_}
 use mathlib.Core.Bool.{false}
 use mathlib.Core.List.{List}
 use lib.ListN.{length}
+use Rattle.limits.specs.Limits.{endSize, maxFactNumbers}
 use Rattle.answer.specs.declared.Answer.{Answer}
 use Rattle.answer.specs.declared.Answer.the-variants.{Good}
 use Rattle.answer.specs.Answer.{number, place}
@@ -16,12 +17,12 @@ use Rattle.model.specs.Model.{Model}
 use Rattle.model.specs.Judge.{Verdict, impossible, stops, misses, passes}
 use Rattle.jobs.specs.Planning.{schemaOf}
 use Rattle.jobs.specs.Learn.{learn}
-use Rattle.jobs.specs.Check.{endSize, check, checkBytes}
-use Rattle.jobs.specs.Judge.{Held, Rules}
+use Rattle.jobs.specs.Check.{check, checkBytes}
+use Rattle.jobs.specs.Judge.{FitsBook, Rules}
 
 -- no model (rule list) fits the book
 abbrev pub NoneFits : List ℕ → Type 0
-NoneFits s = (M : Model) → Held s M → ⊥
+NoneFits s = (M : Model) → FitsBook s M → ⊥
 
 -- the number is that of row 11 or row 12
 abbrev pub Impossible : Answer → Type 0
@@ -36,10 +37,10 @@ Answers steps (passes end) a = (number a ≡ 0) × (place a ≡ steps)
 
 -- the end sheet holds the state: 512 bytes, the bits set being just the facts that hold
 pub record Shows (sheet : List ℕ) (end : State) : Type 0 where
-  pub long : length sheet ≡ 512
-  pub bits : (n : ℕ) → n < 4096 → testBit sheet n ≡ end n
+  pub long : length sheet ≡ endSize
+  pub bits : (n : ℕ) → n < maxFactNumbers → testBit sheet n ≡ end n
   -- a fact that has no bit in the sheet does not hold
-  pub others : (n : ℕ) → 4096 ≤ n → end n ≡ false
+  pub others : (n : ℕ) → maxFactNumbers ≤ n → end n ≡ false
 
 pub record Demand3 (s : List ℕ) : Type 0 where
   -- The judge says impossible exactly when no model fits the book, whatever the order.

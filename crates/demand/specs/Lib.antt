@@ -1,4 +1,4 @@
 -- The demands as statements, for a reader.
 pub mod Demand3
 pub mod Demand2
-pub mod Twins
+pub mod TwoBooks

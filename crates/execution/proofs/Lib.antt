@@ -1,4 +1,4 @@
--- Laws for the proofs of src/: what the calls return put together (Tests), each loop's turns (Turns, Plan).
-pub mod Tests
-pub mod Turns
+-- Laws for the proofs of src/, by subject: the start state, the plan, the goal.
+pub mod Start
 pub mod Plan
+pub mod Goal

@@ -9,16 +9,14 @@ use lib.ListN.{length}
 use Rattle.terms.specs.declared.Step.{Step}
 use Rattle.terms.specs.Schema.{Schema}
 use Rattle.terms.specs.Steps.{stepAt, ground}
-use Rattle.format.specs.Limits.{maxMoves, stepSize}
+use Rattle.limits.specs.Limits.{maxMoves, stepSize, heldSize}
 use Rattle.format.specs.Order.{planFrom}
 use Rattle.model.proofs.Quantify.{below-same}
-use Rattle.held.specs.Held.{heldSize}
-use Rattle.held.specs.Rules.{ruleSet}
 use Rattle.rulesheet.specs.Sheet.{ruleSets}
 use Rattle.statemask.specs.Statemask.{unmet, stuckIn, nextIn, stepStuck, stepNext, Carried, carry}
 use Rattle.statemask.proofs.Plan.{carry-stop, carry-go}
-use Rattle.execution.specs.Execution.{ruleAt, Carriable, Carries}
-use Rattle.execution.proofs.Turns.{next-by}
+use Rattle.stepping.specs.Stepping.{ruleAt}
+use Rattle.execution.specs.Execution.{Carriable, Carries}
 
 -- ---- what can be carried
 module _ (l o : List ℕ) (n at : ℕ) (c : Carriable l o n at) (some : 0 < n) where
@@ -47,8 +45,8 @@ module _ (sch : Schema) (l : List ℕ) (st : Step) (rules : List (List ℕ)) (re
   stuck-same = rw read (below-same 256 _ _ (λ n. refl))
 
   next-same : nextIn (ruleAt rules) (ground sch (st .binding)) m ≡ stepNext sch l st m
-  unfolding stepNext ruleAt ruleSets
-  next-same = rw read (next-by _ (ruleSet sch l (st .action .0)) (ground sch (st .binding)) refl refl m)
+  unfolding nextIn stepNext ruleAt ruleSets
+  next-same = rw read
 
 -- ---- the plan
 plan-more : (o : List ℕ) (n at : ℕ) → 0 < n → planFrom o n at ≡ stepAt o at ∷ planFrom o (n - 1) (at + stepSize)

@@ -1,13 +1,13 @@
 -- What a book of good form holds, as values: its transitions in file order. Decoding is total, and means something where looking over is good.
 use Prim.Native.Nat.{ℕ, zero, suc, _+_, _*_}
 use mathlib.Core.List.{List, [], _∷_, _++_}
-use Rattle.input.specs.Bytes.{byteAt, two}
+use Rattle.input.specs.Bytes.{two}
 use Rattle.terms.specs.declared.Sections.{Sections}
 use Rattle.terms.specs.declared.Fact.{Fact}
 use Rattle.terms.specs.declared.Step.{Step}
 use Rattle.terms.specs.Facts.{factAt}
 use Rattle.terms.specs.Steps.{stepAt}
-use Rattle.format.specs.Limits.{headSize, factSize, stepSize}
+use Rattle.limits.specs.Limits.{countSize, headSize, factSize, stepSize}
 use Rattle.format.specs.Records.{objectsIn, stepsIn, lengthIn}
 
 unfoldable pub factsAt : List ℕ → ℕ → ℕ → List Fact
@@ -16,25 +16,29 @@ factsAt s (suc n) at = factAt s at ∷ factsAt s n (at + factSize)
 
 -- what a state's bytes read as, and where they end
 unfoldable pub stateAt : List ℕ → ℕ → List Fact
-stateAt s at = factsAt s (two s at) (at + 2)
+stateAt s at = factsAt s (two s at) (at + countSize)
 
 unfoldable pub stateEnd : List ℕ → ℕ → ℕ
-stateEnd s at = at + 2 + factSize * two s at
+stateEnd s at = at + countSize + factSize * two s at
 
--- a step as filed: its offset, and the facts that hold before and after it
+-- a step as filed, with the facts that hold before and after it (a transition), and its offset
 pub record Filed : Type 0 where
   pub place : ℕ
   pub step : Step
   pub pre : List Fact
   pub post : List Fact
 
+-- the step at an offset, with the state before it at another
+unfoldable pub filedStep : List ℕ → ℕ → ℕ → Filed
+filedStep s pre at =
+    record { place = at; step = stepAt s at; pre = stateAt s pre; post = stateAt s (at + stepSize) }
+
 -- a number of steps behind the state at an offset
 unfoldable pub filedAt : List ℕ → ℕ → ℕ → List Filed
 filedAt s zero at = []
 filedAt s (suc n) at =
     let place = stateEnd s at in
-    let next = place + stepSize in
-    record { place = place; step = stepAt s place; pre = stateAt s at; post = stateAt s next } ∷ filedAt s n next
+    filedStep s at place ∷ filedAt s n (place + stepSize)
 
 -- the steps of one record (trajectory)
 unfoldable pub recordFiled : List ℕ → ℕ → List Filed

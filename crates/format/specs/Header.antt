@@ -11,7 +11,7 @@ use Rattle.answer.specs.Walk.{walk}
 use Rattle.input.specs.Bytes.{byteAt}
 use Rattle.terms.specs.declared.Sections.{Sections}
 use Rattle.terms.specs.Schema.{numberBad}
-use Rattle.format.specs.Limits.{headerSize, maxLength, maxKinds, maxRelations, maxMoves, maxRecords, relationSize, moveSize, maxPlaces, maxParams}
+use Rattle.limits.specs.Limits.{headerSize, maxLength, maxKinds, maxRelations, maxMoves, maxRecords, relationSize, moveSize, maxPlaces, maxParams}
 
 unfoldable pub lengthBad : List ℕ → Bool
 lengthBad s = ltb (length s) headerSize || ltb maxLength (length s)

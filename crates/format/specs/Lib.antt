@@ -1,5 +1,4 @@
 -- Document 01's formats in the order of its tables. A row of the refusal table is a `refuse` line: test, number, place.
-pub mod Limits
 pub mod Header
 pub mod States
 pub mod Records

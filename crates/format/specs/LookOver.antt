@@ -17,12 +17,18 @@ unfoldable pub stepTotal : List ℕ → ℕ → ℕ → ℕ
 stepTotal s zero at = 0
 stepTotal s (suc n) at = stepsIn s at + stepTotal s n (at + lengthIn s at)
 
+-- a number of records from an offset, and no bytes behind them
+unfoldable pub allRecords : Sections → List ℕ → ℕ → ℕ → Answer
+allRecords h s n from = do
+  last ← walk (recordAt h s) n from
+  _ ← refuse (ltb last (length s)) 6 last
+  Good (stepTotal s n from)
+
+-- rows 1 to 5, then all records
 unfoldable pub lookOverBy : Sections → List ℕ → Answer
 lookOverBy h s = do
   _ ← sections h s
-  last ← walk (recordAt h s) (h .records .count) (h .records .at)
-  _ ← refuse (ltb last (length s)) 6 last
-  Good (stepTotal s (h .records .count) (h .records .at))
+  allRecords h s (h .records .count) (h .records .at)
 
 unfoldable pub lookOver : List ℕ → Answer
 lookOver s = lookOverBy (sectionsOf s) s

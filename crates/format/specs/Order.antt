@@ -9,14 +9,13 @@ use Rattle.answer.specs.declared.Answer.the-variants.{Good}
 use Rattle.answer.specs.Answer.{_>>=_, refuse}
 use Rattle.answer.specs.Walk.{walk}
 use Rattle.input.specs.Bytes.{byteAt, two}
-use Rattle.terms.specs.declared.Sections.{Sections}
 use Rattle.terms.specs.declared.Objects.{Objects}
 use Rattle.terms.specs.declared.Fact.{Fact}
 use Rattle.terms.specs.declared.Step.{Step}
-use Rattle.terms.specs.Schema.{Schema, Hall, schema, hall, numberBad}
+use Rattle.terms.specs.Schema.{Schema, Hall, hall, numberBad}
 use Rattle.terms.specs.Facts.{factAt, factBad, precedes, noFact}
 use Rattle.terms.specs.Steps.{stepAt, stepBad, repeats}
-use Rattle.format.specs.Limits.{headerSize, maxObjects, maxFacts, maxEntries, maxSteps, factSize, entrySize, stepSize}
+use Rattle.limits.specs.Limits.{headerSize, maxObjects, maxFacts, maxEntries, maxSteps, factSize, entrySize, stepSize}
 use Rattle.format.specs.States.{facts}
 use Rattle.format.specs.Decode.{factsAt}
 
@@ -79,14 +78,24 @@ planStep sch hl o at = do
   _ ← refuse (stepBad sch hl (stepAt o at) || repeats (stepAt o at)) 18 at
   Good (at + stepSize)
 
+-- rows 17 and 18
+unfoldable pub fromGoal : Schema → Hall → List ℕ → Answer
+fromGoal sch hl o = do
+  _ ← entries sch hl o (goalCount o) noFact (goalAt o)
+  walk (planStep sch hl o) (stepCount o) (stepsAt o)
+
+-- rows 16 to 18
+unfoldable pub fromStart : Schema → Hall → List ℕ → Answer
+fromStart sch hl o = do
+  _ ← facts 16 sch hl o (length o) (startCount o) noFact (startAt o)
+  fromGoal sch hl o
+
 -- rows 14 to 18; the end of the order is good
 unfoldable pub orderForm : Schema → List ℕ → Answer
 orderForm sch o = do
   _ ← refuse (ltb (length o) headerSize || orderCountsBad o || orderOffsetsBad o) 14 0
   _ ← walk (orderObject (sch .kinds) o) (objectCount o) headerSize
-  _ ← facts 16 sch (hall (orderObjects o) o) o (length o) (startCount o) noFact (startAt o)
-  _ ← entries sch (hall (orderObjects o) o) o (goalCount o) noFact (goalAt o)
-  walk (planStep sch (hall (orderObjects o) o) o) (stepCount o) (stepsAt o)
+  fromStart sch (hall (orderObjects o) o) o
 
 -- what a good order holds: the start facts, the goal entries, the plan
 unfoldable pub startFacts : List ℕ → List Fact
@@ -96,9 +105,12 @@ pub record GoalEntry : Type 0 where
   pub wanted : Bool
   pub fact : Fact
 
+unfoldable pub entryAt : List ℕ → ℕ → GoalEntry
+entryAt o at = record { wanted = eqb (byteAt o at) 1; fact = factAt o (at + 1) }
+
 unfoldable pub goalFrom : List ℕ → ℕ → ℕ → List GoalEntry
 goalFrom o zero at = []
-goalFrom o (suc n) at = record { wanted = eqb (byteAt o at) 1; fact = factAt o (at + 1) } ∷ goalFrom o n (at + entrySize)
+goalFrom o (suc n) at = entryAt o at ∷ goalFrom o n (at + entrySize)
 
 unfoldable pub goal : List ℕ → List GoalEntry
 goal o = goalFrom o (goalCount o) (goalAt o)

@@ -1,5 +1,5 @@
 -- Rows 6 to 10: the records of a book, in file order, each to its end.
-use Prim.Native.Nat.{ℕ, zero, suc, _+_}
+use Prim.Native.Nat.{ℕ, _+_}
 use mathlib.Core.Bool.{Bool, _||_}
 use mathlib.Core.List.{List}
 use lib.ListN.{length}
@@ -13,7 +13,7 @@ use Rattle.terms.specs.declared.Sections.{Sections}
 use Rattle.terms.specs.declared.Objects.{Objects}
 use Rattle.terms.specs.Schema.{Schema, Hall, schema, hall, numberBad}
 use Rattle.terms.specs.Steps.{stepAt, stepBad, repeats}
-use Rattle.format.specs.Limits.{headSize, maxObjects, maxSteps, stepSize}
+use Rattle.limits.specs.Limits.{headSize, maxObjects, maxSteps, stepSize}
 use Rattle.format.specs.States.{cut, state}
 
 -- a record's head: object count, step count, length
@@ -40,10 +40,14 @@ object kinds s end at = do
   _ ← refuse (cut end at 1 || numberBad kinds (byteAt s at)) 7 at
   Good (at + 1)
 
+-- row 9 of the step at an offset
+unfoldable pub stepRefused : Schema → Hall → List ℕ → ℕ → ℕ → Bool
+stepRefused sch hl s end at = cut end at stepSize || stepBad sch hl (stepAt s at)
+
 -- rows 9 and 10, then row 8 for the state after the step
 unfoldable pub step : Schema → Hall → List ℕ → ℕ → ℕ → Answer
 step sch hl s end at = do
-  _ ← refuse (cut end at stepSize || stepBad sch hl (stepAt s at)) 9 at
+  _ ← refuse (stepRefused sch hl s end at) 9 at
   _ ← refuse (repeats (stepAt s at)) 10 at
   state sch hl s end (at + stepSize)
 
@@ -57,13 +61,18 @@ trajectory sch hl s end n at = do
   next ← state sch hl s end at
   walk (step sch hl s end) n next
 
+-- the record at an offset, behind what its trajectory answers: no bytes are left
+unfoldable pub closed : ℕ → ℕ → Answer → Answer
+closed at end a = do
+  last ← a
+  _ ← refuse (ltb last end) 6 at
+  Good end
+
 -- a record whose head is right: its objects, its trajectory, and no bytes left
 unfoldable pub body : Sections → List ℕ → ℕ → ℕ → Answer
 body h s at end = do
   first ← walk (object (h .kinds) s end) (objectsIn s at) (at + headSize)
-  last ← trajectory (schema h s) (hall (objectsOf s at) s) s end (stepsIn s at) first
-  _ ← refuse (ltb last end) 6 at
-  Good end
+  closed at end (trajectory (schema h s) (hall (objectsOf s at) s) s end (stepsIn s at) first)
 
 -- one record: where the next one starts
 unfoldable pub recordAt : Sections → List ℕ → ℕ → Answer

@@ -10,14 +10,14 @@ use Rattle.input.specs.Bytes.{two}
 use Rattle.terms.specs.declared.Fact.{Fact}
 use Rattle.terms.specs.Schema.{Schema, Hall}
 use Rattle.terms.specs.Facts.{factAt, factBad, precedes, noFact}
-use Rattle.format.specs.Limits.{maxFacts, factSize}
+use Rattle.limits.specs.Limits.{countSize, maxFacts, factSize}
 
 -- `size` bytes from `at` reach past the end
 unfoldable pub cut : ℕ → ℕ → ℕ → Bool
 cut end at size = ltb end (at + size)
 
 unfoldable pub countBad : List ℕ → ℕ → ℕ → Bool
-countBad s end at = cut end at 2 || ltb maxFacts (two s at)
+countBad s end at = cut end at countSize || ltb maxFacts (two s at)
 
 -- the fact is cut, wrong, or not behind the one before it
 unfoldable pub factRefused : Schema → Hall → List ℕ → ℕ → Fact → ℕ → Bool
@@ -33,4 +33,4 @@ facts num sch hl s end (suc n) last at = do
 unfoldable pub state : Schema → Hall → List ℕ → ℕ → ℕ → Answer
 state sch hl s end at = do
   _ ← refuse (countBad s end at) 8 at
-  facts 8 sch hl s end (two s at) noFact (at + 2)
+  facts 8 sch hl s end (two s at) noFact (at + countSize)

@@ -7,6 +7,7 @@ use mathlib.Core.Bool.{Bool, true, false, cond, _||_}
 use mathlib.Core.List.{List, [], _∷_, _++_, map, append-nil, append-assoc}
 use lib.Dec.{eqb}
 use lib.ListN.{length, getD}
+use Rattle.limits.specs.Limits.{heldSize}
 use Rattle.mask.specs.Bits.{bitOf, testBit, setBit, Bytes}
 use Rattle.mask.specs.Sets.{empty}
 use Rattle.mask.proofs.Laws.{length-empty, bytes-empty, length-setBit, bytes-setBit}
@@ -21,13 +22,13 @@ use Rattle.model.specs.Domain.{Transition}
 use Rattle.model.specs.Learned.{saw, before, after, turned}
 use Rattle.jobs.specs.Planning.{groundAction, transition}
 use Rattle.held.specs.Inverse.{factBound, atomOf, mark, marks, atomsIn}
-use Rattle.held.specs.Held.{Held, heldSize, setAt, noted, hold, holdAll, nothingSeen}
+use Rattle.held.specs.Held.{Held, setAt, noted, hold, holdAll, nothingSeen}
 use Rattle.held.specs.Rules.{heldSet}
 use Rattle.held.specs.Faithful.{Faithful}
-use Rattle.held.specs.Seen.{shown, Seen}
+use Rattle.held.specs.Seen.{inSet, Seen}
 use Rattle.held.proofs.Parts.{part-byte}
 use Rattle.held.proofs.Noted.{length-noted, bytes-noted, noted-own, noted-other}
-use Rattle.held.proofs.Shown.{shown-own, shown-other}
+use Rattle.held.proofs.InSet.{shown-own, shown-other}
 
 -- ---- the bound facts of a step are a mask of 32 bytes
 pub length-mark : (c : Bool) (m : List ℕ) (n : ℕ) → length (cond c (setBit m n) m) ≡ length m
@@ -69,8 +70,8 @@ test-heldSet l a k n h =
 full : ℕ → Bool
 full i = eqb i 0 || eqb i 2
 
-full-shown : (k a n : ℕ) → k < 6 → full k ≡ shown [] k a n
-unfolding full shown before after turned saw any
+full-shown : (k a n : ℕ) → k < 6 → full k ≡ inSet [] k a n
+unfolding full inSet before after turned saw any
 full-shown zero a n h = refl
 full-shown (suc zero) a n h = refl
 full-shown (suc (suc zero)) a n h = refl
@@ -103,7 +104,7 @@ module _ (sch : Schema) (few : sch .moves ≤ 32) where
     known = omega (arith, faithful .known)
 
     says-more : (k : ℕ) → k < 6 → (a : ℕ) → 1 ≤ a → a ≤ 32 → (n : ℕ) → n < 256 → isAtom sch a n ≡ true
-        → testBit (heldSet (hold f h .masks) a k) n ≡ shown (ts ++ transition sch f ∷ []) k a n
+        → testBit (heldSet (hold f h .masks) a k) n ≡ inSet (ts ++ transition sch f ∷ []) k a n
     unfolding hold transition groundAction
     says-more k hk a ha ha′ n hn atom = go (ℕ-discrete (f .step .action .0) a)
       where
@@ -113,7 +114,7 @@ module _ (sch : Schema) (few : sch .moves ≤ 32) where
         y : List ℕ
         y = atomsIn (f .step .binding) (f .post)
 
-        go : Dec (f .step .action .0 ≡ a) → testBit (heldSet (noted (f .step .action .0) x y (h .masks)) a k) n ≡ shown (ts ++ transition sch f ∷ []) k a n
+        go : Dec (f .step .action .0 ≡ a) → testBit (heldSet (noted (f .step .action .0) x y (h .masks)) a k) n ≡ inSet (ts ++ transition sch f ∷ []) k a n
         go (no d) =
             let other : a ≡ f .step .action .0 → ⊥ = λ e. d (sym e) in
             ap (λ (m : List ℕ). testBit m n) (noted-other _ (faithful .counted) known x y (h .masks) (seen .sized) a k ha ha′ hk other)
@@ -126,7 +127,7 @@ module _ (sch : Schema) (few : sch .moves ≤ 32) where
             ∙ now
             ∙ rw (faithful .was n hn own, faithful .got n hn own, seen .says k hk _ (faithful .counted) known n hn own)
             (sym (shown-own ts (transition sch f) k _ n refl))
-            ∙ ap (λ (b : ℕ). shown (ts ++ transition sch f ∷ []) k b n) e
+            ∙ ap (λ (b : ℕ). inSet (ts ++ transition sch f ∷ []) k b n) e
 
     -- A step that is faithful adds to what is held what its transition shows.
     pub seen-hold : Seen sch (ts ++ transition sch f ∷ []) (hold f h .masks)

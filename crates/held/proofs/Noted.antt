@@ -7,10 +7,11 @@ use mathlib.Core.Logic.{_⊎_, inl, inr}
 use mathlib.Core.Bool.{Bool, _&&_, _||_, not}
 use mathlib.Core.List.{List}
 use lib.ListN.{length}
+use Rattle.limits.specs.Limits.{heldSize}
 use Rattle.mask.specs.Bits.{testBit, Bytes}
 use Rattle.mask.specs.Sets.{intersection, union, difference}
 use Rattle.mask.proofs.Laws.{test-intersection, length-intersection, bytes-intersection, test-union, length-union, bytes-union, test-difference, length-difference, bytes-difference}
-use Rattle.held.specs.Held.{heldSize, setAt, onSet, noted}
+use Rattle.held.specs.Held.{setAt, onSet, noted}
 use Rattle.held.specs.Rules.{heldSet}
 use Rattle.held.proofs.Parts.{part-length, part-bytes, length-onSet, bytes-onSet, onSet-in, onSet-out}
 

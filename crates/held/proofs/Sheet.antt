@@ -4,6 +4,7 @@ use native.Mathlib.Omega.{arith}
 use mathlib.Core.Path.{_≡_, refl, ap, ap₂, _∙_}
 use mathlib.Core.Bool.{Bool, true, _&&_, not}
 use mathlib.Core.List.{List, _++_}
+use Rattle.truth.specs.Bools.{guarded}
 use Rattle.mask.specs.Bits.{testBit}
 use Rattle.mask.specs.Sets.{maskOf, intersection, difference}
 use Rattle.mask.proofs.Laws.{test-intersection, length-intersection, bytes-intersection, test-difference, length-difference, bytes-difference}
@@ -12,11 +13,11 @@ use Rattle.terms.specs.Schema.{Schema}
 use Rattle.terms.specs.Steps.{isAtom}
 use Rattle.model.specs.Domain.{Transition}
 use Rattle.model.specs.Learned.{learned}
-use Rattle.model.proofs.Truth.{guarded}
 use Rattle.jobs.specs.Planning.{domain}
 use Rattle.jobs.specs.Learn.{ruleRow, ruleRows}
-use Rattle.held.specs.Rules.{heldSet, atomSet, ruleSet, rulesHeld, sheetHeld}
-use Rattle.held.specs.Seen.{shown, Seen}
+use Rattle.atoms.specs.Atoms.{atomSet}
+use Rattle.held.specs.Rules.{heldSet, ruleSet, rulesHeld, sheetHeld}
+use Rattle.held.specs.Seen.{inSet, Seen}
 
 -- ---- a set of masks cut down to the bound facts of the move: those in it, and those not in it
 module _ (sch : Schema) (a : ℕ) (m : List ℕ) (p : ℕ → Bool) (says : (n : ℕ) → n < 256 → isAtom sch a n ≡ true → testBit m n ≡ p n) where
@@ -36,12 +37,12 @@ module _ (sch : Schema) (a : ℕ) (m : List ℕ) (p : ℕ → Bool) (says : (n :
 module _ (sch : Schema) (ts : List Transition) (l : List ℕ) (seen : Seen sch ts l) where
   -- The four sets of a move are its learned ones,
   pub rules-row : (a : ℕ) → 1 ≤ a → a ≤ 32 → rulesHeld sch l a ≡ ruleRow (learned (domain sch) ts) a
-  unfolding rulesHeld ruleSet ruleRow learned domain shown
+  unfolding rulesHeld ruleSet ruleRow learned domain inSet
   rules-row a h h′ = rw (
-    atoms-in sch a (heldSet l a 0) (shown ts 0 a) (λ n. seen .says 0 (omega arith) a h h′ n),
-    atoms-out sch a (heldSet l a 1) (shown ts 1 a) (λ n. seen .says 1 (omega arith) a h h′ n),
-    atoms-in sch a (heldSet l a 4) (shown ts 4 a) (λ n. seen .says 4 (omega arith) a h h′ n),
-    atoms-in sch a (heldSet l a 5) (shown ts 5 a) (λ n. seen .says 5 (omega arith) a h h′ n),
+    atoms-in sch a (heldSet l a 0) (inSet ts 0 a) (λ n. seen .says 0 (omega arith) a h h′ n),
+    atoms-out sch a (heldSet l a 1) (inSet ts 1 a) (λ n. seen .says 1 (omega arith) a h h′ n),
+    atoms-in sch a (heldSet l a 4) (inSet ts 4 a) (λ n. seen .says 4 (omega arith) a h h′ n),
+    atoms-in sch a (heldSet l a 5) (inSet ts 5 a) (λ n. seen .says 5 (omega arith) a h h′ n),
   )
 
   -- and so is the whole sheet.

@@ -12,10 +12,10 @@ use Rattle.held.specs.Faithful.{Faithful}
 use Rattle.held.specs.Taught.{Taught}
 use Rattle.held.proofs.Hold.{seen-held}
 use Rattle.held.proofs.Sheet.{sheet-rows}
-use Rattle.held.proofs.Torn.{torn-same}
-use Rattle.held.proofs.Stray.{stray-held}
+use Rattle.held.proofs.Conflicts.{conflicting-same}
+use Rattle.held.proofs.Unbound.{unbound-held}
 
-none-named : nothingSeen .stray ≡ 0
+none-named : nothingSeen .named ≡ 0
 unfolding nothingSeen
 none-named = refl
 
@@ -26,7 +26,7 @@ taught sch relations moves fs all =
     record {
       sized = seen .sized;
       bytes = seen .bytes;
-      row11 = stray-held sch fs all nothingSeen none-named;
-      row12 = torn-same sch relations (map (transition sch) fs) (holdAll fs nothingSeen .masks) seen moves;
+      row11 = unbound-held sch fs all nothingSeen none-named;
+      row12 = conflicting-same sch relations (map (transition sch) fs) (holdAll fs nothingSeen .masks) seen moves;
       sheet = sheet-rows sch (map (transition sch) fs) (holdAll fs nothingSeen .masks) seen (sch .moves) 1 (omega arith) (omega arith);
     }

@@ -3,20 +3,21 @@ use Prim.Native.Nat.{ℕ, _≤_, _<_}
 use mathlib.Core.Path.{_≡_}
 use mathlib.Core.Bool.{true}
 use mathlib.Core.List.{List}
+use Rattle.limits.specs.Limits.{maxAtoms}
 use Rattle.mask.specs.Bits.{testBit}
 use Rattle.terms.specs.declared.Fact.{Fact}
 use Rattle.terms.specs.declared.Step.{Step}
 use Rattle.terms.specs.Schema.{Schema}
 use Rattle.terms.specs.Steps.{isAtom, ground}
 use Rattle.format.specs.Decode.{Filed}
-use Rattle.model.specs.Learned.{stray}
+use Rattle.model.specs.Learned.{unboundEffect}
 use Rattle.jobs.specs.Planning.{domain, holding, transition}
-use Rattle.held.specs.Inverse.{atomsIn, strayed}
+use Rattle.held.specs.Inverse.{atomsIn, unboundChanged}
 
 -- at each of the step's atoms, the set found from the facts has the value that the state gives the atom's fact
 abbrev pub Found : Schema → Step → List Fact → Type 0
 Found sch st fs =
-    (n : ℕ) → n < 256 → isAtom sch (st .action .0) n ≡ true → testBit (atomsIn (st .binding) fs) n ≡ holding fs (ground sch (st .binding) n)
+    (n : ℕ) → n < maxAtoms → isAtom sch (st .action .0) n ≡ true → testBit (atomsIn (st .binding) fs) n ≡ holding fs (ground sch (st .binding) n)
 
 pub record Faithful (sch : Schema) (f : Filed) : Type 0 where
   pub counted : 1 ≤ f .step .action .0
@@ -24,4 +25,4 @@ pub record Faithful (sch : Schema) (f : Filed) : Type 0 where
   pub placed : 1 ≤ f .place
   pub was : Found sch (f .step) (f .pre)
   pub got : Found sch (f .step) (f .post)
-  pub strays : strayed (f .step .binding) (f .pre) (f .post) ≡ stray (domain sch) (transition sch f)
+  pub unboundEffects : unboundChanged (f .step .binding) (f .pre) (f .post) ≡ unboundEffect (domain sch) (transition sch f)

@@ -4,27 +4,24 @@ use mathlib.Core.Bool.{Bool, cond, _||_}
 use mathlib.Core.List.{List, [], _∷_, _++_}
 use lib.ListN.{take, drop}
 use lib.Dec.{eqb}
+use Rattle.limits.specs.Limits.{setSize, heldSets, heldPerMove, heldSize, maxAtoms}
 use Rattle.mask.specs.Sets.{maskOf, intersection, union, difference}
-use Rattle.terms.specs.declared.Sections.{Sections}
 use Rattle.format.specs.Decode.{Filed, recordFiled}
-use Rattle.held.specs.Inverse.{atomsIn, strayed}
+use Rattle.held.specs.Inverse.{atomsIn, unboundChanged}
 
 -- The sets, in order: 0 held before every step of the move, 1 before some; 2 held after every step, 3 after some; 4 added, 5 removed.
--- `stray` is 0 where no step is named.
+-- `named` is 0 where no step is named.
 pub record Held : Type 0 where
   pub masks : List ℕ
-  pub stray : ℕ
-
-abbrev pub heldSize : ℕ
-heldSize = 6144
+  pub named : ℕ
 
 -- where set k of a move stands
 unfoldable pub setAt : ℕ → ℕ → ℕ
-setAt a k = 192 * (a - 1) + 32 * k
+setAt a k = heldPerMove * (a - 1) + setSize * k
 
--- the 32 bytes from an offset replaced by what is made of them
+-- the set at an offset replaced by what is made of them
 unfoldable pub onSet : ℕ → (List ℕ → List ℕ) → List ℕ → List ℕ
-onSet at f l = take at l ++ f (take 32 (drop at l)) ++ drop (at + 32) l
+onSet at f l = take at l ++ f (take setSize (drop at l)) ++ drop (at + setSize) l
 
 -- one step of a move, by its bound facts that hold before and after
 unfoldable pub noted : ℕ → List ℕ → List ℕ → List ℕ → List ℕ
@@ -36,13 +33,17 @@ noted a before after l =
     (onSet (setAt a 1) (λ m. union m before)
     (onSet (setAt a 0) (λ m. intersection m before) l)))))
 
+-- the offset of the first step that row 11 names, by what it named before and whether it names the step at an offset
+unfoldable pub firstNamed : ℕ → Bool → ℕ → ℕ
+firstNamed named unbound at = cond (eqb named 0) (cond unbound at 0) named
+
 -- what is held after one step more
 unfoldable pub hold : Filed → Held → Held
 hold f h =
     record {
       masks =
           noted (f .step .action .0) (atomsIn (f .step .binding) (f .pre)) (atomsIn (f .step .binding) (f .post)) (h .masks);
-      stray = cond (eqb (h .stray) 0) (cond (strayed (f .step .binding) (f .pre) (f .post)) (f .place) 0) (h .stray);
+      named = firstNamed (h .named) (unboundChanged (f .step .binding) (f .pre) (f .post)) (f .place);
     }
 
 unfoldable pub holdAll : List Filed → Held → Held
@@ -55,4 +56,4 @@ heldAfter s at h = holdAll (recordFiled s at) h
 
 -- before any record: what holds at every one of no steps is everything
 unfoldable pub nothingSeen : Held
-nothingSeen = record { masks = maskOf heldSize (λ i. eqb (i / 256 % 6) 0 || eqb (i / 256 % 6) 2); stray = 0 }
+nothingSeen = record { masks = maskOf heldSize (λ i. eqb (i / maxAtoms % heldSets) 0 || eqb (i / maxAtoms % heldSets) 2); named = 0 }

@@ -3,9 +3,9 @@ use Prim.Native.Nat.{ℕ, _+_, _-_, _*_}
 use mathlib.Core.Bool.{Bool, true, false, cond, _&&_, _||_, not}
 use mathlib.Core.List.{List, [], _∷_}
 use lib.Dec.{eqb}
+use Rattle.limits.specs.Limits.{setSize}
 use Rattle.mask.specs.Bits.{setBit}
 use Rattle.mask.specs.Sets.{empty}
-use Rattle.terms.specs.declared.Param.{Param}
 use Rattle.terms.specs.declared.Object.{Object}
 use Rattle.terms.specs.declared.Binding.{Binding}
 use Rattle.terms.specs.declared.Fact.{Fact}
@@ -40,7 +40,7 @@ marks b m (f ∷ fs) = marks b (mark b m f) fs
 
 -- the bound facts of a step that hold in a state
 unfoldable pub atomsIn : Binding → List Fact → List ℕ
-atomsIn b fs = marks b (empty 32) fs
+atomsIn b fs = marks b (empty setSize) fs
 
 -- the facts that are no bound facts of the step
 unfoldable pub unbound : Binding → List Fact → List Fact
@@ -57,5 +57,5 @@ sameFacts (f ∷ fs) [] = false
 sameFacts (f ∷ fs) (g ∷ gs) = sameFact f g && sameFacts fs gs
 
 -- row 11, for facts in order: what is no bound fact did not stay as it was
-unfoldable pub strayed : Binding → List Fact → List Fact → Bool
-strayed b pre post = not (sameFacts (unbound b pre) (unbound b post))
+unfoldable pub unboundChanged : Binding → List Fact → List Fact → Bool
+unboundChanged b pre post = not (sameFacts (unbound b pre) (unbound b post))

@@ -1,24 +1,21 @@
--- Sheet, row 11 and row 12 from what is held.
+-- Sheet, row 11 and row 12 from what is held. Uses the set of a move's bound facts of atoms.
 use Prim.Native.Nat.{ℕ, zero, suc}
 use mathlib.Core.Bool.{Bool, not}
 use mathlib.Core.List.{List, [], _++_}
 use lib.ListN.{take, drop}
 use lib.Dec.{eqb}
+use Rattle.limits.specs.Limits.{setSize}
 use Rattle.answer.specs.declared.Answer.{Answer}
 use Rattle.answer.specs.declared.Answer.the-variants.{Good, Refused}
-use Rattle.mask.specs.Sets.{maskOf, intersection, union, difference}
+use Rattle.mask.specs.Sets.{intersection, union, difference}
 use Rattle.terms.specs.Schema.{Schema}
-use Rattle.terms.specs.Steps.{isAtom}
+use Rattle.atoms.specs.Atoms.{atomSet}
 use Rattle.model.specs.Quantify.{any, least}
-use Rattle.jobs.specs.Learn.{tornAnswer}
+use Rattle.jobs.specs.Learn.{conflictAnswer}
 use Rattle.held.specs.Held.{setAt}
 
 unfoldable pub heldSet : List ℕ → ℕ → ℕ → List ℕ
-heldSet l a k = take 32 (drop (setAt a k) l)
-
--- the bound facts of a move
-unfoldable pub atomSet : Schema → ℕ → List ℕ
-atomSet sch a = maskOf 32 (isAtom sch a)
+heldSet l a k = take setSize (drop (setAt a k) l)
 
 -- the four sets of one move's rules, k from 0
 unfoldable pub ruleSet : Schema → List ℕ → ℕ → ℕ → List ℕ
@@ -35,17 +32,21 @@ sheetHeld sch l zero a = []
 sheetHeld sch l (suc n) a = rulesHeld sch l a ++ sheetHeld sch l n (suc a)
 
 -- row 11
-unfoldable pub strayAnswer : ℕ → Answer
-strayAnswer zero = Good 0
-strayAnswer (suc p) = Refused 11 (suc p)
+unfoldable pub unboundAnswer : ℕ → Answer
+unboundAnswer zero = Good 0
+unboundAnswer (suc p) = Refused 11 (suc p)
 
--- row 12, of one move: a bound fact added and not held after every step, or removed and held after some
-unfoldable pub tornHeld : Schema → List ℕ → ℕ → Bool
-tornHeld sch l a =
-    any (λ x. not (eqb x 0))
-    (intersection
-    (atomSet sch a)
-    (union (difference (heldSet l a 4) (heldSet l a 2)) (intersection (heldSet l a 5) (heldSet l a 3))))
+-- something is in the set
+unfoldable pub inUse : List ℕ → Bool
+inUse m = any (λ x. not (eqb x 0)) m
 
-unfoldable pub tornAmong : Schema → List ℕ → ℕ → Answer
-tornAmong sch l moves = tornAnswer (least moves (tornHeld sch l))
+-- the facts in conflict of a move, bound or not: added and not held after every step, or removed and held after some
+unfoldable pub conflictSet : List ℕ → ℕ → List ℕ
+conflictSet l a = union (difference (heldSet l a 4) (heldSet l a 2)) (intersection (heldSet l a 5) (heldSet l a 3))
+
+-- row 12, of one move: a bound fact is in conflict
+unfoldable pub conflictHeld : Schema → List ℕ → ℕ → Bool
+conflictHeld sch l a = inUse (intersection (atomSet sch a) (conflictSet l a))
+
+unfoldable pub conflictAmong : Schema → List ℕ → ℕ → Answer
+conflictAmong sch l moves = conflictAnswer (least moves (conflictHeld sch l))

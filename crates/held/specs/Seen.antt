@@ -4,27 +4,27 @@ use mathlib.Core.Path.{_≡_}
 use mathlib.Core.Bool.{Bool, true, false, not}
 use mathlib.Core.List.{List}
 use lib.ListN.{length}
+use Rattle.limits.specs.Limits.{maxMoves, heldSets, heldSize, maxAtoms}
 use Rattle.mask.specs.Bits.{testBit, Bytes}
 use Rattle.terms.specs.Schema.{Schema}
 use Rattle.terms.specs.Steps.{isAtom}
 use Rattle.model.specs.Domain.{Transition}
 use Rattle.model.specs.Learned.{before, after, turned}
-use Rattle.held.specs.Held.{heldSize}
 use Rattle.held.specs.Rules.{heldSet}
 
 -- whether bound fact n is in set k of the move: held before every step, before some, after every step, after some; added; removed
-unfoldable pub shown : List Transition → ℕ → ℕ → ℕ → Bool
-shown ts zero a n = not (before ts false a n)
-shown ts (suc zero) a n = before ts true a n
-shown ts (suc (suc zero)) a n = not (after ts false a n)
-shown ts (suc (suc (suc zero))) a n = after ts true a n
-shown ts (suc (suc (suc (suc zero)))) a n = turned ts true a n
-shown ts (suc (suc (suc (suc (suc k))))) a n = turned ts false a n
+unfoldable pub inSet : List Transition → ℕ → ℕ → ℕ → Bool
+inSet ts zero a n = not (before ts false a n)
+inSet ts (suc zero) a n = before ts true a n
+inSet ts (suc (suc zero)) a n = not (after ts false a n)
+inSet ts (suc (suc (suc zero))) a n = after ts true a n
+inSet ts (suc (suc (suc (suc zero)))) a n = turned ts true a n
+inSet ts (suc (suc (suc (suc (suc k))))) a n = turned ts false a n
 
 -- the masks are those of the transitions. What bits of no bound fact say is not asked
 pub record Seen (sch : Schema) (ts : List Transition) (masks : List ℕ) : Type 0 where
   pub sized : length masks ≡ heldSize
   pub bytes : Bytes masks
   pub says :
-      (k : ℕ) → k < 6 → (a : ℕ) → 1 ≤ a → a ≤ 32 → (n : ℕ) → n < 256 → isAtom sch a n ≡ true
-      → testBit (heldSet masks a k) n ≡ shown ts k a n
+      (k : ℕ) → k < heldSets → (a : ℕ) → 1 ≤ a → a ≤ maxMoves → (n : ℕ) → n < maxAtoms → isAtom sch a n ≡ true
+      → testBit (heldSet masks a k) n ≡ inSet ts k a n

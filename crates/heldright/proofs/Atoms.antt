@@ -1,10 +1,11 @@
 -- Facts and bound facts of a right step: a right fact found to be a bound fact is that bound fact, and each bound fact is found.
-use Prim.Native.Nat.{ℕ, _+_, _-_, _*_, _≤_}
+use Prim.Native.Nat.{ℕ, _-_, _≤_}
 use native.Mathlib.Omega.{arith}
 use mathlib.Core.Path.{_≡_, refl, sym, ap}
 use mathlib.Core.Bool.{Bool, true, false, cond, _&&_}
 use lib.Dec.{eqb, leb}
 use borrow.Author.Tests.{eqb-true, eq-eqb}
+use Rattle.truth.specs.Bools.{and-in, and-out, bool-eq}
 use Rattle.terms.specs.declared.Param.{Param}
 use Rattle.terms.specs.declared.Relation.{Relation}
 use Rattle.terms.specs.declared.Step.{Step}
@@ -12,21 +13,15 @@ use Rattle.terms.specs.declared.Fact.{Fact}
 use Rattle.terms.specs.Schema.{Schema, Hall}
 use Rattle.terms.specs.Facts.{factBad, factNumber}
 use Rattle.terms.specs.Steps.{objectOf, atomRelation, atomFirst, atomSecond, parameterFills, isAtom, ground}
-use Rattle.format.specs.Limits.{maxObjects}
-use Rattle.model.proofs.Truth.{and-in, and-out, bool-eq}
+use Rattle.terms.proofs.Atoms.{first-range, second-range, atomNumber, atom-number, fills-used, fills-unused, atom-out}
+use Rattle.limits.specs.Limits.{maxObjects}
 use Rattle.held.specs.Inverse.{paramOf, placeBound, factBound, atomOf}
 use Rattle.wellformed.specs.Right.{RightStep}
 use Rattle.wellformed.specs.Grounding.{objectIn, factOf, Covered}
 use Rattle.wellformed.proofs.Suits.{used-out, argument-used}
 use Rattle.wellformed.proofs.Numbers.{fact-parts}
-use Rattle.wellformed.proofs.Atoms.{first-range, second-range, fills-used, fills-unused, atom-out}
 use Rattle.wellformed.proofs.Inverse.{fact-of-atom, atom-of-fact}
 use Rattle.heldright.proofs.Params.{param-none, bound-out, bound-in}
-
--- a bound fact from its relation and parameters
-digits : (n : ℕ) → 16 * (atomRelation n .0 - 1) + 4 * (atomFirst n .0 - 1) + (atomSecond n .0 - 1) ≡ n
-unfolding atomRelation atomFirst atomSecond
-digits n = omega arith
 
 module _ (sch : Schema) (hl : Hall) (st : Step) (right : RightStep sch hl st) where
   -- ---- from a bound fact to the fact that it becomes, and back by the objects
@@ -49,12 +44,12 @@ module _ (sch : Schema) (hl : Hall) (st : Step) (right : RightStep sch hl st) wh
 
   atom-found : (n : ℕ) → isAtom sch (st .action .0) n ≡ true
       → (factBound (st .binding) (factOf sch (st .binding) n) ≡ true) × (atomOf (st .binding) (factOf sch (st .binding) n) ≡ n)
-  unfolding factBound atomOf factOf
+  unfolding factBound atomOf factOf atomNumber
   atom-found n atom =
       let parts = atom-out sch (st .action .0) n atom in
       let (first, p) = place-found (atomRelation n) 1 (atomFirst n) (first-range n .0) (first-range n .1) (parts .first) in
       let (second, q) = place-found (atomRelation n) 2 (atomSecond n) (second-range n .0) (second-range n .1) (parts .second) in
-      (and-in _ _ first second, rw (p, q) (digits n))
+      (and-in _ _ first second, rw (p, q) (atom-number n))
 
   module _ (few : hl .count ≤ maxObjects) (f : Fact) (good : factBad sch hl f ≡ false) where
     -- ---- from a fact to the bound fact

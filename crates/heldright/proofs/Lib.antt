@@ -4,5 +4,5 @@ pub mod Atoms
 pub mod States
 pub mod Sorted
 pub mod Unbound
-pub mod Strays
+pub mod UnboundEffects
 pub mod HeldRight

@@ -5,36 +5,20 @@ use mathlib.Core.Path.{_≡_, refl, sym, _∙_}
 use mathlib.Core.Logic.{_⊎_, inl, inr}
 use mathlib.Core.Bool.{Bool, true, false, cond, not}
 use lib.Dec.{eqb, leb}
-use borrow.Author.Tests.{eqb-true, eqb-false, eq-eqb, ne-eqb, leb-true}
+use borrow.Author.Tests.{eqb-true, eqb-false, eq-eqb, ne-eqb, leb-true, not-true}
+use Rattle.truth.specs.Bools.{clash, decide, or-right, or-out, not-in}
 use Rattle.terms.specs.declared.Object.{Object}
 use Rattle.terms.specs.declared.Binding.{Binding}
 use Rattle.terms.specs.declared.Step.{Step}
 use Rattle.terms.specs.Schema.{Schema, Hall}
 use Rattle.terms.specs.Steps.{argumentBad}
-use Rattle.model.proofs.Truth.{clash, decide, or-right, or-out, not-in, not-out}
 use Rattle.held.specs.Inverse.{gives, paramOf, placeBound}
+use Rattle.held.proofs.Params.{param-out}
 use Rattle.wellformed.specs.Right.{RightStep}
 use Rattle.wellformed.specs.Grounding.{BoundBy}
 use Rattle.wellformed.proofs.Suits.{four, objectAt, unused-out, argument-right, parameters-apart}
 
 module _ (b : Binding) (x : Object) where
-  -- a parameter that is found has the object
-  param-out : 1 ≤ paramOf b x → (paramOf b x ≤ 4) × (gives b (paramOf b x) x ≡ true)
-  unfolding paramOf
-  param-out = go (eqb (x .0) 0) (gives b 1 x) (gives b 2 x) (gives b 3 x) (gives b 4 x) refl refl refl refl refl
-    where
-      chosen : Bool → Bool → Bool → Bool → Bool → ℕ
-      chosen z p q r s = cond z 0 (cond p 1 (cond q 2 (cond r 3 (cond s 4 0))))
-
-      go : (z p q r s : Bool) → eqb (x .0) 0 ≡ z → gives b 1 x ≡ p → gives b 2 x ≡ q → gives b 3 x ≡ r → gives b 4 x ≡ s → 1 ≤ chosen z p q r s
-          → (chosen z p q r s ≤ 4) × (gives b (chosen z p q r s) x ≡ true)
-      go true p q r s ez ep eq er es h = absurd (omega arith)
-      go false true q r s ez ep eq er es h = (omega arith, ep)
-      go false false true r s ez ep eq er es h = (omega arith, eq)
-      go false false false true s ez ep eq er es h = (omega arith, er)
-      go false false false false true ez ep eq er es h = (omega arith, es)
-      go false false false false false ez ep eq er es h = absurd (omega arith)
-
   -- an object that a parameter has is found
   param-in : 1 ≤ x .0 → (i : ℕ) → 1 ≤ i → i ≤ 4 → gives b i x ≡ true → 1 ≤ paramOf b x
   unfolding paramOf
@@ -79,7 +63,7 @@ module _ (sch : Schema) (hl : Hall) (st : Step) (right : RightStep sch hl st) wh
       where
         go : (eqb (x .0) 0 ≡ true) ⊎ (not (eqb (paramOf (st .binding) x) 0) ≡ true) → 1 ≤ paramOf (st .binding) x
         go (inl h) = absurd (omega (arith, eqb-true (x .0) 0 h))
-        go (inr h) = omega (arith, eqb-false (paramOf (st .binding) x) 0 (not-out _ h))
+        go (inr h) = omega (arith, eqb-false (paramOf (st .binding) x) 0 (not-true _ h))
 
         found : 1 ≤ paramOf (st .binding) x
         found = go (or-out (eqb (x .0) 0) (not (eqb (paramOf (st .binding) x) 0)) e)

@@ -8,10 +8,10 @@ use mathlib.Core.List.{List, [], _∷_}
 use lib.Dec.{eqb, ltb}
 use lib.ListN.{length}
 use borrow.Author.Tests.{ltb-true, eqb-true}
+use Rattle.truth.specs.Bools.{and-out, or-out}
 use Rattle.terms.specs.declared.Fact.{Fact}
 use Rattle.terms.specs.Facts.{precedes}
 use Rattle.model.specs.Quantify.{Mem, here, there}
-use Rattle.model.proofs.Truth.{and-out, or-out}
 use Rattle.wellformed.specs.Right.{Increasing}
 
 -- the order byte by byte, in plain numbers

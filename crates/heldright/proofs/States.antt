@@ -14,7 +14,7 @@ use Rattle.terms.specs.declared.Fact.{Fact}
 use Rattle.terms.specs.Schema.{Schema, Hall}
 use Rattle.terms.specs.Facts.{factBad}
 use Rattle.terms.specs.Steps.{isAtom, ground}
-use Rattle.format.specs.Limits.{maxObjects}
+use Rattle.limits.specs.Limits.{maxObjects}
 use Rattle.model.specs.Quantify.{any, Mem, here, there}
 use Rattle.jobs.specs.Planning.{holding}
 use Rattle.held.specs.Inverse.{factBound, atomOf, mark, marks, atomsIn}

@@ -1,19 +1,15 @@
 -- Adding a record to a book, and what the lent output holds afterwards.
-use Prim.Native.Nat.{ℕ, _+_, _/_, _%_}
-use mathlib.Core.List.{List, [], _∷_, _++_}
+use Prim.Native.Nat.{ℕ, _+_}
+use mathlib.Core.List.{List, _++_}
 use lib.ListN.{length, take, drop}
 use lib.Dec.{ltb}
 use Rattle.answer.specs.declared.Answer.{Answer}
 use Rattle.answer.specs.declared.Answer.the-variants.{Good}
-use Rattle.answer.specs.Answer.{_>>=_, refuse}
+use Rattle.answer.specs.Answer.{_>>=_, refuse, kept}
+use Rattle.output.specs.Written.{twoBytes}
 use Rattle.terms.specs.Sections.{sectionsOf}
-use Rattle.format.specs.Limits.{maxLength}
+use Rattle.limits.specs.Limits.{maxLength, headerSize}
 use Rattle.format.specs.LookOver.{lookOver}
-use Rattle.jobs.specs.Learn.{kept}
-
--- a two-byte number, high byte first
-unfoldable pub twoBytes : ℕ → List ℕ
-twoBytes n = n / 256 % 256 ∷ n % 256 ∷ []
 
 -- the old book with the record's bytes behind it, record count (bytes 6 and 7) and end (14 and 15) renewed
 unfoldable pub added : List ℕ → List ℕ → List ℕ
@@ -22,7 +18,7 @@ added s r =
     ++ twoBytes (sectionsOf s .records .count + 1)
     ++ take 6 (drop 8 s)
     ++ twoBytes (length s + length r)
-    ++ drop 16 s
+    ++ drop headerSize s
     ++ r
 
 unfoldable pub add : List ℕ → List ℕ → ℕ → Answer

@@ -1,37 +1,38 @@
 -- The marked cases M1 to M10 of the paper and its limits, as one list of what the definitions give and what the paper says,
 -- covered by one theorem that the checker computes. What no single list of bytes of manageable size shows is a law below it.
-use Prim.Native.Nat.{ℕ, zero, suc, _+_, _*_, _/_, _%_, _≤_, _<_}
+use Prim.Native.Nat.{ℕ, zero, suc, _+_, _/_, _%_, _≤_, _<_}
 use mathlib.Core.Path.{_≡_, refl}
-use mathlib.Core.Bool.{Bool, true, false, cond, _||_, or-true}
+use mathlib.Core.Bool.{false, cond, or-true}
 use mathlib.Core.List.{List, [], _∷_, _++_, map}
 use lib.ListN.{length, take, replicate}
-use lib.Dec.{eqb}
 use borrow.Author.Tests.{le-ltb, lt-ltb}
+use Rattle.limits.specs.Limits.{maxLength, headerSize, ruleSize, endSize}
 use Rattle.answer.specs.declared.Answer.{Answer}
 use Rattle.answer.specs.declared.Answer.the-variants.{Refused}
-use Rattle.answer.specs.Answer.{_>>=_, refuse, number, place}
+use Rattle.answer.specs.Answer.{_>>=_, refuse, number, place, kept}
 use Rattle.answer.specs.Walk.{walk}
 use Rattle.input.specs.Bytes.{byteAt, two}
+use Rattle.output.specs.Written.{twoBytes}
 use Rattle.terms.specs.Sections.{sectionsOf}
 use Rattle.terms.specs.Schema.{numberBad, relationAt, moveAt, schema, hall, kindSuits, objectBad}
 use Rattle.terms.specs.Facts.{factAt, factBad, precedes, noFact, factNumber}
 use Rattle.terms.specs.Steps.{objectOf, stepAt, argumentBad, stepBad, samePair, repeats, atomRelation, atomFirst, atomSecond, parameterFills, isAtom, placed, ground}
 use Rattle.format.specs.Header.{lengthBad, countsBad, offsetsBad, kindBad, relationBad, moveBad, relation, move, sections}
 use Rattle.format.specs.States.{cut, countBad, factRefused, facts, state}
-use Rattle.format.specs.Records.{objectsIn, stepsIn, lengthIn, headBad, object, step, objectsOf, trajectory, body, recordAt}
-use Rattle.format.specs.LookOver.{stepTotal, lookOverBy, lookOver}
-use Rattle.format.specs.Decode.{factsAt, stateAt, stateEnd, filedAt, recordFiled, recordsFiled, filed}
-use Rattle.format.specs.Order.{objectCount, startCount, goalCount, stepCount, startAt, goalAt, stepsAt, orderCountsBad, orderOffsetsBad, orderObjects, orderObject, entryBad, entries, planStep, orderForm, startFacts, goalFrom, goal, planFrom, plan}
+use Rattle.format.specs.Records.{objectsIn, stepsIn, lengthIn, headBad, object, stepRefused, step, objectsOf, trajectory, closed, body, recordAt}
+use Rattle.format.specs.LookOver.{stepTotal, allRecords, lookOverBy, lookOver}
+use Rattle.format.specs.Decode.{factsAt, stateAt, stateEnd, filedStep, filedAt, recordFiled, recordsFiled, filed}
+use Rattle.format.specs.Order.{objectCount, startCount, goalCount, stepCount, startAt, goalAt, stepsAt, orderCountsBad, orderOffsetsBad, orderObjects, orderObject, entryBad, entries, planStep, fromGoal, fromStart, orderForm, startFacts, entryAt, goalFrom, goal, planFrom, plan}
 use Rattle.mask.specs.Sets.{maskOf}
 use Rattle.model.specs.Quantify.{same, below, any, has, later, first, least}
 use Rattle.model.specs.Model.{image, stuck, next, run}
 use Rattle.model.specs.Judge.{wrong}
-use Rattle.model.specs.Learned.{saw, before, after, turned, learned, stray, torn}
+use Rattle.model.specs.Learned.{saw, before, after, turned, learned, unboundEffect, conflicting}
 use Rattle.jobs.specs.Planning.{domain, holding, groundAction, transition, goalEntry, schemaOf, filedIn, transitionsOf, startState, planOf, goalOf}
-use Rattle.jobs.specs.Learn.{strays, tornAnswer, tornMove, learnable, ruleRow, ruleRows, learnedFrom, ruleSheet, learn, kept, learnBytes}
+use Rattle.jobs.specs.Learn.{unboundEffects, conflictAnswer, conflictingMove, learnable, ruleRow, ruleRows, learnedFrom, ruleSheet, learn, learnBytes}
 use Rattle.jobs.specs.Check.{planRun, goalAnswer, runAnswer, check, endSheet, checkBytes}
-use Rattle.jobs.specs.Add.{twoBytes, added, add, addBytes}
-use Rattle.jobs.specs.Listing.{digits, decimal, refusedLine, needLetter, effectLetter, shown, atomLine, atomLines, moveLines, rulesLines, rulesPrinted, planLine, planPrinted}
+use Rattle.jobs.specs.Add.{added, add, addBytes}
+use Rattle.jobs.specs.Listing.{digits, decimal, refusedLine, needLetter, effectLetter, paramShown, atomFront, atomLine, lineIfAtom, atomLines, moveLines, countsLine, rulesLines, rulesPrinted, planLine, planPrinted}
 use Rattle.model.specs.Model.{Run, stopped, ended}
 
 -- the small hall
@@ -99,25 +100,18 @@ order5 =
     ∷ 0x00 ∷ 0x1d ∷ 0x00 ∷ 0x21 ∷ 0x01 ∷ 0x02 ∷ 0x02 ∷ 0x02 ∷ 0x01 ∷ 0x01 ∷ 0x02 ∷ 0x02
     ∷ 0x03 ∷ 0x00 ∷ 0x02 ∷ 0x04 ∷ 0x00 ∷ 0x01 ∷ 0x01 ∷ 0x01 ∷ 0x04 ∷ []
 
--- roll 1 2 3; no goal
-abbrev order6 : List ℕ
-order6 =
+-- one roll of bank 1 from a spot to a spot; no goal
+abbrev rolled : ℕ → ℕ → List ℕ
+rolled from to =
     0x00 ∷ 0x04 ∷ 0x00 ∷ 0x03 ∷ 0x00 ∷ 0x00 ∷ 0x00 ∷ 0x01 ∷ 0x00 ∷ 0x10 ∷ 0x00 ∷ 0x14
     ∷ 0x00 ∷ 0x1d ∷ 0x00 ∷ 0x1d ∷ 0x01 ∷ 0x02 ∷ 0x02 ∷ 0x02 ∷ 0x01 ∷ 0x01 ∷ 0x02 ∷ 0x02
-    ∷ 0x03 ∷ 0x00 ∷ 0x02 ∷ 0x04 ∷ 0x00 ∷ 0x01 ∷ 0x01 ∷ 0x02 ∷ 0x03 ∷ 0x00 ∷ []
+    ∷ 0x03 ∷ 0x00 ∷ 0x02 ∷ 0x04 ∷ 0x00 ∷ 0x01 ∷ 0x01 ∷ from ∷ to ∷ 0x00 ∷ []
 
 -- no objects; the move of no parameters
 abbrev order7 : List ℕ
 order7 =
     0x00 ∷ 0x00 ∷ 0x00 ∷ 0x00 ∷ 0x00 ∷ 0x00 ∷ 0x00 ∷ 0x01 ∷ 0x00 ∷ 0x10 ∷ 0x00 ∷ 0x10
     ∷ 0x00 ∷ 0x10 ∷ 0x00 ∷ 0x10 ∷ 0x01 ∷ 0x00 ∷ 0x00 ∷ 0x00 ∷ 0x00 ∷ []
-
--- roll 1 2 2
-abbrev order8 : List ℕ
-order8 =
-    0x00 ∷ 0x04 ∷ 0x00 ∷ 0x03 ∷ 0x00 ∷ 0x00 ∷ 0x00 ∷ 0x01 ∷ 0x00 ∷ 0x10 ∷ 0x00 ∷ 0x14
-    ∷ 0x00 ∷ 0x1d ∷ 0x00 ∷ 0x1d ∷ 0x01 ∷ 0x02 ∷ 0x02 ∷ 0x02 ∷ 0x01 ∷ 0x01 ∷ 0x02 ∷ 0x02
-    ∷ 0x03 ∷ 0x00 ∷ 0x02 ∷ 0x04 ∷ 0x00 ∷ 0x01 ∷ 0x01 ∷ 0x02 ∷ 0x02 ∷ 0x00 ∷ []
 
 -- M1: what the program prints
 abbrev printed : List ℕ
@@ -144,7 +138,7 @@ heldAt (ended end) fs = map (λ f. cond (end f) 1 0) fs
 
 -- an output lent for an end sheet
 abbrev lent : List ℕ
-lent = replicate 512 0xff
+lent = replicate endSize 0xff
 
 -- a book of one relation over two places and 16 objects, with one record of one state of so many facts: a pair for each n from `from` on
 abbrev pairs : ℕ → ℕ → List ℕ
@@ -174,17 +168,22 @@ denser =
 abbrev pub cases : List Case
 cases =
     record { gives = rulesPrinted book; wanted = printed }
-    ∷ record { gives = said (check book order2 512); wanted = 0 ∷ 2 ∷ [] }
+    ∷ record { gives = said (check book order2 endSize); wanted = 0 ∷ 2 ∷ [] }
     ∷ record { gives = heldAt (planRun book order2) (1 ∷ 2 ∷ 3 ∷ 272 ∷ 288 ∷ 304 ∷ []); wanted = 0 ∷ 0 ∷ 1 ∷ 1 ∷ 1 ∷ 0 ∷ [] }
-    ∷ record { gives = said (check book order3 512); wanted = 19 ∷ 1 ∷ [] }
+    ∷ record { gives = said (check book order3 endSize); wanted = 19 ∷ 1 ∷ [] }
     ∷ record { gives = checkBytes book order3 lent; wanted = lent }
-    ∷ record { gives = said (check book order4 512); wanted = 0 ∷ 0 ∷ [] }
-    ∷ record { gives = said (check book order5 512); wanted = 20 ∷ 1 ∷ [] }
-    ∷ record { gives = said (check book6 order6 512); wanted = 19 ∷ 1 ∷ [] }
-    ∷ record { gives = said (check book7 order7 512); wanted = 0 ∷ 1 ∷ [] }
-    ∷ record { gives = checkBytes book7 order7 lent; wanted = replicate 512 0 }
-    ∷ record { gives = said (check book order8 512); wanted = 18 ∷ 29 ∷ [] }
-    ∷ record { gives = said (learn book9 128); wanted = 12 ∷ 1 ∷ [] }
+    ∷ record { gives = said (check book order4 endSize); wanted = 0 ∷ 0 ∷ [] }
+    ∷ record { gives = said (check book order5 endSize); wanted = 20 ∷ 1 ∷ [] }
+    ∷ record { gives = said (check book6 (rolled 2 3) endSize); wanted = 19 ∷ 1 ∷ [] }
+    ∷ record { gives = said (check book6 (rolled 2 4) endSize); wanted = 19 ∷ 1 ∷ [] }
+    ∷ record { gives = said (check book6 (rolled 3 2) endSize); wanted = 19 ∷ 1 ∷ [] }
+    ∷ record { gives = said (check book6 (rolled 3 4) endSize); wanted = 19 ∷ 1 ∷ [] }
+    ∷ record { gives = said (check book6 (rolled 4 2) endSize); wanted = 19 ∷ 1 ∷ [] }
+    ∷ record { gives = said (check book6 (rolled 4 3) endSize); wanted = 19 ∷ 1 ∷ [] }
+    ∷ record { gives = said (check book7 order7 endSize); wanted = 0 ∷ 1 ∷ [] }
+    ∷ record { gives = checkBytes book7 order7 lent; wanted = replicate endSize 0 }
+    ∷ record { gives = said (check book (rolled 2 2) endSize); wanted = 18 ∷ 29 ∷ [] }
+    ∷ record { gives = said (learn book9 ruleSize); wanted = 12 ∷ 1 ∷ [] }
     ∷ record { gives = said (lookOver (take 15 book)); wanted = 1 ∷ 0 ∷ [] }
     ∷ record { gives = said (lookOver dense); wanted = 0 ∷ 0 ∷ [] }
     ∷ record { gives = said (lookOver denser); wanted = 8 ∷ 44 ∷ [] }
@@ -196,14 +195,14 @@ AllRight (c ∷ cs) = (c .gives ≡ c .wanted) × AllRight cs
 
 -- every marked case is as the paper says
 pub cases-right : AllRight cases
-unfolding _>>=_ refuse number place walk byteAt two sectionsOf numberBad relationAt moveAt schema hall kindSuits objectBad factAt factBad precedes noFact factNumber objectOf stepAt argumentBad stepBad samePair repeats atomRelation atomFirst atomSecond parameterFills isAtom placed ground lengthBad countsBad offsetsBad kindBad relationBad moveBad relation move sections cut countBad factRefused facts state objectsIn stepsIn lengthIn headBad object step objectsOf trajectory body recordAt stepTotal lookOverBy lookOver factsAt stateAt stateEnd filedAt recordFiled recordsFiled filed objectCount startCount goalCount stepCount startAt goalAt stepsAt orderCountsBad orderOffsetsBad orderObjects orderObject entryBad entries planStep orderForm startFacts goalFrom goal planFrom plan maskOf same below any has later first least image stuck next run wrong saw before after turned learned stray torn domain holding groundAction transition goalEntry schemaOf filedIn transitionsOf startState planOf goalOf strays tornAnswer tornMove learnable ruleRow ruleRows learnedFrom ruleSheet learn kept learnBytes planRun goalAnswer runAnswer check endSheet checkBytes twoBytes added add addBytes digits decimal refusedLine needLetter effectLetter shown atomLine atomLines moveLines rulesLines rulesPrinted planLine planPrinted
-cases-right = (refl, (refl, (refl, (refl, (refl, (refl, (refl, (refl, (refl, (refl, (refl, (refl, (refl, (refl, (refl, tt)))))))))))))))
+unfolding _>>=_ refuse number place walk byteAt two sectionsOf numberBad relationAt moveAt schema hall kindSuits objectBad factAt factBad precedes noFact factNumber objectOf stepAt argumentBad stepBad samePair repeats atomRelation atomFirst atomSecond parameterFills isAtom placed ground lengthBad countsBad offsetsBad kindBad relationBad moveBad relation move sections cut countBad factRefused facts state objectsIn stepsIn lengthIn headBad object stepRefused step objectsOf trajectory closed body recordAt stepTotal allRecords lookOverBy lookOver factsAt stateAt stateEnd filedStep filedAt recordFiled recordsFiled filed objectCount startCount goalCount stepCount startAt goalAt stepsAt orderCountsBad orderOffsetsBad orderObjects orderObject entryBad entries planStep fromGoal fromStart orderForm startFacts entryAt goalFrom goal planFrom plan maskOf same below any has later first least image stuck next run wrong saw before after turned learned unboundEffect conflicting domain holding groundAction transition goalEntry schemaOf filedIn transitionsOf startState planOf goalOf unboundEffects conflictAnswer conflictingMove learnable ruleRow ruleRows learnedFrom ruleSheet learn kept learnBytes planRun goalAnswer runAnswer check endSheet checkBytes twoBytes added add addBytes digits decimal refusedLine needLetter effectLetter paramShown atomFront atomLine lineIfAtom atomLines moveLines countsLine rulesLines rulesPrinted planLine planPrinted
+cases-right = (refl, (refl, (refl, (refl, (refl, (refl, (refl, (refl, (refl, (refl, (refl, (refl, (refl, (refl, (refl, (refl, (refl, (refl, (refl, (refl, tt))))))))))))))))))))
 
--- The limit of 60,000 bytes for any bytes: a book so long is too slow to compute whole.
-pub too-long : (s : List ℕ) → 60000 < length s → lookOver s ≡ Refused 1 0
+-- The two sides of the limit of 60,000 bytes, as laws for any bytes: a book so long is too slow to compute as a case.
+pub too-long : (s : List ℕ) → maxLength < length s → lookOver s ≡ Refused 1 0
 unfolding lookOver lookOverBy sections lengthBad refuse _>>=_
-too-long s h = rw (lt-ltb 60000 (length s) h, or-true)
+too-long s h = rw (lt-ltb maxLength (length s) h, or-true)
 
-pub not-too-long : (s : List ℕ) → 16 ≤ length s → length s ≤ 60000 → lengthBad s ≡ false
+pub not-too-long : (s : List ℕ) → headerSize ≤ length s → length s ≤ maxLength → lengthBad s ≡ false
 unfolding lengthBad
-not-too-long s h k = rw (le-ltb (length s) 16 h, le-ltb 60000 (length s) k)
+not-too-long s h k = rw (le-ltb (length s) headerSize h, le-ltb maxLength (length s) k)

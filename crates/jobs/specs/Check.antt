@@ -6,18 +6,16 @@ use lib.ListN.{length}
 use lib.Dec.{eqb}
 use Rattle.answer.specs.declared.Answer.{Answer}
 use Rattle.answer.specs.declared.Answer.the-variants.{Good, Refused}
-use Rattle.answer.specs.Answer.{_>>=_, refuse}
+use Rattle.answer.specs.Answer.{_>>=_, refuse, kept}
+use Rattle.limits.specs.Limits.{endSize}
 use Rattle.mask.specs.Sets.{maskOf}
 use Rattle.format.specs.Order.{stepCount, orderForm}
 use Rattle.model.specs.Quantify.{first}
-use Rattle.model.specs.Domain.{State, Entry}
+use Rattle.model.specs.Domain.{Entry}
 use Rattle.model.specs.Model.{Run, stopped, ended, run}
 use Rattle.model.specs.Judge.{wrong}
 use Rattle.jobs.specs.Planning.{domain, schemaOf, startState, planOf, goalOf}
-use Rattle.jobs.specs.Learn.{learnable, learnedFrom, kept}
-
-abbrev pub endSize : ℕ
-endSize = 512
+use Rattle.jobs.specs.Learn.{learnable, learnedFrom}
 
 -- the plan under the learned model
 unfoldable pub planRun : List ℕ → List ℕ → Run

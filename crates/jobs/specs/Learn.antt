@@ -1,12 +1,13 @@
 -- Learning: rows 11 to 13, the rule sheet, and what the lent sheet holds afterwards.
 use Prim.Native.Nat.{ℕ, zero, suc, _*_}
-use mathlib.Core.Bool.{Bool, true, false, not}
+use mathlib.Core.Bool.{true, false, not}
 use mathlib.Core.List.{List, [], _∷_, _++_}
 use lib.ListN.{length}
 use lib.Dec.{eqb}
 use Rattle.answer.specs.declared.Answer.{Answer}
 use Rattle.answer.specs.declared.Answer.the-variants.{Good, Refused}
-use Rattle.answer.specs.Answer.{_>>=_, refuse}
+use Rattle.answer.specs.Answer.{_>>=_, refuse, kept}
+use Rattle.limits.specs.Limits.{setSize, ruleSize}
 use Rattle.mask.specs.Sets.{maskOf}
 use Rattle.terms.specs.Schema.{Schema}
 use Rattle.format.specs.Decode.{Filed}
@@ -14,37 +15,30 @@ use Rattle.format.specs.LookOver.{lookOver}
 use Rattle.model.specs.Quantify.{least}
 use Rattle.model.specs.Domain.{Transition}
 use Rattle.model.specs.Model.{Model}
-use Rattle.model.specs.Learned.{learned, stray, torn}
+use Rattle.model.specs.Learned.{learned, unboundEffect, conflicting}
 use Rattle.jobs.specs.Planning.{domain, transition, schemaOf, filedIn, transitionsOf}
 
--- a set of bound facts takes 32 bytes, a move's four sets 128
-abbrev pub setSize : ℕ
-setSize = 32
-
-abbrev pub ruleSize : ℕ
-ruleSize = 128
-
 -- row 11: the first step that changed a fact that is no bound fact of it
-unfoldable pub strays : Schema → List Filed → Answer
-strays sch [] = Good 0
-strays sch (f ∷ fs) = do
-  _ ← refuse (stray (domain sch) (transition sch f)) 11 (f .place)
-  strays sch fs
+unfoldable pub unboundEffects : Schema → List Filed → Answer
+unboundEffects sch [] = Good 0
+unboundEffects sch (f ∷ fs) = do
+  _ ← refuse (unboundEffect (domain sch) (transition sch f)) 11 (f .place)
+  unboundEffects sch fs
 
 -- row 12: the smallest move with a bound fact changed to one value and left with the other
-unfoldable pub tornAnswer : ℕ → Answer
-tornAnswer zero = Good 0
-tornAnswer (suc a) = Refused 12 (suc a)
+unfoldable pub conflictAnswer : ℕ → Answer
+conflictAnswer zero = Good 0
+conflictAnswer (suc a) = Refused 12 (suc a)
 
-unfoldable pub tornMove : Schema → List Transition → Answer
-tornMove sch ts = tornAnswer (least (sch .moves) (torn (domain sch) ts))
+unfoldable pub conflictingMove : Schema → List Transition → Answer
+conflictingMove sch ts = conflictAnswer (least (sch .moves) (conflicting (domain sch) ts))
 
 -- rows 1 to 12; success is the count of all steps
 unfoldable pub learnable : List ℕ → Answer
 learnable s = do
   total ← lookOver s
-  _ ← strays (schemaOf s) (filedIn s)
-  _ ← tornMove (schemaOf s) (transitionsOf s)
+  _ ← unboundEffects (schemaOf s) (filedIn s)
+  _ ← conflictingMove (schemaOf s) (transitionsOf s)
   Good total
 
 -- the four sets of one move
@@ -72,11 +66,6 @@ learn s size = do
   total ← learnable s
   _ ← refuse (not (eqb size (ruleSize * schemaOf s .moves))) 13 0
   Good total
-
--- lent bytes after a call: the new ones on success, the old ones on a refusal
-unfoldable pub kept : Answer → List ℕ → List ℕ → List ℕ
-kept (Good n) new old = new
-kept (Refused n p) new old = old
 
 unfoldable pub learnBytes : List ℕ → List ℕ → List ℕ
 learnBytes s sheet = kept (learn s (length sheet)) (ruleSheet s) sheet

@@ -3,6 +3,7 @@ use Prim.Native.Nat.{ℕ, zero, suc, _+_, _*_, _/_, _%_}
 use mathlib.Core.Bool.{Bool, true, false, cond}
 use mathlib.Core.List.{List, [], _∷_, _++_}
 use lib.Dec.{leb}
+use Rattle.limits.specs.Limits.{endSize, atomsPerRelation}
 use Rattle.answer.specs.declared.Answer.{Answer}
 use Rattle.answer.specs.declared.Answer.the-variants.{Good, Refused}
 use Rattle.terms.specs.declared.Relation.{Relation}
@@ -12,7 +13,7 @@ use Rattle.terms.specs.Steps.{atomRelation, atomFirst, atomSecond, isAtom}
 use Rattle.model.specs.Model.{Model}
 use Rattle.jobs.specs.Planning.{schemaOf}
 use Rattle.jobs.specs.Learn.{learnable, learnedFrom}
-use Rattle.jobs.specs.Check.{check, endSize}
+use Rattle.jobs.specs.Check.{check}
 
 -- decimal digits of a number before what follows, the fuel being more than there are
 unfoldable pub digits : ℕ → ℕ → List ℕ → List ℕ
@@ -61,43 +62,51 @@ effectLetter false true = 82
 effectLetter false false = 75
 
 -- a parameter's number, 0 in an unused place
-unfoldable pub shown : Schema → Relation → ℕ → ℕ → ℕ
-shown sch r i p = cond (leb i (sch .places r)) p 0
+unfoldable pub paramShown : Schema → Relation → ℕ → ℕ → ℕ
+paramShown sch r i p = cond (leb i (sch .places r)) p 0
 
-unfoldable pub atomLine : Schema → Model → ℕ → ℕ → List ℕ
-atomLine sch M a n =
+-- a bound fact's line up to its letters: move, relation, two parameters
+unfoldable pub atomFront : Schema → ℕ → ℕ → List ℕ
+atomFront sch a n =
     decimal a
     ++ space
     ++ decimal (atomRelation n .0)
     ++ space
-    ++ decimal (shown sch (atomRelation n) 1 (atomFirst n .0))
+    ++ decimal (paramShown sch (atomRelation n) 1 (atomFirst n .0))
     ++ space
-    ++ decimal (shown sch (atomRelation n) 2 (atomSecond n .0))
+    ++ decimal (paramShown sch (atomRelation n) 2 (atomSecond n .0))
     ++ space
+
+unfoldable pub atomLine : Schema → Model → ℕ → ℕ → List ℕ
+atomLine sch M a n =
+    atomFront sch a n
     ++ (needLetter (M .precondition true a n) (M .precondition false a n) ∷ [])
     ++ space
     ++ (effectLetter (M .effect true a n) (M .effect false a n) ∷ [])
     ++ newline
 
+-- the line of a number, none where it is no bound fact of the move
+unfoldable pub lineIfAtom : Schema → Model → ℕ → ℕ → List ℕ
+lineIfAtom sch M a n = elim (isAtom sch a n) [ true ↦ atomLine sch M a n | false ↦ [] ]
+
 -- the lines of a move's bound facts, `left` numbers from n on
 unfoldable pub atomLines : Schema → Model → ℕ → ℕ → ℕ → List ℕ
 atomLines sch M a zero n = []
-atomLines sch M a (suc left) n = elim (isAtom sch a n) [ true ↦ atomLine sch M a n | false ↦ [] ] ++ atomLines sch M a left (suc n)
+atomLines sch M a (suc left) n = lineIfAtom sch M a n ++ atomLines sch M a left (suc n)
 
 unfoldable pub moveLines : Schema → Model → ℕ → ℕ → List ℕ
 moveLines sch M zero a = []
-moveLines sch M (suc left) a = atomLines sch M a (16 * sch .relations) 0 ++ moveLines sch M left (suc a)
+moveLines sch M (suc left) a = atomLines sch M a (atomsPerRelation * sch .relations) 0 ++ moveLines sch M left (suc a)
+
+-- the first line: counts of moves, records and filed steps
+unfoldable pub countsLine : ℕ → ℕ → ℕ → List ℕ
+countsLine moves records steps =
+    movesWord ++ decimal moves ++ recordsWord ++ decimal records ++ stepsWord ++ decimal steps ++ newline
 
 unfoldable pub rulesLines : List ℕ → Answer → List ℕ
 rulesLines s (Refused num at) = refusedLine num at
 rulesLines s (Good total) =
-    movesWord
-    ++ decimal (schemaOf s .moves)
-    ++ recordsWord
-    ++ decimal (sectionsOf s .records .count)
-    ++ stepsWord
-    ++ decimal total
-    ++ newline
+    countsLine (schemaOf s .moves) (sectionsOf s .records .count) total
     ++ moveLines (schemaOf s) (learnedFrom s) (schemaOf s .moves) 1
 
 -- what the program `rules` prints of a book

@@ -1,8 +1,8 @@
 -- From the values of a book or an order to the planning domain of `model`: its atoms, transitions, states, plans and goals.
 use Prim.Native.Nat.{ℕ, _*_}
-use mathlib.Core.Bool.{Bool}
 use mathlib.Core.List.{List, map}
 use lib.Dec.{eqb}
+use Rattle.limits.specs.Limits.{atomsPerRelation, factsPerRelation}
 use Rattle.terms.specs.declared.Fact.{Fact}
 use Rattle.terms.specs.declared.Step.{Step}
 use Rattle.terms.specs.Sections.{sectionsOf}
@@ -17,7 +17,7 @@ use Rattle.model.specs.Domain.{Domain, State, Step as GroundAction, Transition,
 -- bound facts are numbered 16 to a relation, facts 256 to a relation
 unfoldable pub domain : Schema → Domain
 domain sch =
-    record { atom = isAtom sch; atoms = 16 * sch .relations; facts = 256 * sch .relations; actions = sch .moves }
+    record { atom = isAtom sch; atoms = atomsPerRelation * sch .relations; facts = factsPerRelation * sch .relations; actions = sch .moves }
 
 unfoldable pub holding : List Fact → State
 holding fs n = any (λ f. eqb (factNumber f) n) fs

@@ -1,34 +1,30 @@
 -- Rows 1 to 13 one after the other, by what the calls return, and what the lent sheet holds.
-use Prim.Native.Nat.{ℕ, _*_, _≤_}
-use mathlib.Core.Path.{_≡_, refl, sym, ap, _∙_, subst}
-use mathlib.Core.Bool.{Bool, true, false, not}
+use Prim.Native.Nat.{ℕ, _*_}
+use mathlib.Core.Path.{_≡_, refl, sym, ap, _∙_}
+use mathlib.Core.Bool.{Bool, true, false}
 use mathlib.Core.List.{List}
-use native.Mathlib.Omega.{arith}
 use lib.ListN.{length}
-use lib.Dec.{eqb}
 use borrow.Author.Tests.{eq-eqb, ne-eqb}
 use Rattle.answer.specs.declared.Answer.{Answer}
 use Rattle.answer.specs.declared.Answer.the-variants.{Good, Refused}
-use Rattle.answer.specs.Answer.{_>>=_, refuse, isRefused, valueOf}
-use Rattle.answer.specs.Laws.{clash, stays, follows, bind-good, parted}
+use Rattle.answer.specs.Answer.{_>>=_, refuse, isRefused, valueOf, kept}
+use Rattle.truth.specs.Bools.{clash}
+use Rattle.answer.specs.Laws.{stays, follows, bind-good, parted}
+use Rattle.answer.specs.Turns.{is-good, part-stays, part-follows}
 use Rattle.terms.specs.declared.Sections.{Sections}
 use Rattle.terms.specs.Sections.{sectionsOf}
 use Rattle.terms.specs.Schema.{schema}
 use Rattle.format.specs.Header.{sections}
-use Rattle.format.specs.LookOver.{lookOver}
-use Rattle.format.specs.LookOver.{lookOverBy}
+use Rattle.format.specs.LookOver.{lookOver, allRecords, lookOverBy}
 use Rattle.format.specs.Decode.{filed}
-use Rattle.records.specs.Parts.{allRecords, look-over-parts}
-use Rattle.answer.specs.Turns.{is-good}
 use Rattle.jobs.specs.Planning.{schemaOf, filedIn, transitionsOf}
-use Rattle.jobs.specs.Learn.{strays, tornMove, learnable, learn, kept, learnBytes, ruleSheet}
-use Rattle.held.specs.Held.{Held, holdAll, nothingSeen}
-use Rattle.held.specs.Rules.{strayAnswer, tornAmong, sheetHeld}
-use Rattle.heldright.specs.HeldRight.{HeldRight}
+use Rattle.jobs.specs.Learn.{unboundEffects, conflictingMove, learnable, learn, learnBytes, learnedFrom, ruleSheet}
+use Rattle.held.specs.Held.{Held, nothingSeen}
+use Rattle.held.specs.Rules.{unboundAnswer, conflictAmong, sheetHeld}
 use Rattle.heldright.proofs.HeldRight.{held-right}
 use Rattle.notes.specs.Notes.{Holds}
 use Rattle.learner.specs.declared.Walked.{Walked}
-use Rattle.learner.specs.Learner.{RecordsNoted, FormNoted, heldOf, Noted, Learnt}
+use Rattle.learner.specs.Learner.{RecordsNoted, FormNoted, heldOf, Noted, LearnOutcome}
 
 refused-not-good {ℓ} : {A : Type ℓ} (a : Answer) (m : ℕ) → isRefused a ≡ true → a ≡ Good m → A
 unfolding isRefused
@@ -40,12 +36,12 @@ refused-book s bytes r b p q e = record { says = e; holds = λ m f. refused-not-
 
 module _ (s : List ℕ) (h : Sections) (own : h ≡ sectionsOf s) where
   parts : lookOver s ≡ (sections h s >>= λ _. allRecords h s (h .records .count) (h .records .at))
-  unfolding lookOver
-  parts = rw own (look-over-parts (sectionsOf s) s)
+  unfolding lookOver lookOverBy
+  parts = rw own
 
   -- rows 1 to 5
   pub at-sections : (bytes : List ℕ) (a : Answer) (b : Bool) → a ≡ sections h s → b ≡ isRefused a → b ≡ true
-      → FormNoted s bytes (record { answer = a; stray = 0 })
+      → FormNoted s bytes (record { answer = a; named = 0 })
   at-sections bytes a b p q r =
       record {
         says =
@@ -63,15 +59,11 @@ module _ (s : List ℕ) (h : Sections) (own : h ≡ sectionsOf s) where
   -- what is held after all records of a book
   pub all-held : (first bytes : List ℕ) (w : Walked) (m : ℕ)
       → first ≡ nothingSeen .masks
-      → RecordsNoted h s (h .records .count) (h .records .at) (record { masks = first; stray = 0 }) bytes w
+      → RecordsNoted h s (h .records .count) (h .records .at) (record { masks = first; named = 0 }) bytes w
       → w .answer ≡ Good m
-      → Holds (heldOf s) bytes (w .stray)
+      → Holds (heldOf s) bytes (w .named)
   unfolding heldOf filedIn filed nothingSeen
   all-held first bytes w m e r f = rw (e, own) at (r .holds m f)
-
-  pub torn-own : (bytes : List ℕ) (d : Answer) → d ≡ tornAmong (schema h s) bytes (h .moves .count) → d ≡ tornAmong (schemaOf s) bytes (schemaOf s .moves)
-  unfolding schemaOf schema
-  torn-own bytes d e = rw own at e
 
   -- the records by the header that was read
   pub noted-own : (n from : ℕ) (before : Held) (bytes : List ℕ) (w : Walked) → RecordsNoted (sectionsOf s) s n from before bytes w → RecordsNoted h s n from before bytes w
@@ -83,7 +75,7 @@ module _ (s : List ℕ) (h : Sections) (own : h ≡ sectionsOf s) where
       → b ≡ isRefused a
       → b ≡ false
       → first ≡ nothingSeen .masks
-      → RecordsNoted h s (h .records .count) (h .records .at) (record { masks = first; stray = 0 }) bytes w
+      → RecordsNoted h s (h .records .count) (h .records .at) (record { masks = first; named = 0 }) bytes w
       → FormNoted s bytes w
   at-records first bytes w a b p q r e n =
       record { says = looked a (w .answer) b p q r (n .says); holds = λ m f. all-held first bytes w m e n f }
@@ -96,48 +88,58 @@ module _ (s : List ℕ) (h : Sections) (own : h ≡ sectionsOf s) where
   unfolding schemaOf schema
   moves-own = rw own
 
-pub form-refused : (s : List ℕ) (c : Answer) (b : Bool) → c ≡ lookOver s → b ≡ isRefused c → b ≡ true → c ≡ learnable s
-unfolding learnable
-form-refused s c b e q r = e ∙ stays (lookOver s) _ (sym (ap isRefused e) ∙ sym q ∙ r)
-
-module _ (s : List ℕ) (m : ℕ) (good : lookOver s ≡ Good m) where
-  rest : learnable s ≡ (strays (schemaOf s) (filedIn s) >>= λ _. (tornMove (schemaOf s) (transitionsOf s) >>= λ _. Good m))
+-- rows 11 and 12 from what is held, behind rows 1 to 10
+module _ (s bytes : List ℕ) (w : Walked) (form : FormNoted s bytes w) (b : Bool) (told : b ≡ isRefused (w .answer)) where
+  pub at-form : b ≡ true → Noted s bytes (w .answer)
   unfolding learnable
-  rest = bind-good _ _ m good
+  at-form t = refused-book s bytes _ b told t (part-stays _ _ _ b (form .says) told t)
 
-  -- row 11
-  pub at-stray : (bytes : List ℕ) (stray : ℕ) (c : Answer) → Holds (heldOf s) bytes stray → c ≡ strayAnswer stray → c ≡ strays (schemaOf s) (filedIn s)
-  unfolding heldOf
-  at-stray bytes stray c h e = e ∙ ap strayAnswer (h .stray) ∙ held-right s m good .row11
+  module _ (left : b ≡ false) where
+    abbrev total : ℕ
+    total = valueOf (w .answer)
 
-  pub stray-refused : (c : Answer) (b : Bool) → c ≡ strays (schemaOf s) (filedIn s) → b ≡ isRefused c → b ≡ true → c ≡ learnable s
-  stray-refused c b e q r = e ∙ stays _ _ (sym (ap isRefused e) ∙ sym q ∙ r) ∙ sym rest
+    good : w .answer ≡ Good total
+    good = is-good _ (sym told ∙ left)
 
-  -- row 12
-  pub at-torn : (bytes : List ℕ) (stray : ℕ) (d : Answer) → Holds (heldOf s) bytes stray
-      → d ≡ tornAmong (schemaOf s) bytes (schemaOf s .moves) → d ≡ tornMove (schemaOf s) (transitionsOf s)
-  unfolding heldOf
-  at-torn bytes stray d h e = e ∙ ap (λ l. tornAmong (schemaOf s) l (schemaOf s .moves)) (h .masks) ∙ held-right s m good .row12
+    pub formed : lookOver s ≡ Good total
+    formed = sym (form .says) ∙ good
 
-  pub torn-refused : (c d : Answer) (b b′ : Bool) → c ≡ strays (schemaOf s) (filedIn s) → b ≡ isRefused c → b ≡ false
-      → d ≡ tornMove (schemaOf s) (transitionsOf s) → b′ ≡ isRefused d → b′ ≡ true → d ≡ learnable s
-  torn-refused c d b b′ e q r f p t =
-      f ∙ stays _ (λ _. Good m) (sym (ap isRefused f) ∙ sym p ∙ t)
-      ∙ follows c (λ _. tornMove (schemaOf s) (transitionsOf s) >>= λ _. Good m) (sym q ∙ r)
-      ∙ ap (λ x. x >>= λ _. tornMove (schemaOf s) (transitionsOf s) >>= λ _. Good m) e
-      ∙ sym rest
+    holds : Holds (heldOf s) bytes (w .named)
+    holds = form .holds _ good
 
-  pub book-good : (c d : Answer) (b b′ : Bool) → c ≡ strays (schemaOf s) (filedIn s) → b ≡ isRefused c → b ≡ false
-      → d ≡ tornMove (schemaOf s) (transitionsOf s) → b′ ≡ isRefused d → b′ ≡ false → Good m ≡ learnable s
-  book-good c d b b′ e q r f p t =
-      follows d (λ _. Good m) (sym p ∙ t)
-      ∙ ap (λ x. x >>= λ _. Good m) f
-      ∙ follows c (λ _. tornMove (schemaOf s) (transitionsOf s) >>= λ _. Good m) (sym q ∙ r)
-      ∙ ap (λ x. x >>= λ _. tornMove (schemaOf s) (transitionsOf s) >>= λ _. Good m) e
-      ∙ sym rest
+    conflicting : ℕ → Answer
+    conflicting _ = conflictingMove (schemaOf s) (transitionsOf s) >>= λ _. Good total
+
+    rest : learnable s ≡ (unboundEffects (schemaOf s) (filedIn s) >>= conflicting)
+    unfolding learnable conflicting
+    rest = bind-good _ _ _ formed
+
+    module _ (c : Answer) (b₂ : Bool) (e₂ : c ≡ unboundAnswer (w .named)) (told₂ : b₂ ≡ isRefused c) where
+      row11 : c ≡ unboundEffects (schemaOf s) (filedIn s)
+      unfolding heldOf
+      row11 = e₂ ∙ ap unboundAnswer (holds .named) ∙ held-right s _ formed .row11
+
+      pub at-unbound : b₂ ≡ true → Noted s bytes c
+      at-unbound t = refused-book s bytes c b₂ told₂ t (part-stays _ conflicting c b₂ row11 told₂ t ∙ sym rest)
+
+      module _ (left₂ : b₂ ≡ false) (h : Sections) (own : h ≡ sectionsOf s) (d : Answer) (b₃ : Bool)
+          (e₃ : d ≡ conflictAmong (schema h s) bytes (h .moves .count)) (told₃ : b₃ ≡ isRefused d) where
+        row12 : d ≡ conflictingMove (schemaOf s) (transitionsOf s)
+        unfolding heldOf transitionsOf
+        row12 = e₃ ∙ rw (schema-own s h own, moves-own s h own, holds .masks) (held-right s _ formed .row12)
+
+        behind : (conflictingMove (schemaOf s) (transitionsOf s) >>= λ _. Good total) ≡ learnable s
+        unfolding conflicting
+        behind = part-follows _ conflicting c b₂ _ row11 told₂ left₂ refl ∙ sym rest
+
+        pub at-conflict : b₃ ≡ true → Noted s bytes d
+        at-conflict t = refused-book s bytes d b₃ told₃ t (part-stays _ _ d b₃ row12 told₃ t ∙ behind)
+
+        pub at-end : b₃ ≡ false → Noted s bytes (w .answer)
+        at-end t = record { says = good ∙ part-follows _ (λ _. Good total) d b₃ _ row12 told₃ t refl ∙ behind; holds = λ m f. holds .masks }
 
 -- learning, by what noting the book returned
-pub learn-refused : (s old : List ℕ) (a : Answer) (b : Bool) → a ≡ learnable s → b ≡ isRefused a → b ≡ true → Learnt s old old a
+pub learn-refused : (s old : List ℕ) (a : Answer) (b : Bool) → a ≡ learnable s → b ≡ isRefused a → b ≡ true → LearnOutcome s old old a
 unfolding learn learnBytes kept isRefused
 learn-refused s old a b e q r =
     let f : isRefused (learnable s) ≡ true = sym (ap isRefused e) ∙ sym q ∙ r in
@@ -150,13 +152,13 @@ learn-refused s old a b e q r =
 
 module _ (s old : List ℕ) (m : ℕ) (good : learnable s ≡ Good m) where
   -- row 13
-  pub learn-size : (length old ≡ 128 * schemaOf s .moves → ⊥) → Learnt s old old (Refused 13 0)
+  pub learn-size : (length old ≡ 128 * schemaOf s .moves → ⊥) → LearnOutcome s old old (Refused 13 0)
   unfolding learn learnBytes kept refuse _>>=_
   learn-size h =
       let l : learn s (length old) ≡ Refused 13 0 = rw (good, ne-eqb (length old) (128 * schemaOf s .moves) h) in
       record { says = sym l; bytes = rw l }
 
-  pub learn-done : (new : List ℕ) → length old ≡ 128 * schemaOf s .moves → new ≡ ruleSheet s → Learnt s old new (Good m)
+  pub learn-done : (new : List ℕ) → length old ≡ 128 * schemaOf s .moves → new ≡ ruleSheet s → LearnOutcome s old new (Good m)
   unfolding learn learnBytes kept refuse _>>=_
   learn-done new h e =
       let l : learn s (length old) ≡ Good m = rw (good, eq-eqb (length old) (128 * schemaOf s .moves) h) in
@@ -165,7 +167,7 @@ module _ (s old : List ℕ) (m : ℕ) (good : learnable s ≡ Good m) where
 -- the sheet from what is held
 pub sheet-by : (s : List ℕ) (m : ℕ) (h : Sections) (bytes new : List ℕ) → h ≡ sectionsOf s → learnable s ≡ Good m → bytes ≡ heldOf s .masks
     → new ≡ sheetHeld (schema h s) bytes (h .moves .count) 1 → new ≡ ruleSheet s
-unfolding heldOf learnable
+unfolding heldOf learnable transitionsOf learnedFrom ruleSheet
 sheet-by s m h bytes new own good e f =
     let p = parted (lookOver s) m _ good in
     f ∙ rw (schema-own s h own, moves-own s h own, e) (held-right s (p .0) (p .1) .sheet)

@@ -1,33 +1,29 @@
 -- A record of good form can be noted, and records noted one by one are all noted.
 use Prim.Native.Nat.{ℕ, zero, suc, _+_, _-_, _≤_, _<_}
-use mathlib.Core.Path.{_≡_, refl, sym, ap, _∙_, subst}
-use mathlib.Core.Bool.{Bool, false}
+use mathlib.Core.Path.{_≡_, sym, ap, _∙_, subst}
 use mathlib.Core.List.{List}
 use native.Mathlib.Numerals.{sub-one}
 use native.Mathlib.Omega.{arith}
 use lib.ListN.{length}
-use Rattle.answer.specs.declared.Answer.{Answer}
 use Rattle.answer.specs.declared.Answer.the-variants.{Good, Refused}
-use Rattle.answer.specs.Laws.{passed, parted}
-use Rattle.answer.specs.Walk.{walk}
+use Rattle.answer.specs.Laws.{passed, parted, good-refused}
+use Rattle.answer.specs.Walk.{walk, walk-parted}
 use Rattle.input.specs.Bytes.{byteAt}
 use Rattle.terms.specs.declared.Sections.{Sections}
 use Rattle.terms.specs.Schema.{Schema, Hall, schema, hall}
 use Rattle.terms.specs.Steps.{stepAt}
-use Rattle.format.specs.Limits.{maxLength, maxMoves, headSize, stepSize}
+use Rattle.limits.specs.Limits.{maxLength, maxMoves, headSize, stepSize}
 use Rattle.format.specs.States.{state}
-use Rattle.format.specs.Records.{objectsIn, stepsIn, lengthIn, object, step, objectsOf, trajectory, body, recordAt}
+use Rattle.format.specs.LookOver.{allRecords}
+use Rattle.format.specs.Records.{objectsIn, stepsIn, lengthIn, object, step, objectsOf, trajectory, body, recordAt, closed}
 use Rattle.format.specs.Decode.{stateEnd, filedAt, recordFiled, recordsFiled}
-use Rattle.states.proofs.Laws.{state-within, state-end}
-use Rattle.records.proofs.Laws.{head-limits}
-use Rattle.records.specs.Parts.{allRecords}
-use Rattle.wellformed.proofs.Walks.{walk-parted}
+use Rattle.format.proofs.States.{state-within, state-end}
+use Rattle.format.proofs.Records.{head-limits, objects-end}
 use Rattle.wellformed.proofs.Suits.{move-known}
-use Rattle.wellformed.proofs.Records.{step-parted, objects-end}
+use Rattle.wellformed.proofs.Records.{step-parted}
 use Rattle.held.specs.Held.{Held, holdAll, heldAfter}
 use Rattle.held.proofs.Records.{held-none, held-more}
 use Rattle.notes.specs.Notes.{Holds}
-use Rattle.learner.specs.declared.Walked.{Walked}
 use Rattle.learner.specs.Learner.{Noteable, RecordsNoted}
 use Rattle.learner.proofs.Steps.{holding, holds-path}
 
@@ -54,7 +50,7 @@ noteable-steps sch hl s end short long few (suc n) at mid last l e f =
 
 module _ (h : Sections) (s : List ℕ) (long : length s ≤ maxLength) (few : h .moves .count ≤ maxMoves) where
   pub record-noteable : (at next : ℕ) → recordAt h s at ≡ Good next → Noteable s (stepsIn s at) (at + headSize + objectsIn s at)
-  unfolding recordAt body trajectory schema
+  unfolding recordAt body closed trajectory schema
   record-noteable at next e =
       let end : ℕ = at + lengthIn s at in
       let (head, whole) = passed _ 6 at next _ e in
@@ -76,35 +72,35 @@ pub record-ready : (s : List ℕ) (at o n : ℕ) → o ≡ byteAt s at → n ≡
 unfolding stepsIn objectsIn
 record-ready s at o n e f h = rw (e, f) h
 
-pub record-held : (s : List ℕ) (at o n : ℕ) (before : Held) (bytes : List ℕ) (stray : ℕ) → o ≡ byteAt s at → n ≡ byteAt s (at + 1)
-    → Holds (holdAll (filedAt s n (at + headSize + o)) before) bytes stray → Holds (holdAll (recordFiled s at) before) bytes stray
+pub record-held : (s : List ℕ) (at o n : ℕ) (before : Held) (bytes : List ℕ) (named : ℕ) → o ≡ byteAt s at → n ≡ byteAt s (at + 1)
+    → Holds (holdAll (filedAt s n (at + headSize + o)) before) bytes named → Holds (holdAll (recordFiled s at) before) bytes named
 unfolding recordFiled stepsIn objectsIn
-record-held s at o n before bytes stray e f h = rw (e, f) at h
+record-held s at o n before bytes named e f h = rw (e, f) at h
 
 module _ (s : List ℕ) (whole : Held) where
   -- one record more
-  pub record-turn : (n at next : ℕ) (masks masks′ : List ℕ) (stray stray′ : ℕ)
+  pub record-turn : (n at next : ℕ) (masks masks′ : List ℕ) (named named′ : ℕ)
       → 0 < n
       → next ≡ at + lengthIn s at
-      → Holds (holdAll (recordFiled s at) (holding masks stray)) masks′ stray′
-      → holdAll (recordsFiled s n at) (holding masks stray) ≡ whole
-      → holdAll (recordsFiled s (n - 1) next) (holding masks′ stray′) ≡ whole
+      → Holds (holdAll (recordFiled s at) (holding masks named)) masks′ named′
+      → holdAll (recordsFiled s n at) (holding masks named) ≡ whole
+      → holdAll (recordsFiled s (n - 1) next) (holding masks′ named′) ≡ whole
   unfolding heldAfter
-  record-turn zero at next masks masks′ stray stray′ l e f i = absurd (omega arith)
-  record-turn (suc n) at next masks masks′ stray stray′ l e f i =
-      rw (holds-path _ _ _ f, sub-one, e) (sym (held-more s at (holding masks stray) n) ∙ i)
+  record-turn zero at next masks masks′ named named′ l e f i = absurd (omega arith)
+  record-turn (suc n) at next masks masks′ named named′ l e f i =
+      rw (holds-path _ _ _ f, sub-one, e) (sym (held-more s at (holding masks named) n) ∙ i)
 
-  pub records-done : (n at : ℕ) (masks : List ℕ) (stray : ℕ)
+  pub records-done : (n at : ℕ) (masks : List ℕ) (named : ℕ)
       → n ≡ 0
-      → holdAll (recordsFiled s n at) (holding masks stray) ≡ whole
-      → Holds whole masks stray
-  records-done n at masks stray e i =
-      let j = sym (held-none s at (holding masks stray)) ∙ rw e at i in
-      record { masks = ap (λ h. h .masks) j; stray = ap (λ h. h .stray) j }
+      → holdAll (recordsFiled s n at) (holding masks named) ≡ whole
+      → Holds whole masks named
+  records-done n at masks named e i =
+      let j = sym (held-none s at (holding masks named)) ∙ rw e at i in
+      record { masks = ap (λ h. h .masks) j; named = ap (λ h. h .named) j }
 
 -- a refusal says nothing of what is held
-pub refused-noted : (h : Sections) (s : List ℕ) (n from : ℕ) (before : Held) (bytes : List ℕ) (k p stray : ℕ)
+pub refused-noted : (h : Sections) (s : List ℕ) (n from : ℕ) (before : Held) (bytes : List ℕ) (k p named : ℕ)
     → Refused k p ≡ allRecords h s n from
-    → RecordsNoted h s n from before bytes (record { answer = Refused k p; stray = stray })
-refused-noted h s n from before bytes k p stray e =
-    record { says = e; holds = λ m f. absurd (let z : _≡_ {A = ℕ} 0 1 = cc in omega arith) }
+    → RecordsNoted h s n from before bytes (record { answer = Refused k p; named = named })
+refused-noted h s n from before bytes k p named e =
+    record { says = e; holds = λ m f. good-refused m k p (sym f) }

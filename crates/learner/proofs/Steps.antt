@@ -1,49 +1,43 @@
 -- The steps of a record noted one by one: what is held with the steps still left is what is held after all.
 use Prim.Native.Nat.{ℕ, zero, suc, _+_, _-_, _≤_, _<_}
-use mathlib.Core.Path.{_≡_, refl, sym, ap, _∙_}
-use mathlib.Core.List.{List, [], _∷_, _++_}
+use mathlib.Core.Path.{_≡_, ap}
+use mathlib.Core.List.{List}
 use native.Mathlib.Numerals.{sub-one}
 use native.Mathlib.Omega.{arith}
 use lib.ListN.{length}
-use Rattle.answer.specs.declared.Answer.{Answer}
-use Rattle.answer.specs.declared.Answer.the-variants.{Good}
-use Rattle.answer.specs.Walk.{walk}
-use Rattle.terms.specs.Schema.{Schema, Hall}
 use Rattle.terms.specs.Steps.{stepAt}
-use Rattle.format.specs.Limits.{maxLength, maxMoves, stepSize}
-use Rattle.format.specs.States.{state}
-use Rattle.format.specs.Records.{step}
-use Rattle.format.specs.Decode.{Filed, stateEnd, filedAt}
-use Rattle.held.specs.Held.{Held, hold, holdAll}
-use Rattle.notes.specs.Notes.{Holds, heldStep, filedStep}
+use Rattle.limits.specs.Limits.{maxLength, maxMoves, stepSize}
+use Rattle.format.specs.Decode.{stateEnd, filedAt}
+use Rattle.held.specs.Held.{Held, holdAll}
+use Rattle.notes.specs.Notes.{Holds, heldStep}
 use Rattle.learner.specs.Learner.{Noteable}
 
 abbrev pub holding : List ℕ → ℕ → Held
-holding masks stray = record { masks = masks; stray = stray }
+holding masks named = record { masks = masks; named = named }
 
-pub holds-path : (h : Held) (bytes : List ℕ) (stray : ℕ) → Holds h bytes stray → holding bytes stray ≡ h
-holds-path h bytes stray e = λ i. record { masks = e .masks i; stray = e .stray i }
+pub holds-path : (h : Held) (bytes : List ℕ) (named : ℕ) → Holds h bytes named → holding bytes named ≡ h
+holds-path h bytes named e = λ i. record { masks = e .masks i; named = e .named i }
 
 module _ (s : List ℕ) (whole : Held) where
   -- one step more
-  pub step-turn : (n at mid : ℕ) (masks masks′ : List ℕ) (stray stray′ : ℕ)
+  pub step-turn : (n at mid : ℕ) (masks masks′ : List ℕ) (named named′ : ℕ)
       → 0 < n
       → mid ≡ stateEnd s at
-      → Holds (heldStep s at mid masks stray) masks′ stray′
-      → holdAll (filedAt s n at) (holding masks stray) ≡ whole
-      → holdAll (filedAt s (n - 1) (mid + stepSize)) (holding masks′ stray′) ≡ whole
-  unfolding filedAt holdAll heldStep filedStep
-  step-turn zero at mid masks masks′ stray stray′ h e f i = absurd (omega arith)
-  step-turn (suc n) at mid masks masks′ stray stray′ h e f i = rw (holds-path _ _ _ f, sub-one, e) i
+      → Holds (heldStep s at mid masks named) masks′ named′
+      → holdAll (filedAt s n at) (holding masks named) ≡ whole
+      → holdAll (filedAt s (n - 1) (mid + stepSize)) (holding masks′ named′) ≡ whole
+  unfolding filedAt holdAll heldStep
+  step-turn zero at mid masks masks′ named named′ h e f i = absurd (omega arith)
+  step-turn (suc n) at mid masks masks′ named named′ h e f i = rw (holds-path _ _ _ f, sub-one, e) i
 
-  pub steps-done : (n at : ℕ) (masks : List ℕ) (stray : ℕ)
+  pub steps-done : (n at : ℕ) (masks : List ℕ) (named : ℕ)
       → n ≡ 0
-      → holdAll (filedAt s n at) (holding masks stray) ≡ whole
-      → Holds whole masks stray
+      → holdAll (filedAt s n at) (holding masks named) ≡ whole
+      → Holds whole masks named
   unfolding filedAt holdAll
-  steps-done n at masks stray e i =
+  steps-done n at masks named e i =
       let j = rw e at i in
-      record { masks = ap (λ h. h .masks) j; stray = ap (λ h. h .stray) j }
+      record { masks = ap (λ h. h .masks) j; named = ap (λ h. h .named) j }
 
 pub noteable-at : (s : List ℕ) (n at : ℕ) → Noteable s n at → (at ≤ maxLength) × (stateEnd s at ≤ length s)
 unfolding Noteable

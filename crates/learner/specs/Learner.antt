@@ -7,10 +7,9 @@ use Rattle.answer.specs.declared.Answer.{Answer}
 use Rattle.answer.specs.declared.Answer.the-variants.{Good}
 use Rattle.terms.specs.declared.Sections.{Sections}
 use Rattle.terms.specs.Steps.{stepAt}
-use Rattle.format.specs.Limits.{maxLength, maxMoves, stepSize}
-use Rattle.format.specs.LookOver.{lookOver}
-use Rattle.format.specs.Decode.{stateEnd, recordsFiled, filed}
-use Rattle.records.specs.Parts.{allRecords}
+use Rattle.limits.specs.Limits.{maxLength, maxMoves, stepSize}
+use Rattle.format.specs.LookOver.{lookOver, allRecords}
+use Rattle.format.specs.Decode.{stateEnd, recordsFiled}
 use Rattle.held.specs.Held.{Held, holdAll, nothingSeen}
 use Rattle.notes.specs.Notes.{Holds}
 use Rattle.jobs.specs.Planning.{filedIn}
@@ -31,7 +30,7 @@ Noteable s (suc n) at =
 -- a number of records walked, each looked over and noted: the answer, and what is held where it is good
 pub record RecordsNoted (h : Sections) (s : List ℕ) (n from : ℕ) (before : Held) (bytes : List ℕ) (w : Walked) : Type 0 where
   pub says : w .answer ≡ allRecords h s n from
-  pub holds : (m : ℕ) → w .answer ≡ Good m → Holds (holdAll (recordsFiled s n from) before) bytes (w .stray)
+  pub holds : (m : ℕ) → w .answer ≡ Good m → Holds (holdAll (recordsFiled s n from) before) bytes (w .named)
 
 -- what is held after all steps of a book
 unfoldable pub heldOf : List ℕ → Held
@@ -40,7 +39,7 @@ heldOf s = holdAll (filedIn s) nothingSeen
 -- rows 1 to 10, and what is held where they are good
 pub record FormNoted (s bytes : List ℕ) (w : Walked) : Type 0 where
   pub says : w .answer ≡ lookOver s
-  pub holds : (m : ℕ) → w .answer ≡ Good m → Holds (heldOf s) bytes (w .stray)
+  pub holds : (m : ℕ) → w .answer ≡ Good m → Holds (heldOf s) bytes (w .named)
 
 -- rows 1 to 12, and what is held where they are good
 pub record Noted (s bytes : List ℕ) (r : Answer) : Type 0 where
@@ -48,6 +47,6 @@ pub record Noted (s bytes : List ℕ) (r : Answer) : Type 0 where
   pub holds : (m : ℕ) → r ≡ Good m → bytes ≡ heldOf s .masks
 
 -- learning into a lent sheet: the answer, and every byte of the sheet afterwards
-pub record Learnt (s old new : List ℕ) (r : Answer) : Type 0 where
+pub record LearnOutcome (s old new : List ℕ) (r : Answer) : Type 0 where
   pub says : r ≡ learn s (length old)
   pub bytes : new ≡ learnBytes s old

@@ -1,11 +1,12 @@
 -- The digits that io spells are those of the listing.
-use Prim.Native.Nat.{ℕ, zero, suc, _+_, _*_, _/_, _%_, _^_, _-_, _≤_, _<_}
+use Prim.Native.Nat.{ℕ, zero, suc, _+_, _/_, _%_, _^_, _-_, _≤_, _<_}
 use native.Mathlib.Nat.{pow-suc, one-le-pow, pow-le-pow-right}
 use native.Mathlib.Omega.{arith}
 use mathlib.Core.Path.{_≡_, refl, sym, ap, _∙_}
 use mathlib.Core.Bool.{Bool, true, false}
 use mathlib.Core.List.{List, [], _∷_, _++_, append-nil}
 use lib.Dec.{ltb}
+use lib.ListN.{length}
 use lib.Seq.{append-snoc}
 use borrow.Author.Tests.{lt-ltb, ltb-true, ltb-false}
 use Rattle.io.specs.Digits.{digits as spelt, glyph, Fewest}
@@ -61,3 +62,25 @@ few n k h f = go (ltb 20 k) refl
 pub decimal-spelt : (n k : ℕ) → n < 2 ^ 64 → Fewest 10 1 n k → spelt 10 k n ≡ decimal n
 unfolding decimal
 decimal-spelt n k h f = sym (digits-spelt 20 k n [] (few n k h f) f ∙ append-nil (spelt 10 k n))
+
+-- a number below a power of ten has no more digits than that
+abbrev Few : ℕ → Type 0
+Few fuel = (d n : ℕ) (rest : List ℕ) → n < 10 ^ suc d → length (digits fuel n rest) ≤ suc d + length rest
+
+few-more : (fuel : ℕ) → Few fuel → (d n q : ℕ) (rest : List ℕ) → n / 10 ≡ q → n < 10 ^ suc d → length (digits (suc fuel) n rest) ≤ suc d + length rest
+unfolding digits
+few-more fuel fewer d n zero rest e h = rw (e, digits) (omega arith)
+few-more fuel fewer zero n (suc q) rest e h = absurd (omega arith)
+few-more fuel fewer (suc d) n (suc q) rest e h =
+    let small : suc q < 10 ^ suc d = omega (arith, pow-suc 10 (suc d)) in
+    let shorter = fewer d (suc q) ((48 + n % 10) ∷ rest) small in
+    rw (e, digits) (omega (arith, shorter))
+
+digits-few : (fuel : ℕ) → Few fuel
+unfolding digits
+digits-few zero d n rest h = omega arith
+digits-few (suc fuel) d n rest h = few-more fuel (digits-few fuel) d n (n / 10) rest refl h
+
+pub decimal-few : (d n : ℕ) → n < 10 ^ suc d → length (decimal n) ≤ suc d
+unfolding decimal
+decimal-few d n h = omega (arith, digits-few 20 d n [] h)

@@ -1,3 +1,4 @@
--- What the proofs of the functions cite: digits, and text behind text.
+-- What the proofs of the functions cite: digits, text behind text, and a bound fact's line.
 pub mod Decimal
 pub mod Text
+pub mod Atom

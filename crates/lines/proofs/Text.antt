@@ -6,7 +6,7 @@ use mathlib.Core.List.{List, _++_}
 use lib.ListN.{length, take, drop, length-append}
 use lib.Seq.{take-at, length-take-le}
 use Rattle.io.specs.Counts.{Counts}
-use Rattle.rulesheet.specs.Sheet.{written}
+use Rattle.output.specs.Written.{written}
 
 -- the first n bytes of a line that has as many
 pub counts : (n : ℕ) (l : List ℕ) → n ≤ length l → Counts n l
@@ -17,3 +17,8 @@ unfolding written
 text-put l at vs new h e =
     let n : length (take at l ++ vs) ≡ at + length vs = length-append (take at l) vs ∙ ap (λ (k : ℕ). k + length vs) (length-take-le at l (omega arith)) in
     ap (take (at + length vs)) e ∙ take-at (take at l ++ vs) (drop (at + length vs) l) (at + length vs) n
+
+-- how long the line then is
+pub grown : (old new vs : List ℕ) (at r : ℕ) → at ≤ length old → Counts r new → take r new ≡ take at old ++ vs → r ≡ at + length vs
+grown old new vs at r h c e =
+    c .1 ∙ ap (λ (l : List ℕ). length l) e ∙ length-append (take at old) vs ∙ ap (λ (k : ℕ). k + length vs) (length-take-le at old h)

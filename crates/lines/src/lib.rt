@@ -1,13 +1,20 @@
-// Lines of text: put together in a buffer that the caller lends, to be written at once. `at` is the length of the line so far.
-// Uses rulesheet to copy bytes and io to spell numbers; the words and numbers are those of jobs' Listing.
+// Lines of text: put together in a buffer that the caller lends, to be written at once. `at` is the length of the text so far.
+// Uses output to copy bytes, io to spell numbers, terms and mask to read a book's schema and a rule sheet; the lines are those of jobs' Listing.
 ghost use mathlib.Core.Path.{_≡_};
+ghost use mathlib.Core.Bool.{true, false};
 ghost use mathlib.Core.List.{_++_};
-ghost use Prim.Native.Nat.{_+_, _≤_};
+ghost use Prim.Native.Nat.{_+_, _≤_, _<_};
 ghost use lib.ListN.{length, take};
+ghost use Rattle.limits.specs.Limits.{maxAtoms};
 ghost use Rattle.io.specs.Counts.{Counts};
-ghost use Rattle.jobs.specs.Listing.{decimal, refusedLine};
+ghost use Rattle.terms.specs.Schema.{schema};
+ghost use Rattle.jobs.specs.Listing.{decimal, space, refusedLine, countsLine, needLetter, effectLetter, paramShown, atomFront, atomLine};
+ghost use Rattle.lines.specs.SheetBits.{ruleBit, modelOn};
+use terms::Move;
+use terms::Relation;
+use terms::Sections;
 
-const STDOUT: i32 = 1;
+// ---- pieces of a line
 
 // Puts bytes behind the first `at` of a line, and answers its new length.
 pub fn put(line: &mut [u8], at: usize, bytes: &[u8]) -> usize
@@ -15,7 +22,7 @@ pub fn put(line: &mut [u8], at: usize, bytes: &[u8]) -> usize
     ensures { λ r. ⌜ (r ≡ at + length (now (bytes .entry))) × Counts r (now (line .exit)) ⌝ }
     ensures { λ r. ⌜ take r (now (line .exit)) ≡ take at (now (line .entry)) ++ now (bytes .entry) ⌝ }
 {
-    rulesheet::write_bytes(line, at, bytes);
+    output::write_bytes(line, at, bytes);
     at + bytes.len()
 }
 
@@ -30,7 +37,20 @@ pub fn put_decimal(line: &mut [u8], at: usize, n: usize) -> usize
     put(line, at, &digits[..count])
 }
 
-pub fn refused_line(number: usize, place: usize, line: &mut [u8; 128]) -> usize
+// A number of at most three digits and a space.
+fn put_number(line: &mut [u8], at: usize, n: usize) -> usize
+    requires { ⌜ (at + 21 ≤ length (now line)) × (n < 1000) ⌝ }
+    ensures { λ r. ⌜ (r ≤ at + 4) × Counts r (now (line .exit)) ⌝ }
+    ensures { λ r. ⌜ take r (now (line .exit)) ≡ take at (now (line .entry)) ++ decimal n ++ space ⌝ }
+{
+    let end = put_decimal(line, at, n);
+    put(line, end, b" ")
+}
+
+// ---- the refused line, and the first line of a listing
+
+pub fn refused_line(number: usize, place: usize, line: &mut [u8]) -> usize
+    requires { ⌜ 128 ≤ length (now line) ⌝ }
     ensures { λ r. ⌜ Counts r (now (line .exit)) × (take r (now (line .exit)) ≡ refusedLine number place) ⌝ }
 {
     let a = put(line, 0, b"refused ");
@@ -40,8 +60,103 @@ pub fn refused_line(number: usize, place: usize, line: &mut [u8; 128]) -> usize
     put(line, d, b"\n")
 }
 
-pub fn print_refused(number: usize, place: usize) {
-    let mut line = [0u8; 128];
-    let end = refused_line(number, place, &mut line);
-    io::write_all(STDOUT, &line[..end]);
+pub fn counts_line(moves: usize, records: usize, steps: usize, line: &mut [u8]) -> usize
+    requires { ⌜ 128 ≤ length (now line) ⌝ }
+    ensures { λ r. ⌜ (r ≤ 128) × (take r (now (line .exit)) ≡ countsLine moves records steps) ⌝ }
+{
+    let a = put(line, 0, b"moves ");
+    let b = put_decimal(line, a, moves);
+    let c = put(line, b, b" records ");
+    let d = put_decimal(line, c, records);
+    let e = put(line, d, b" steps ");
+    let f = put_decimal(line, e, steps);
+    put(line, f, b"\n")
+}
+
+// ---- the line of a bound fact
+
+fn rule_bit(sheet: &[u8], m: Move, k: usize, n: usize) -> bool
+    requires { ⌜ (1 ≤ m .0) × (k < 4) × (n < maxAtoms) ⌝ }
+    ensures { λ r. ⌜ r ≡ ruleBit (now (sheet .entry)) (m .0) k n ⌝ }
+{
+    mask::test_bit(
+        sheet,
+        limits::RULE_BITS * (m.0 as usize - 1) + limits::MAX_ATOMS * k + n,
+    )
+}
+
+// H needed to hold, N not to hold, B both, F neither.
+fn need_letter(sheet: &[u8], m: Move, n: usize) -> u8
+    requires { ⌜ (1 ≤ m .0) × (n < maxAtoms) ⌝ }
+    ensures { λ r. ⌜ r ≡ needLetter (modelOn (now (sheet .entry)) .precondition true (m .0) n) (modelOn (now (sheet .entry)) .precondition false (m .0) n) ⌝ }
+{
+    let unwanted = rule_bit(sheet, m, 1, n);
+    if rule_bit(sheet, m, 0, n) {
+        if unwanted {
+            return b'B';
+        }
+        return b'H';
+    }
+    if unwanted {
+        return b'N';
+    }
+    b'F'
+}
+
+// A added, R removed, K none.
+fn effect_letter(sheet: &[u8], m: Move, n: usize) -> u8
+    requires { ⌜ (1 ≤ m .0) × (n < maxAtoms) ⌝ }
+    ensures { λ r. ⌜ r ≡ effectLetter (modelOn (now (sheet .entry)) .effect true (m .0) n) (modelOn (now (sheet .entry)) .effect false (m .0) n) ⌝ }
+{
+    if rule_bit(sheet, m, 2, n) {
+        return b'A';
+    }
+    if rule_bit(sheet, m, 3, n) {
+        return b'R';
+    }
+    b'K'
+}
+
+// A parameter's number, 0 where the relation has no such place.
+fn param_shown(book: &[u8], h: Sections, r: Relation, i: u8, p: usize) -> usize
+    ensures { λ x. ⌜ (x ≡ paramShown (schema h (now (book .entry))) r i p) × (x ≤ p) ⌝ }
+{
+    if i <= input::byte_at(book, h.relation_at(r)) {
+        return p;
+    }
+    0
+}
+
+// Move, relation and two parameters.
+fn atom_front(book: &[u8], h: Sections, m: Move, n: usize, out: &mut [u8], at: usize) -> usize
+    requires { ⌜ (n < maxAtoms) × (at + 128 ≤ length (now out)) ⌝ }
+    ensures { λ r. ⌜ (r ≤ at + 16) × (take r (now (out .exit)) ≡ take at (now (out .entry)) ++ atomFront (schema h (now (book .entry))) (m .0) n) ⌝ }
+{
+    let r = Relation((n / 16 + 1) as u8);
+    let first = param_shown(book, h, r, 1, n / 4 % 4 + 1);
+    let second = param_shown(book, h, r, 2, n % 4 + 1);
+    let a = put_number(out, at, m.0 as usize);
+    let b = put_number(out, a, r.0 as usize);
+    let c = put_number(out, b, first);
+    put_number(out, c, second)
+}
+
+// The line that a rule sheet gives.
+pub fn atom_line(
+    book: &[u8],
+    h: Sections,
+    sheet: &[u8],
+    m: Move,
+    n: usize,
+    out: &mut [u8],
+    at: usize,
+) -> usize
+    requires { ⌜ (1 ≤ m .0) × (n < maxAtoms) × (at + 128 ≤ length (now out)) ⌝ }
+    ensures { λ r. ⌜ (r ≤ at + 20) × Counts r (now (out .exit)) ⌝ }
+    ensures { λ r. ⌜ take r (now (out .exit)) ≡ take at (now (out .entry)) ++ atomLine (schema h (now (book .entry))) (modelOn (now (sheet .entry))) (m .0) n ⌝ }
+{
+    let need = need_letter(sheet, m, n);
+    let effect = effect_letter(sheet, m, n);
+    let end = atom_front(book, h, m, n, out, at);
+    put(out, end, &[need, b' ', effect, b'\n'])
 }

@@ -1,5 +1,5 @@
 -- What looking over says of a book: what a book of good form is known to have, and bounds of every answer, for packing it.
-use Prim.Native.Nat.{ℕ, _≤_, _<_}
+use Prim.Native.Nat.{ℕ, _≤_}
 use mathlib.Core.Path.{_≡_, refl, _∙_}
 use mathlib.Core.Bool.{Bool, true, false}
 use mathlib.Core.List.{List}
@@ -8,20 +8,19 @@ use native.Mathlib.Omega.{arith}
 use borrow.Author.Tests.{ltb-false}
 use Rattle.answer.specs.declared.Answer.{Answer}
 use Rattle.answer.specs.declared.Answer.the-variants.{Good}
-use Rattle.answer.specs.Answer.{isRefused, number, place}
+use Rattle.answer.specs.Answer.{isRefused}
 use Rattle.answer.specs.Laws.{passed, parted}
 use Rattle.answer.specs.Walk.{walk}
 use Rattle.terms.specs.declared.Sections.{Sections}
 use Rattle.terms.specs.Sections.{sectionsOf}
-use Rattle.format.specs.Limits.{maxLength}
+use Rattle.limits.specs.Limits.{maxLength}
 use Rattle.format.specs.Header.{sections}
 use Rattle.format.specs.Records.{recordAt}
-use Rattle.format.specs.LookOver.{stepTotal, lookOverBy, lookOver}
-use Rattle.sections.proofs.Laws.{SectionsGood, sections-good, sections-place}
-use Rattle.answer.specs.Bounds.{Bounded, bounded-of, bounded-good, bounded-then, bounded-row, bounded-wider, bounded-number, bounded-place}
-use Rattle.records.specs.Parts.{allRecords, look-over-parts}
+use Rattle.format.specs.LookOver.{stepTotal, allRecords, lookOverBy, lookOver}
+use Rattle.format.proofs.Header.{SectionsGood, sections-good, sections-place}
+use Rattle.answer.specs.Bounds.{Bounded, bounded-of, bounded-good, bounded-then, bounded-row, bounded-wider}
 use Rattle.answer.specs.Turns.{part-stays, part-follows, walk-within}
-use Rattle.records.proofs.Laws.{record-within}
+use Rattle.format.proofs.Records.{record-within}
 use Rattle.records.proofs.Bounds.{records-bounded, total-bounded}
 
 -- the records by the header that was read
@@ -30,13 +29,13 @@ records-own h s is n from e = rw is e
 
 module _ (h : Sections) (s : List ℕ) (is : h ≡ sectionsOf s) (a : Answer) (b : Bool) (first : a ≡ sections h s) (told : b ≡ isRefused a) where
   pub look-over-stays : b ≡ true → a ≡ lookOver s
-  unfolding lookOver
-  look-over-stays e = rw (← is, look-over-parts) (part-stays _ _ a b first told e)
+  unfolding lookOver lookOverBy
+  look-over-stays e = rw (← is) (part-stays _ _ a b first told e)
 
   pub look-over-records : b ≡ false → (r : Answer) → r ≡ allRecords h s (h .records .count) (h .records .at) → r ≡ lookOver s
-  unfolding lookOver
+  unfolding lookOver lookOverBy
   look-over-records e r w =
-      rw (← is, look-over-parts)
+      rw (← is)
       (w ∙ part-follows _ (λ _. allRecords h s (h .records .count) (h .records .at)) a b _ first told e refl)
 
 -- a book of good form: rows 1 to 5 are not met, its records end it, and n is the sum of their steps
@@ -46,7 +45,7 @@ pub record LookedOver (s : List ℕ) (n : ℕ) : Type 0 where
   pub total : n ≡ stepTotal s (sectionsOf s .records .count) (sectionsOf s .records .at)
 
 pub look-over-good : (s : List ℕ) (n : ℕ) → lookOver s ≡ Good n → LookedOver s n
-unfolding lookOver lookOverBy
+unfolding lookOver lookOverBy allRecords
 look-over-good s n e =
     let h = sectionsOf s in
     let p = parted _ _ _ e in
@@ -61,7 +60,7 @@ look-over-good s n e =
     record { sections = rw (g .start) at g; records = rw w at (q .1); total = cc }
 
 look-over-by-bounded : (h : Sections) (s : List ℕ) → Bounded 10 maxLength (lookOverBy h s)
-unfolding lookOverBy
+unfolding lookOverBy allRecords
 look-over-by-bounded h s =
     bounded-then 10 maxLength _ _
     (bounded-of 10 maxLength (sections h s)
@@ -80,9 +79,3 @@ look-over-by-bounded h s =
 pub look-over-bounded : (s : List ℕ) → Bounded 10 maxLength (lookOver s)
 unfolding lookOver
 look-over-bounded s = look-over-by-bounded (sectionsOf s) s
-
-pub look-over-number : (s : List ℕ) → number (lookOver s) < 65536
-look-over-number s = let h = bounded-number 10 maxLength _ (look-over-bounded s) in omega arith
-
-pub look-over-place : (s : List ℕ) → place (lookOver s) < 4294967296
-look-over-place s = let h = bounded-place 10 maxLength _ (look-over-bounded s) in omega arith

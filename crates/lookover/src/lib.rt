@@ -1,14 +1,13 @@
 // Looking over a book: rows 1 to 10 of the refusal table, for any bytes; the count of all steps is good.
-// Uses answer, terms, sections and the reader of records, and the definitions of format. The book is read once.
+// Uses answer, terms, sections and the reader of records, and the definitions of format. The records are walked once.
 use answer::Answer;
 use terms::Sections;
 ghost use mathlib.Core.Path.{_≡_};
 ghost use Prim.Native.Nat.{_≤_};
 ghost use lib.ListN.{length};
 ghost use Rattle.terms.specs.Sections.{sectionsOf};
-ghost use Rattle.format.specs.Limits.{maxLength, maxRecords};
-ghost use Rattle.format.specs.LookOver.{lookOver};
-ghost use Rattle.records.specs.Parts.{allRecords};
+ghost use Rattle.limits.specs.Limits.{maxLength, maxRecords};
+ghost use Rattle.format.specs.LookOver.{lookOver, allRecords};
 
 // A number of records, which end the book; the count of all steps is good.
 pub fn records(s: &[u8], n: usize, from: usize) -> Answer

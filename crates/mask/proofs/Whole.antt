@@ -1,17 +1,18 @@
 -- A mask is its elements: two with the same elements are equal, each is the mask of a predicate, and its size is the count of its elements.
--- For proofs that turn a mask in memory into a set, `maskOf`. Uses Laws.antt for the elements of each operation.
-use mathlib.Core.Bool.{Bool, false, not, _&&_, _||_}
+-- For proofs that turn a mask in memory into a set, `maskOf`, whole or one number after the other. Uses Laws.antt for the elements of each operation.
+use mathlib.Core.Bool.{Bool, true, false, cond, not, _&&_, _||_, and-true, and-false, or-true, or-false}
 use mathlib.Core.List.{List, [], _∷_}
 use mathlib.Core.Path.{_≡_, refl, sym, ap, ap₂, _∙_}
 use Prim.Native.Nat.{ℕ, zero, suc, _+_, _*_, _/_, _%_, _<_, _≤_}
 use native.Mathlib.Nat.{zero-add}
-use native.Mathlib.Decide.{decLt}
+use native.Mathlib.Decide.{ℕ-discrete, decLt}
 use native.Mathlib.Omega.{arith}
-use lib.Dec.{eqb}
+use borrow.Author.Tests.{lt-ltb, le-ltb, eq-eqb, ne-eqb}
+use lib.Dec.{eqb, ltb}
 use lib.ListN.{length, getD, List·getD-eq-default}
 use lib.Seq.{ext-getD}
-use Rattle.mask.specs.Bits.{bitOf, testBit, setBit, clearBit, Bytes}
-use Rattle.mask.specs.Sets.{intersection, union, difference, empty, size, countBelow, number, bytesFrom, maskOf}
+use Rattle.mask.specs.Bits.{bitOf, testBit, setBit, clearBit, putBit, Bytes}
+use Rattle.mask.specs.Sets.{bytewise, intersection, union, difference, empty, size, countBelow, number, bytesFrom, maskOf}
 use Rattle.mask.proofs.Laws.{test-empty, length-empty, bytes-empty, test-set-below, length-setBit, bytes-setBit, test-clear, length-clearBit, bytes-clearBit}
 use Rattle.mask.proofs.Laws.{test-intersection, length-intersection, bytes-intersection, test-union-below, length-union, bytes-union, test-difference, length-difference, bytes-difference}
 use Rattle.mask.proofs.Numbers.{bits-ext, number-lt, bit-number, count-same, count-split, ones-bits}
@@ -101,6 +102,20 @@ module _ (len : ℕ) (p : ℕ → Bool) where
       changed (clearBit (maskOf len p) n) (λ j t. t && not (eqb n j)) (length-clearBit (maskOf len p) n) (bytes-clearBit (maskOf len p) n (bytes-maskOf len p))
       (λ j l k. test-clear (maskOf len p) n j)
 
+  -- Whichever value is put, n has it after, and every other number is as it was.
+  pub putBit-maskOf : (value : Bool) (n : ℕ) → putBit value (maskOf len p) n ≡ maskOf len (λ j. cond (eqb n j) value (p j))
+  unfolding putBit
+  putBit-maskOf true n = setBit-maskOf n ∙ maskOf-same len _ _ (λ j l. put (p j) (eqb n j))
+    where
+      put : (x y : Bool) → (x || y) ≡ cond y true x
+      put x true = or-true x
+      put x false = or-false x
+  putBit-maskOf false n = clearBit-maskOf n ∙ maskOf-same len _ _ (λ j l. taken (p j) (eqb n j))
+    where
+      taken : (x y : Bool) → (x && not y) ≡ cond y false x
+      taken x true = and-false x
+      taken x false = and-true x
+
   pub intersection-maskOf : (q : ℕ → Bool) → intersection (maskOf len p) (maskOf len q) ≡ maskOf len (λ n. p n && q n)
   intersection-maskOf q =
       changed (intersection (maskOf len p) (maskOf len q)) (λ n t. t && q n) (length-intersection (maskOf len p) (maskOf len q))
@@ -118,6 +133,52 @@ module _ (len : ℕ) (p : ℕ → Bool) where
       changed (difference (maskOf len p) (maskOf len q)) (λ n t. t && not (q n)) (length-difference (maskOf len p) (maskOf len q))
       (bytes-difference (maskOf len p) (maskOf len q) (bytes-maskOf len p))
       (λ n l k. test-difference (maskOf len p) (maskOf len q) n ∙ ap (λ (t : Bool). testBit (maskOf len p) n && not t) (test-maskOf len q n l))
+
+-- ---- the mask of the numbers below an end, one number after the other
+-- a number other than n is below n + 1 exactly if it is below n
+pub ltb-next : (n j : ℕ) → (n ≡ j → ⊥) → ltb j (n + 1) ≡ ltb j n
+ltb-next n j d = go (decLt j n)
+  where
+    go : Dec (j < n) → ltb j (n + 1) ≡ ltb j n
+    go (yes h) = lt-ltb j (n + 1) (omega arith) ∙ sym (lt-ltb j n h)
+    go (no h) =
+        let k : n + 1 ≤ j = omega arith in
+        le-ltb j (n + 1) k ∙ sym (le-ltb j n (omega arith))
+
+module _ (len : ℕ) (p : ℕ → Bool) where
+  pub below-none : empty len ≡ maskOf len (λ j. ltb j 0 && p j)
+  below-none = empty-maskOf len ∙ maskOf-same len (λ j. false) (λ j. ltb j 0 && p j) (λ j l. rw (le-ltb j 0 (omega arith)))
+
+  pub below-put : (n : ℕ) → p n ≡ true → setBit (maskOf len (λ j. ltb j n && p j)) n ≡ maskOf len (λ j. ltb j (n + 1) && p j)
+  below-put n e = setBit-maskOf len (λ j. ltb j n && p j) n ∙ maskOf-same len _ _ (λ j l. go j (ℕ-discrete n j))
+    where
+      go : (j : ℕ) → Dec (n ≡ j) → (ltb j n && p j || eqb n j) ≡ (ltb j (n + 1) && p j)
+      go j (yes q) = rw (← q, le-ltb n n (omega arith), eq-eqb n n refl, lt-ltb n (n + 1) (omega arith), e)
+      go j (no d) = rw (ne-eqb n j d, or-false, ltb-next n j d)
+
+  -- a later end, where there is none between the two
+  pub below-skip : (n m : ℕ) → n ≤ m → ((j : ℕ) → n ≤ j → j < m → p j ≡ false) → maskOf len (λ j. ltb j n && p j) ≡ maskOf len (λ j. ltb j m && p j)
+  below-skip n m w none = maskOf-same len _ _ (λ j l. go j (decLt j n) (decLt j m))
+    where
+      go : (j : ℕ) → Dec (j < n) → Dec (j < m) → (ltb j n && p j) ≡ (ltb j m && p j)
+      go j (yes h) k = rw (lt-ltb j n h, lt-ltb j m (omega arith))
+      go j (no h) (yes k) = rw (none j (omega arith) k) (and-false (ltb j n) ∙ sym (and-false (ltb j m)))
+      go j (no h) (no k) = rw (le-ltb j n (omega arith), le-ltb j m (omega arith))
+
+  pub below-end : (n : ℕ) → ((j : ℕ) → n ≤ j → j < 8 * len → p j ≡ false) → maskOf len (λ j. ltb j n && p j) ≡ maskOf len p
+  below-end n none = maskOf-same len _ _ (λ j l. go j l (decLt j n))
+    where
+      go : (j : ℕ) → j < 8 * len → Dec (j < n) → (ltb j n && p j) ≡ p j
+      go j l (yes h) = rw (lt-ltb j n h)
+      go j l (no h) = rw (none j (omega arith) l, and-false)
+
+-- ---- a mask laid over the empty one
+pub union-empty : (len : ℕ) (m : List ℕ) → length m ≡ len → union (empty len) m ≡ m
+unfolding union empty bytewise
+union-empty zero [] e = refl
+union-empty zero (x ∷ m) e = absurd (omega arith)
+union-empty (suc len) [] e = absurd (omega arith)
+union-empty (suc len) (x ∷ m) e = ap (λ (l : List ℕ). x ∷ l) (union-empty len m (omega arith))
 
 -- ---- size
 count-head : (x : ℕ) (m : List ℕ) → countBelow 8 (bitOf x) ≡ countBelow 8 (testBit (x ∷ m))

@@ -1,6 +1,6 @@
 -- Byte masks, one bit at a time. A mask is a set of numbers: n is in it if the bit of value 2 ^ (n mod 8) in byte n div 8 is 1.
 -- A byte past the end reads as 0 and a store there changes nothing, so no definition has a condition. Uses lib's lists and bit operations alone.
-use mathlib.Core.Bool.{Bool}
+use mathlib.Core.Bool.{Bool, true, false}
 use mathlib.Core.List.{List}
 use Prim.Native.Nat.{ℕ, _/_, _%_, _^_, _<_}
 use lib.Bits.{bitAnd, bitOr, bitXor}
@@ -26,6 +26,11 @@ setBit m n = set m (n / 8) (bitOr (getD m (n / 8) 0) (2 ^ (n % 8)))
 -- the mask with n taken out
 unfoldable pub clearBit : List ℕ → ℕ → List ℕ
 clearBit m n = set m (n / 8) (without (getD m (n / 8) 0) (2 ^ (n % 8)))
+
+-- the mask with n put in where the value is true, taken out where it is false
+unfoldable pub putBit : Bool → List ℕ → ℕ → List ℕ
+putBit true m n = setBit m n
+putBit false m n = clearBit m n
 
 -- every element of the list is a byte
 abbrev pub Bytes : List ℕ → Type 0

@@ -4,7 +4,7 @@
 ghost use mathlib.Core.Path.{_≡_};
 ghost use Prim.Native.Nat.{_*_, _^_, _<_, _≤_};
 ghost use lib.ListN.{length, getD};
-ghost use Rattle.mask.specs.Bits.{testBit, setBit, clearBit};
+ghost use Rattle.mask.specs.Bits.{testBit, setBit, clearBit, putBit};
 ghost use Rattle.mask.specs.Sets.{intersection, union, difference, empty, size};
 
 // The byte at an index, 0 past the end: no caller has an index to show.
@@ -102,22 +102,6 @@ pub fn has32(m: [u8; 32], n: usize) -> bool
     test_bit(&m, n)
 }
 
-pub fn with_bit32(m: [u8; 32], n: usize) -> [u8; 32]
-    ensures { λ r. ⌜ r ≡ setBit m n ⌝ }
-{
-    let mut t = m;
-    set_bit(&mut t, n);
-    t
-}
-
-pub fn without_bit32(m: [u8; 32], n: usize) -> [u8; 32]
-    ensures { λ r. ⌜ r ≡ clearBit m n ⌝ }
-{
-    let mut t = m;
-    clear_bit(&mut t, n);
-    t
-}
-
 pub fn intersection32(a: [u8; 32], b: [u8; 32]) -> [u8; 32]
     ensures { λ r. ⌜ r ≡ intersection a b ⌝ }
 {
@@ -174,14 +158,13 @@ pub fn mark512(m: &mut [u8; 512], n: usize)
     set_bit(m, n);
 }
 
-pub fn unmark512(m: &mut [u8; 512], n: usize)
-    ensures { λ _. ⌜ now (m .exit) ≡ clearBit (now (m .entry)) n ⌝ }
+// Puts n in where the value is true, and takes it out where it is false.
+pub fn assign512(m: &mut [u8; 512], n: usize, value: bool)
+    ensures { λ _. ⌜ now (m .exit) ≡ putBit value (now (m .entry)) n ⌝ }
 {
+    if value {
+        set_bit(m, n);
+        return;
+    }
     clear_bit(m, n);
-}
-
-pub fn count512(m: &[u8; 512]) -> usize
-    ensures { λ r. ⌜ (r ≡ size (now (m .entry))) × (r ≤ 4096) ⌝ }
-{
-    count(m)
 }

@@ -1,18 +1,18 @@
 -- The learned model as a bound of all consistent ones: of their preconditions it has every one that some has,
 -- of their effects just those that each has.
 use Prim.Native.Nat.{ℕ}
-use mathlib.Core.Path.{_≡_, refl}
+use mathlib.Core.Path.{_≡_}
 use mathlib.Core.Logic.{_↔_}
-use mathlib.Core.Bool.{Bool, true, false, _||_, not}
+use mathlib.Core.Bool.{Bool, true, false, not, or-false}
 use mathlib.Core.List.{List}
 use borrow.Author.Tests.{not-false}
+use Rattle.truth.specs.Bools.{neither}
 use Rattle.model.specs.Domain.{Domain, Transition}
 use Rattle.model.specs.Model.{Model, Consistent}
 use Rattle.model.specs.Learned.{learned}
-use Rattle.model.specs.Check.{conflict}
+use Rattle.model.specs.Check.{inconsistent}
 use Rattle.model.specs.Formed.{Formed}
 use Rattle.model.specs.Stricter.{value}
-use Rattle.model.proofs.Truth.{neither}
 use Rattle.model.proofs.Seen.{turned-out, effect-out}
 use Rattle.model.proofs.Stricter.{made, stricter}
 use Rattle.model.proofs.Impossible.{learned-consistent}
@@ -20,14 +20,10 @@ use Rattle.model.proofs.Impossible.{learned-consistent}
 -- what turns a value is an effect
 pub forced : (M : Model) (a n : ℕ) (b : Bool) → value M a n (not b) ≡ b → M .effect b a n ≡ true
 unfolding value
-forced M a n true e = go (M .effect true a n) e
-  where
-    go : (p : Bool) → (p || false) ≡ true → p ≡ true
-    go true e = refl
-    go false e = e
+forced M a n true e = rw or-false at e
 forced M a n false e = not-false _ (neither (M .effect true a n) (not (M .effect false a n)) e .1)
 
-module _ (D : Domain) (ts : List Transition) (formed : Formed D ts) (clean : conflict D ts ≡ false) (b : Bool) (a n : ℕ) where
+module _ (D : Domain) (ts : List Transition) (formed : Formed D ts) (clean : inconsistent D ts ≡ false) (b : Bool) (a n : ℕ) where
   -- A precondition is learned exactly if some consistent model has it.
   pub precondition-iff-some : (learned D ts .precondition b a n ≡ true) ↔ ((M : Model) × Consistent D ts M × (M .precondition b a n ≡ true))
   precondition-iff-some =

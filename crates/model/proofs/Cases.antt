@@ -11,8 +11,8 @@ use Rattle.model.specs.Quantify.{same, below, any, later, first}
 use Rattle.model.specs.Domain.{Domain, State, Step, Transition, Entry}
 use Rattle.model.specs.Model.{image, stuck, next, run}
 use Rattle.model.specs.Judge.{Verdict, impossible, stops, misses, passes, wrong}
-use Rattle.model.specs.Learned.{saw, before, after, turned, learned, stray, torn}
-use Rattle.model.specs.Check.{reached, judgedRun, planVerdict, conflict, checked}
+use Rattle.model.specs.Learned.{saw, before, after, turned, learned, unboundEffect, conflicting}
+use Rattle.model.specs.Check.{reached, judgedRun, planVerdict, inconsistent, checked}
 
 abbrev hall : Domain
 hall = record { atom = λ a n. eqb a 1 && ltb n 4; atoms = 4; facts = 6; actions = 2 }
@@ -50,7 +50,7 @@ tried ts plan start = checked hall ts plan (state start) at4
 
 -- M2, M3, M5, M6, M7 and M9; then a stop at step 2, row 12 by a fact that was once removed and once left, row 11 by spot 4,
 -- and that a fact which held before and after is no effect
-cases-right :
+small-hall-right :
     (ends (tried (filed ∷ []) (roll23 ∷ roll34 ∷ []) (0 ∷ 4 ∷ 5 ∷ [])) ≡ false ∷ false ∷ true ∷ true ∷ true ∷ false ∷ [])
     × (tried (filed ∷ []) (roll23 ∷ roll34 ∷ []) (0 ∷ 3 ∷ 4 ∷ 5 ∷ []) ≡ stops 1)
     × (tried (filed ∷ []) [] (0 ∷ 4 ∷ 5 ∷ []) ≡ misses 1)
@@ -61,5 +61,5 @@ cases-right :
     × (tried (filed ∷ seen (0 ∷ 4 ∷ []) (0 ∷ 1 ∷ 3 ∷ []) ∷ []) [] [] ≡ impossible)
     × (tried (seen (0 ∷ 4 ∷ []) (1 ∷ 3 ∷ 5 ∷ []) ∷ []) [] [] ≡ impossible)
     × (learned hall (seen (0 ∷ 3 ∷ 4 ∷ []) (1 ∷ 3 ∷ []) ∷ []) .effect true 1 2 ≡ false)
-unfolding tried same below any later first image stuck next run wrong saw before after turned learned stray torn reached judgedRun planVerdict conflict checked
-cases-right = (refl, refl, refl, refl, refl, refl, refl, refl, refl, refl)
+unfolding tried same below any later first image stuck next run wrong saw before after turned learned unboundEffect conflicting reached judgedRun planVerdict inconsistent checked
+small-hall-right = (refl, refl, refl, refl, refl, refl, refl, refl, refl, refl)

@@ -5,15 +5,15 @@ use mathlib.Core.Path.{_≡_, refl, sym, _∙_}
 use mathlib.Core.Logic.{_⊎_, inl, inr, _↔_}
 use mathlib.Core.Bool.{true, false}
 use mathlib.Core.List.{List}
+use Rattle.truth.specs.Bools.{decide, is-true}
 use Rattle.model.specs.Quantify.{has, first}
 use Rattle.model.specs.Domain.{Domain, State, Step, Transition, Entry}
 use Rattle.model.specs.Model.{Model, Valid, Consistent, Run, stopped, ended, run}
 use Rattle.model.specs.Judge.{Verdict, impossible, wrong, MissesAt, Judged}
 use Rattle.model.specs.Learned.{learned}
-use Rattle.model.specs.Check.{reached, judgedRun, planVerdict, conflict, checked}
+use Rattle.model.specs.Check.{reached, judgedRun, planVerdict, inconsistent, checked}
 use Rattle.model.specs.Formed.{Formed, Grounded}
 use Rattle.model.specs.Stricter.{Stricter}
-use Rattle.model.proofs.Truth.{decide, is-true}
 use Rattle.model.proofs.Quantify.{First, first-law}
 use Rattle.model.proofs.Stricter.{stricter}
 use Rattle.model.proofs.Lockstep.{Ahead, lockstep}
@@ -39,18 +39,18 @@ module _ (D : Domain) (P : Model → Type 0) (valid : (M : Model) → P M → Va
               (λ M m j stop. not-both _ j end stop (ahead M m), (L, own, (end, e, law .0)), λ M m j miss. law .1 j (missed M m j miss))
 
 module _ (D : Domain) (ts : List Transition) (plan : List Step) (st : State) (goal : List Entry) where
-  pub checked-conflict : conflict D ts ≡ true → checked D ts plan st goal ≡ impossible
+  pub checked-inconsistent : inconsistent D ts ≡ true → checked D ts plan st goal ≡ impossible
   unfolding checked
-  checked-conflict e = rw (e, checked)
+  checked-inconsistent e = rw (e, checked)
 
-  pub checked-plan : conflict D ts ≡ false → checked D ts plan st goal ≡ judgedRun goal (run D (learned D ts) plan st 1)
+  pub checked-plan : inconsistent D ts ≡ false → checked D ts plan st goal ≡ judgedRun goal (run D (learned D ts) plan st 1)
   unfolding checked planVerdict
   checked-plan e = rw (e, checked)
 
   -- The check says impossible exactly if a row is met, whatever the plan.
-  pub impossible-verdict : (checked D ts plan st goal ≡ impossible) ↔ (conflict D ts ≡ true)
+  pub impossible-verdict : (checked D ts plan st goal ≡ impossible) ↔ (inconsistent D ts ≡ true)
   unfolding judgedRun reached
-  impossible-verdict = (λ e. is-true _ (λ clean. go (run D (learned D ts) plan st 1) (sym (checked-plan clean) ∙ e)), checked-conflict)
+  impossible-verdict = (λ e. is-true _ (λ clean. go (run D (learned D ts) plan st 1) (sym (checked-plan clean) ∙ e)), checked-inconsistent)
     where
       go : (r : Run) → judgedRun goal r ≡ impossible → ⊥
       go (stopped k) e = let z : _≡_ {A = ℕ} 0 1 = cc in omega arith
@@ -63,10 +63,10 @@ module _ (D : Domain) (ts : List Transition) (plan : List Step) (st : State) (go
   module _ (formed : Formed D ts) (grounded : Grounded D plan) where
     -- Demand 3: what the check says is the judge's verdict over all consistent models.
     pub exact : Judged D (Consistent D ts) plan st goal (checked D ts plan st goal)
-    exact = go (decide (conflict D ts))
+    exact = go (decide (inconsistent D ts))
       where
-        go : (conflict D ts ≡ true) ⊎ (conflict D ts ≡ false) → Judged D (Consistent D ts) plan st goal (checked D ts plan st goal)
-        go (inl e) = rw (checked-conflict e) (impossible-iff D ts formed .0 e)
+        go : (inconsistent D ts ≡ true) ⊎ (inconsistent D ts ≡ false) → Judged D (Consistent D ts) plan st goal (checked D ts plan st goal)
+        go (inl e) = rw (checked-inconsistent e) (impossible-iff D ts formed .0 e)
         go (inr e) =
             rw (checked-plan e)
             (exact-run D (Consistent D ts) (λ M c. c .valid) (learned D ts) (learned-consistent D ts formed e) (stricter D ts formed) plan grounded st goal)

@@ -2,22 +2,23 @@
 use Prim.Native.Nat.{ℕ}
 use mathlib.Core.Path.{_≡_, sym, _∙_}
 use mathlib.Core.Logic.{_⊎_, inl, inr, _↔_}
-use mathlib.Core.Bool.{true, false}
+use mathlib.Core.Bool.{true, false, Bool·not-not}
 use mathlib.Core.List.{List}
 use lib.Dec.{leb}
 use borrow.Author.Tests.{leb-true, leb-false}
+use Rattle.truth.specs.Bools.{clash, decide, is-false, is-true}
 use Rattle.model.specs.Quantify.{Mem}
 use Rattle.model.specs.Domain.{Domain, Transition}
 use Rattle.model.specs.Model.{Model, Valid, Fits, Consistent, image, stuck, next}
-use Rattle.model.specs.Learned.{learned, stray, torn}
-use Rattle.model.specs.Check.{conflict}
+use Rattle.model.specs.Learned.{learned, unboundEffect, conflicting}
+use Rattle.model.specs.Check.{inconsistent}
 use Rattle.model.specs.Formed.{Formed}
 use Rattle.model.specs.Stricter.{value}
-use Rattle.model.proofs.Truth.{clash, not-not, decide, is-false, is-true, same-in, same-out}
+use Rattle.model.proofs.Truth.{same-in, same-out}
 use Rattle.model.proofs.Next.{each-fact, next-at, next-off, stuck-out}
 use Rattle.model.proofs.Seen.{sight, before-in, after-in, turned-out, need-out, effect-out}
-use Rattle.model.proofs.Stricter.{Untorn, learned-makes, model-untorn}
-use Rattle.model.proofs.Rows.{stray-in, stray-out, torn-in, torn-out, conflict-out, no-stray, no-torn}
+use Rattle.model.proofs.Stricter.{Unconflicted, learned-makes, model-unconflicted}
+use Rattle.model.proofs.Rows.{unbound-in, unbound-out, conflicting-in, conflicting-out, inconsistent-out, no-unbound, no-conflicting}
 
 -- the learned model stops at no transition that it was learned from
 pub learned-goes : (D : Domain) (ts : List Transition) (t : Transition) → Mem t ts → stuck D (learned D ts) (t .step) (t .pre) ≡ false
@@ -26,20 +27,20 @@ learned-goes D ts t m =
     _
     (λ e.
     let (n, h, p) = stuck-out D (t .step) (learned D ts) (t .pre) e in
-    clash _ (before-in ts _ n _ _ (sight ts t n m)) (rw not-not at (need-out D ts _ _ n p .1)))
+    clash _ (before-in ts _ n _ _ (sight ts t n m)) (rw Bool·not-not at (need-out D ts _ _ n p .1)))
 
 module _ (D : Domain) (ts : List Transition) (formed : Formed D ts) where
   -- A consistent model shows that neither row is met.
-  pub possible : (M : Model) → Consistent D ts M → conflict D ts ≡ false
-  possible M consistent = is-false _ (λ e. go (conflict-out D ts e))
+  pub possible : (M : Model) → Consistent D ts M → inconsistent D ts ≡ false
+  possible M consistent = is-false _ (λ e. go (inconsistent-out D ts e))
     where
-      go : ((t : Transition) × Mem t ts × (stray D t ≡ true)) ⊎ ((a : ℕ) × (torn D ts a ≡ true)) → ⊥
+      go : ((t : Transition) × Mem t ts × (unboundEffect D t ≡ true)) ⊎ ((a : ℕ) × (conflicting D ts a ≡ true)) → ⊥
       go (inl (t, m, h)) =
-          let (f, turns, off) = stray-out D t h in
+          let (f, turns, off) = unbound-out D t h in
           turns (sym (consistent .fits t m .yields f ∙ next-off D (t .step) M (consistent .valid) (t .pre) f off))
-      go (inr (a, h)) = let (n, atom, torn) = torn-out D ts a h in torn (model-untorn D ts formed M consistent a n atom)
+      go (inr (a, h)) = let (n, atom, conflicting) = conflicting-out D ts a h in conflicting (model-unconflicted D ts formed M consistent a n atom)
 
-  module _ (clean : conflict D ts ≡ false) where
+  module _ (clean : inconsistent D ts ≡ false) where
     -- a fact of no atom of the step stays
     pub stays : (t : Transition) → Mem t ts → (f : ℕ) → image D (D .atom (t .step .action)) (t .step) f ≡ false → t .pre f ≡ t .post f
     stays t m f off = go (decide (leb (D .facts) f))
@@ -50,7 +51,7 @@ module _ (D : Domain) (ts : List Transition) (formed : Formed D ts) where
             same-out
             _
             _
-            (is-true _ (λ e. clash _ (stray-in D t f (leb-false (D .facts) f h) (λ q. clash _ (same-in _ _ q) e) off) (no-stray D ts clean t m)))
+            (is-true _ (λ e. clash _ (unbound-in D t f (leb-false (D .facts) f h) (λ q. clash _ (same-in _ _ q) e) off) (no-unbound D ts clean t m)))
 
     -- A valid model fits a transition that it does not stop at, if it makes of the value at each atom what is there after.
     pub fits-from : (M : Model) → Valid D M → (t : Transition) → Mem t ts → stuck D M (t .step) (t .pre) ≡ false
@@ -64,13 +65,13 @@ module _ (D : Domain) (ts : List Transition) (formed : Formed D ts) where
               (λ f off. sym (next-off D (t .step) M valid (t .pre) f off ∙ stays t m f off));
         }
 
-    pub clean-untorn : (a n : ℕ) → D .atom a n ≡ true → Untorn ts a n
-    clean-untorn a n atom y e h =
+    pub clean-unconflicted : (a n : ℕ) → D .atom a n ≡ true → Unconflicted ts a n
+    clean-unconflicted a n atom y e h =
         let s = turned-out ts a n y e in
         let t = s .transition in
         let (low, high) = rw (s .action) at (formed .known t (s .member)) in
         let ranged = formed .proper t (s .member) .ranged n (rw (s .action) atom) in
-        clash _ (torn-in D ts a n ranged atom y e h) (no-torn D ts clean a low high)
+        clash _ (conflicting-in D ts a n ranged atom y e h) (no-conflicting D ts clean a low high)
 
     pub learned-valid : Valid D (learned D ts)
     learned-valid =
@@ -79,7 +80,7 @@ module _ (D : Domain) (ts : List Transition) (formed : Formed D ts) where
           effect-atom = λ b a n e. effect-out D ts b a n e .0;
           exclusive = λ a n e h.
               let (atom, up) = effect-out D ts true a n e in
-              clean-untorn a n atom true up (after-in ts a n true false (turned-out ts a n false (effect-out D ts false a n h .1)));
+              clean-unconflicted a n atom true up (after-in ts a n true false (turned-out ts a n false (effect-out D ts false a n h .1)));
         }
 
     -- Where neither row is met, the learned model is consistent.
@@ -89,10 +90,10 @@ module _ (D : Domain) (ts : List Transition) (formed : Formed D ts) where
           valid = learned-valid;
           fits = λ t m.
               fits-from (learned D ts) learned-valid t m (learned-goes D ts t m)
-              (λ n atom. learned-makes D ts _ n atom (clean-untorn _ n atom) _ _ (sight ts t n m));
+              (λ n atom. learned-makes D ts _ n atom (clean-unconflicted _ n atom) _ _ (sight ts t n m));
         }
 
   -- Row 11 or 12 is met exactly if no model is consistent.
-  pub impossible-iff : conflict D ts ≡ true ↔ ((M : Model) → Consistent D ts M → ⊥)
+  pub impossible-iff : inconsistent D ts ≡ true ↔ ((M : Model) → Consistent D ts M → ⊥)
   impossible-iff =
       (λ e M consistent. clash _ e (possible M consistent), λ none. is-true _ (λ clean. none (learned D ts) (learned-consistent clean)))

@@ -1,17 +1,18 @@
 -- Running under a stricter model: what it carries, the other carries alike; where the other stops, it has stopped before or there.
 -- Nothing here mentions transitions.
-use Prim.Native.Nat.{ℕ, suc, _≤_}
+use Prim.Native.Nat.{ℕ, suc, _+_, _≤_, _<_}
 use native.Mathlib.Omega.{arith}
 use mathlib.Core.Path.{_≡_, refl, sym, _∙_}
 use mathlib.Core.Logic.{_⊎_, inl, inr}
 use mathlib.Core.Bool.{true, false, not}
 use mathlib.Core.List.{List, [], _∷_}
+use lib.ListN.{length}
+use Rattle.truth.specs.Bools.{clash, decide, is-false}
 use Rattle.model.specs.Quantify.{here, there}
 use Rattle.model.specs.Domain.{Domain, State, Step}
 use Rattle.model.specs.Model.{Model, Valid, Run, stopped, ended, image, stuck, next, run}
 use Rattle.model.specs.Formed.{Proper, Grounded}
 use Rattle.model.specs.Stricter.{Stricter}
-use Rattle.model.proofs.Truth.{clash, decide, is-false}
 use Rattle.model.proofs.Next.{each-fact, next-at, next-off, stuck-in, stuck-out}
 
 module _ (D : Domain) (M : Model) (s : Step) (plan : List Step) (st : State) (k : ℕ) where
@@ -23,15 +24,18 @@ module _ (D : Domain) (M : Model) (s : Step) (plan : List Step) (st : State) (k 
   unfolding run
   run-go e = rw (e, run)
 
--- a run stops no earlier than at its first number
-pub run-from : (D : Domain) (M : Model) (plan : List Step) (st : State) (k j : ℕ) → run D M plan st k ≡ stopped j → k ≤ j
+-- a run stops at the number of one of its steps
+pub run-within : (D : Domain) (M : Model) (plan : List Step) (st : State) (k j : ℕ) → run D M plan st k ≡ stopped j
+    → (k ≤ j) × (j < k + length plan)
 unfolding run
-run-from D M [] st k j e = absurd (let z : _≡_ {A = ℕ} 0 1 = cc in omega arith)
-run-from D M (s ∷ plan) st k j e = go (decide (stuck D M s st)) (run-from D M plan (next D M s st) (suc k) j)
+run-within D M [] st k j e = absurd (let z : _≡_ {A = ℕ} 0 1 = cc in omega arith)
+run-within D M (s ∷ plan) st k j e = go (decide (stuck D M s st)) (run-within D M plan (next D M s st) (suc k) j)
   where
-    go : (stuck D M s st ≡ true) ⊎ (stuck D M s st ≡ false) → (run D M plan (next D M s st) (suc k) ≡ stopped j → suc k ≤ j) → k ≤ j
-    go (inl h) rest = let z : k ≡ j = cc (run-stop D M s plan st k h) in omega arith
-    go (inr h) rest = let z : suc k ≤ j = rest (sym (run-go D M s plan st k h) ∙ e) in omega arith
+    go : (stuck D M s st ≡ true) ⊎ (stuck D M s st ≡ false)
+        → (run D M plan (next D M s st) (suc k) ≡ stopped j → (suc k ≤ j) × (j < suc k + length plan))
+        → (k ≤ j) × (j < k + length (s ∷ plan))
+    go (inl h) rest = let z : k ≡ j = cc (run-stop D M s plan st k h) in (omega arith, omega arith)
+    go (inr h) rest = let (low, high) = rest (sym (run-go D M s plan st k h) ∙ e) in (omega arith, omega arith)
 
 -- what the run under a stricter model says of another
 abbrev pub Ahead : Run → Run → Type 0
@@ -68,6 +72,6 @@ module _ (D : Domain) (L M : Model) (strict : Stricter D L M) where
       where
         go : (stuck D L s st ≡ true) ⊎ (stuck D L s st ≡ false) → Ahead (run D L plan (next D L s st) (suc k)) (run D M plan (next D L s st) (suc k))
             → Ahead (run D L (s ∷ plan) st k) (run D M (s ∷ plan) st k)
-        go (inl e) rest = rw (run-stop D L s plan st k e) (λ j. run-from D M (s ∷ plan) st k j)
+        go (inl e) rest = rw (run-stop D L s plan st k e) (λ j h. run-within D M (s ∷ plan) st k j h .0)
         go (inr e) rest =
             rw (run-go D L s plan st k e, run-go D M s plan st k (goes-too s st e), same-next s st (grounded s here) e) rest

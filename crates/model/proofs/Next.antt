@@ -2,14 +2,14 @@
 use Prim.Native.Nat.{ℕ, _<_}
 use mathlib.Core.Path.{_≡_, refl}
 use mathlib.Core.Logic.{_⊎_, inl, inr}
-use mathlib.Core.Bool.{Bool, true, false, not}
+use mathlib.Core.Bool.{Bool, true, false, not, and-true}
 use lib.Dec.{eqb}
 use borrow.Author.Tests.{eqb-true, eq-eqb}
+use Rattle.truth.specs.Bools.{clash, decide, is-false, bool-eq, and-in, and-out}
 use Rattle.model.specs.Domain.{Domain, State, Step}
 use Rattle.model.specs.Model.{Model, Valid, image, stuck, next}
 use Rattle.model.specs.Formed.{Proper}
 use Rattle.model.specs.Stricter.{value}
-use Rattle.model.proofs.Truth.{clash, decide, is-false, bool-eq, and-in, and-out, and-true}
 use Rattle.model.proofs.Quantify.{below-in, below-out}
 
 module _ (D : Domain) (s : Step) where

@@ -8,11 +8,11 @@ use Rattle.model.specs.Quantify.{any}
 use Rattle.model.specs.Domain.{Domain, State, Step, Transition, Entry}
 use Rattle.model.specs.Model.{Model, Consistent, run}
 use Rattle.model.specs.Judge.{Verdict, impossible}
-use Rattle.model.specs.Learned.{learned, stray, torn}
-use Rattle.model.specs.Check.{judgedRun, planVerdict, conflict, checked}
+use Rattle.model.specs.Learned.{learned, unboundEffect, conflicting}
+use Rattle.model.specs.Check.{judgedRun, planVerdict, inconsistent, checked}
 use Rattle.model.specs.Alike.{SameRow, SameMembers}
 use Rattle.model.proofs.Quantify.{any-alike, below-same}
-use Rattle.model.proofs.Row.{row-of-members, precondition-same, effect-same, torn-same}
+use Rattle.model.proofs.Row.{row-of-members, precondition-same, effect-same, conflicting-same}
 
 module _ (D : Domain) (ts us : List Transition) (same : SameMembers ts us) where
   row : (a : ℕ) → SameRow D a ts us
@@ -33,19 +33,19 @@ module _ (D : Domain) (ts us : List Transition) (same : SameMembers ts us) where
       }
 
   -- meet row 12 for the same actions,
-  pub torn-alike : (a : ℕ) → torn D ts a ≡ torn D us a
-  torn-alike a = torn-same D a ts us (row a)
+  pub conflicting-alike : (a : ℕ) → conflicting D ts a ≡ conflicting D us a
+  conflicting-alike a = conflicting-same D a ts us (row a)
 
   -- meet row 11 together,
-  pub stray-alike : any (stray D) ts ≡ any (stray D) us
-  stray-alike = any-alike (stray D) ts us same
+  pub unbound-alike : any (unboundEffect D) ts ≡ any (unboundEffect D) us
+  unbound-alike = any-alike (unboundEffect D) ts us same
 
-  pub conflict-alike : conflict D ts ≡ conflict D us
-  unfolding conflict
-  conflict-alike = rw (stray-alike, below-same (D .actions) (λ a. torn D ts (suc a)) (λ a. torn D us (suc a)) (λ a. torn-alike (suc a)))
+  pub inconsistent-alike : inconsistent D ts ≡ inconsistent D us
+  unfolding inconsistent
+  inconsistent-alike = rw (unbound-alike, below-same (D .actions) (λ a. conflicting D ts (suc a)) (λ a. conflicting D us (suc a)) (λ a. conflicting-alike (suc a)))
 
   -- and check every plan alike.
   pub checked-alike : (plan : List Step) (st : State) (goal : List Entry) → checked D ts plan st goal ≡ checked D us plan st goal
   unfolding checked planVerdict
   checked-alike plan st goal =
-      λ i. elim (conflict-alike i) as (λ c. Verdict) [ true ↦ impossible | false ↦ judgedRun goal (run D (learned-alike i) plan st 1) ]
+      λ i. elim (inconsistent-alike i) as (λ c. Verdict) [ true ↦ impossible | false ↦ judgedRun goal (run D (learned-alike i) plan st 1) ]

@@ -4,11 +4,11 @@ use mathlib.Core.Path.{_≡_, refl, sym, _∙_, ap}
 use mathlib.Core.Logic.{_↔_}
 use mathlib.Core.Bool.{Bool, true, false, _||_, not}
 use mathlib.Core.List.{List, _++_}
+use Rattle.truth.specs.Bools.{bool-eq, guarded}
 use Rattle.model.specs.Quantify.{Mem, here, there}
 use Rattle.model.specs.Domain.{Domain, Transition}
-use Rattle.model.specs.Learned.{saw, before, after, turned, learned, torn}
-use Rattle.model.specs.Alike.{Alike, Shown, SameRow, Renumbered, none, more}
-use Rattle.model.proofs.Truth.{bool-eq, guarded}
+use Rattle.model.specs.Learned.{saw, before, after, turned, learned, conflicting}
+use Rattle.model.specs.Alike.{Alike, EachAlike, SameRow, Renumbered, none, more}
 use Rattle.model.proofs.Quantify.{any-append, below-same}
 use Rattle.model.proofs.Seen.{Sight, saw-in, saw-out}
 
@@ -44,7 +44,7 @@ module _ (D : Domain) where
       record { forth = λ t m e. renumbered-forth h m; back = λ t m e. renumbered-forth (renumbered-sym h) m }
 
   module _ (a : ℕ) where
-    sight-over : (ts us : List Transition) → Shown D a ts us → (n : ℕ) → D .atom a n ≡ true → (x y : Bool) → Sight ts a n x y → Sight us a n x y
+    sight-over : (ts us : List Transition) → EachAlike D a ts us → (n : ℕ) → D .atom a n ≡ true → (x y : Bool) → Sight ts a n x y → Sight us a n x y
     sight-over ts us shown n atom x y s =
         let (u, m, h) = shown (s .transition) (s .member) (s .action) in
         let atom′ = rw (← s .action) at atom in
@@ -87,10 +87,10 @@ module _ (D : Domain) where
       unfolding learned
       effect-same b n = guarded (D .atom a n) _ _ (turned-same b n)
 
-      -- and are torn together.
-      pub torn-same : torn D ts a ≡ torn D us a
-      unfolding torn
-      torn-same =
+      -- and have a conflict together.
+      pub conflicting-same : conflicting D ts a ≡ conflicting D us a
+      unfolding conflicting
+      conflicting-same =
           below-same
           _
           _

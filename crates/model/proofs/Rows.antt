@@ -6,72 +6,74 @@ use mathlib.Core.Logic.{_⊎_, inl, inr, _↔_}
 use mathlib.Core.Bool.{Bool, true, false, _&&_, _||_, not}
 use mathlib.Core.List.{List}
 use lib.Dec.{ltb}
+use borrow.Author.Tests.{not-true}
+use Rattle.truth.specs.Bools.{clash, is-false, and-in, and-out, or-left, or-right, or-out, neither, not-in}
 use Rattle.model.specs.Quantify.{same, below, any, Mem, first, least}
 use Rattle.model.specs.Domain.{Domain, Transition}
 use Rattle.model.specs.Model.{image}
-use Rattle.model.specs.Learned.{after, turned, stray, torn}
-use Rattle.model.specs.Check.{conflict}
-use Rattle.model.proofs.Truth.{clash, is-false, and-in, and-out, or-left, or-right, or-out, neither, not-in, not-out, same-in, same-out}
+use Rattle.model.specs.Learned.{after, turned, unboundEffect, conflicting}
+use Rattle.model.specs.Check.{inconsistent}
+use Rattle.model.proofs.Truth.{same-in, same-out}
 use Rattle.model.proofs.Quantify.{any-in, any-out, below-in, below-out, first-none, least-none, below-least}
-use Rattle.model.proofs.Stricter.{Untorn}
+use Rattle.model.proofs.Stricter.{Unconflicted}
 
 module _ (D : Domain) where
-  pub stray-in : (t : Transition) (f : ℕ) → f < D .facts → (t .pre f ≡ t .post f → ⊥) → image D (D .atom (t .step .action)) (t .step) f ≡ false → stray D t ≡ true
-  unfolding stray
-  stray-in t f h turns off = below-in _ _ f h (and-in _ _ (not-in _ (is-false _ (λ e. turns (same-out _ _ e)))) (not-in _ off))
+  pub unbound-in : (t : Transition) (f : ℕ) → f < D .facts → (t .pre f ≡ t .post f → ⊥) → image D (D .atom (t .step .action)) (t .step) f ≡ false → unboundEffect D t ≡ true
+  unfolding unboundEffect
+  unbound-in t f h turns off = below-in _ _ f h (and-in _ _ (not-in _ (is-false _ (λ e. turns (same-out _ _ e)))) (not-in _ off))
 
-  pub stray-out : (t : Transition) → stray D t ≡ true → (f : ℕ) × (t .pre f ≡ t .post f → ⊥) × (image D (D .atom (t .step .action)) (t .step) f ≡ false)
-  unfolding stray
-  stray-out t e =
+  pub unbound-out : (t : Transition) → unboundEffect D t ≡ true → (f : ℕ) × (t .pre f ≡ t .post f → ⊥) × (image D (D .atom (t .step .action)) (t .step) f ≡ false)
+  unfolding unboundEffect
+  unbound-out t e =
       let (f, h, p) = below-out _ _ e in
       let (l, r) = and-out (not (same (t .pre f) (t .post f))) (not (image D (D .atom (t .step .action)) (t .step) f)) p in
-      (f, λ q. clash _ (same-in _ _ q) (not-out _ l), not-out _ r)
+      (f, λ q. clash _ (same-in _ _ q) (not-true _ l), not-true _ r)
 
   module _ (ts : List Transition) where
-    pub torn-in : (a n : ℕ) → n < D .atoms → D .atom a n ≡ true → (y : Bool) → turned ts y a n ≡ true → after ts (not y) a n ≡ true → torn D ts a ≡ true
-    unfolding torn
-    torn-in a n h atom true e g = below-in _ _ n h (and-in _ _ atom (or-left _ _ (and-in _ _ e g)))
-    torn-in a n h atom false e g = below-in _ _ n h (and-in _ _ atom (or-right (turned ts true a n && after ts false a n) _ (and-in _ _ e g)))
+    pub conflicting-in : (a n : ℕ) → n < D .atoms → D .atom a n ≡ true → (y : Bool) → turned ts y a n ≡ true → after ts (not y) a n ≡ true → conflicting D ts a ≡ true
+    unfolding conflicting
+    conflicting-in a n h atom true e g = below-in _ _ n h (and-in _ _ atom (or-left _ _ (and-in _ _ e g)))
+    conflicting-in a n h atom false e g = below-in _ _ n h (and-in _ _ atom (or-right (turned ts true a n && after ts false a n) _ (and-in _ _ e g)))
 
-    pub torn-out : (a : ℕ) → torn D ts a ≡ true → (n : ℕ) × (D .atom a n ≡ true) × (Untorn ts a n → ⊥)
-    unfolding torn
-    torn-out a e =
+    pub conflicting-out : (a : ℕ) → conflicting D ts a ≡ true → (n : ℕ) × (D .atom a n ≡ true) × (Unconflicted ts a n → ⊥)
+    unfolding conflicting
+    conflicting-out a e =
         let (n, h, p) = below-out _ _ e in
         let (l, r) = and-out (D .atom a n) _ p in
-        (n, l, λ untorn. go n untorn (or-out (turned ts true a n && after ts false a n) (turned ts false a n && after ts true a n) r))
+        (n, l, λ unconflicted. go n unconflicted (or-out (turned ts true a n && after ts false a n) (turned ts false a n && after ts true a n) r))
       where
-        go : (n : ℕ) → Untorn ts a n → ((turned ts true a n && after ts false a n) ≡ true) ⊎ ((turned ts false a n && after ts true a n) ≡ true) → ⊥
-        go n untorn (inl e) = let (l, r) = and-out (turned ts true a n) (after ts false a n) e in untorn true l r
-        go n untorn (inr e) = let (l, r) = and-out (turned ts false a n) (after ts true a n) e in untorn false l r
+        go : (n : ℕ) → Unconflicted ts a n → ((turned ts true a n && after ts false a n) ≡ true) ⊎ ((turned ts false a n && after ts true a n) ≡ true) → ⊥
+        go n unconflicted (inl e) = let (l, r) = and-out (turned ts true a n) (after ts false a n) e in unconflicted true l r
+        go n unconflicted (inr e) = let (l, r) = and-out (turned ts false a n) (after ts true a n) e in unconflicted false l r
 
-    -- some row is met: some member is stray, or some action is torn
-    pub conflict-out : conflict D ts ≡ true → ((t : Transition) × Mem t ts × (stray D t ≡ true)) ⊎ ((a : ℕ) × (torn D ts a ≡ true))
-    unfolding conflict
-    conflict-out e = go (or-out (any (stray D) ts) (below (D .actions) (λ a. torn D ts (suc a))) e)
+    -- some row is met: some member has an unbound effect, or some action a conflict
+    pub inconsistent-out : inconsistent D ts ≡ true → ((t : Transition) × Mem t ts × (unboundEffect D t ≡ true)) ⊎ ((a : ℕ) × (conflicting D ts a ≡ true))
+    unfolding inconsistent
+    inconsistent-out e = go (or-out (any (unboundEffect D) ts) (below (D .actions) (λ a. conflicting D ts (suc a))) e)
       where
-        go : (any (stray D) ts ≡ true) ⊎ (below (D .actions) (λ a. torn D ts (suc a)) ≡ true) → ((t : Transition) × Mem t ts × (stray D t ≡ true)) ⊎ ((a : ℕ) × (torn D ts a ≡ true))
-        go (inl h) = inl (any-out (stray D) ts h)
-        go (inr h) = let (a, l, p) = below-out (D .actions) (λ a. torn D ts (suc a)) h in inr (suc a, p)
+        go : (any (unboundEffect D) ts ≡ true) ⊎ (below (D .actions) (λ a. conflicting D ts (suc a)) ≡ true) → ((t : Transition) × Mem t ts × (unboundEffect D t ≡ true)) ⊎ ((a : ℕ) × (conflicting D ts a ≡ true))
+        go (inl h) = inl (any-out (unboundEffect D) ts h)
+        go (inr h) = let (a, l, p) = below-out (D .actions) (λ a. conflicting D ts (suc a)) h in inr (suc a, p)
 
-    -- no row is met: no member is stray, and no action that the domain counts is torn
-    pub no-stray : conflict D ts ≡ false → (t : Transition) → Mem t ts → stray D t ≡ false
-    unfolding conflict
-    no-stray e t m = is-false _ (λ h. clash _ (or-left _ (below (D .actions) (λ a. torn D ts (suc a))) (any-in (stray D) ts m h)) e)
+    -- no row is met: no member has an unbound effect, and no action that the domain counts a conflict
+    pub no-unbound : inconsistent D ts ≡ false → (t : Transition) → Mem t ts → unboundEffect D t ≡ false
+    unfolding inconsistent
+    no-unbound e t m = is-false _ (λ h. clash _ (or-left _ (below (D .actions) (λ a. conflicting D ts (suc a))) (any-in (unboundEffect D) ts m h)) e)
 
-    pub no-torn : conflict D ts ≡ false → (a : ℕ) → 1 ≤ a → a ≤ D .actions → torn D ts a ≡ false
-    unfolding conflict
-    no-torn e zero h l = absurd (omega arith)
-    no-torn e (suc a) h l = is-false _ (λ p. clash _ (or-right (any (stray D) ts) _ (below-in _ (λ b. torn D ts (suc b)) a l p)) e)
+    pub no-conflicting : inconsistent D ts ≡ false → (a : ℕ) → 1 ≤ a → a ≤ D .actions → conflicting D ts a ≡ false
+    unfolding inconsistent
+    no-conflicting e zero h l = absurd (omega arith)
+    no-conflicting e (suc a) h l = is-false _ (λ p. clash _ (or-right (any (unboundEffect D) ts) _ (below-in _ (λ b. conflicting D ts (suc b)) a l p)) e)
 
     -- A row is met exactly if 11 has a transition or 12 a smallest action.
-    pub conflict-rows : conflict D ts ≡ (any (stray D) ts || ltb 0 (least (D .actions) (torn D ts)))
-    unfolding conflict
-    conflict-rows = rw (below-least (torn D ts) (D .actions))
+    pub inconsistent-rows : inconsistent D ts ≡ (any (unboundEffect D) ts || ltb 0 (least (D .actions) (conflicting D ts)))
+    unfolding inconsistent
+    inconsistent-rows = rw (below-least (conflicting D ts) (D .actions))
 
     -- No row is met exactly if 11 has no first transition and 12 no smallest action: so the two are read off in turn.
-    pub clean-iff : conflict D ts ≡ false ↔ ((first (stray D) ts ≡ 0) × (least (D .actions) (torn D ts) ≡ 0))
-    unfolding conflict
+    pub clean-iff : inconsistent D ts ≡ false ↔ ((first (unboundEffect D) ts ≡ 0) × (least (D .actions) (conflicting D ts) ≡ 0))
+    unfolding inconsistent
     clean-iff = (
-      λ e. let (l, r) = neither (any (stray D) ts) (below (D .actions) (λ a. torn D ts (suc a))) e in (first-none (stray D) ts .1 l, least-none (torn D ts) (D .actions) .1 r),
-      λ e. rw (first-none (stray D) ts .0 (e .0), least-none (torn D ts) (D .actions) .0 (e .1)),
+      λ e. let (l, r) = neither (any (unboundEffect D) ts) (below (D .actions) (λ a. conflicting D ts (suc a))) e in (first-none (unboundEffect D) ts .1 l, least-none (conflicting D ts) (D .actions) .1 r),
+      λ e. rw (first-none (unboundEffect D) ts .0 (e .0), least-none (conflicting D ts) (D .actions) .0 (e .1)),
     )

@@ -4,11 +4,12 @@ use mathlib.Core.Path.{_≡_, refl}
 use mathlib.Core.Bool.{Bool, true, false, not}
 use mathlib.Core.List.{List}
 use lib.Dec.{eqb}
-use borrow.Author.Tests.{eqb-true, eq-eqb}
+use borrow.Author.Tests.{eqb-true, eq-eqb, not-true}
+use Rattle.truth.specs.Bools.{and-in, and-out, not-in}
 use Rattle.model.specs.Quantify.{same, Mem}
 use Rattle.model.specs.Domain.{Domain, Transition}
 use Rattle.model.specs.Learned.{saw, before, after, turned, learned}
-use Rattle.model.proofs.Truth.{and-in, and-out, not-in, not-out, same-in, same-out}
+use Rattle.model.proofs.Truth.{same-in, same-out}
 use Rattle.model.proofs.Quantify.{any-in, any-out}
 
 -- a transition of the action, with the values at the atom's fact before and after it
@@ -69,7 +70,7 @@ module _ (D : Domain) (ts : List Transition) (b : Bool) (a n : ℕ) where
 
   pub need-out : learned D ts .precondition b a n ≡ true → (D .atom a n ≡ true) × (before ts (not b) a n ≡ false)
   unfolding learned
-  need-out e = let (l, r) = and-out (D .atom a n) (not (before ts (not b) a n)) e in (l, not-out _ r)
+  need-out e = let (l, r) = and-out (D .atom a n) (not (before ts (not b) a n)) e in (l, not-true _ r)
 
   pub effect-in : D .atom a n ≡ true → turned ts b a n ≡ true → learned D ts .effect b a n ≡ true
   unfolding learned

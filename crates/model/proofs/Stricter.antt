@@ -1,14 +1,14 @@
 -- The learned model is stricter than each consistent model. That it is consistent itself is not used here.
 use Prim.Native.Nat.{ℕ}
 use mathlib.Core.Path.{_≡_, refl, sym, _∙_}
-use mathlib.Core.Bool.{Bool, true, false, _&&_, _||_, not}
+use mathlib.Core.Bool.{Bool, true, false, _&&_, _||_, not, Bool·not-not}
 use mathlib.Core.List.{List}
+use Rattle.truth.specs.Bools.{clash, not-self, is-false, is-true, or-right}
 use Rattle.model.specs.Domain.{Domain, Transition}
 use Rattle.model.specs.Model.{Model, Consistent}
 use Rattle.model.specs.Learned.{before, after, turned, learned}
 use Rattle.model.specs.Formed.{Formed}
 use Rattle.model.specs.Stricter.{value, Stricter}
-use Rattle.model.proofs.Truth.{clash, not-self, not-not, is-false, is-true, or-right}
 use Rattle.model.proofs.Next.{next-at, stuck-in}
 use Rattle.model.proofs.Seen.{Sight, before-out, after-in, after-out, turned-in, turned-out, need-in}
 
@@ -25,21 +25,21 @@ value-twice M a n b = go (M .effect true a n) (M .effect false a n) b
     go false false false = refl
 
 -- the atom was never seen turned to a value and, after another step, with the other
-abbrev pub Untorn : List Transition → ℕ → ℕ → Type 0
-Untorn ts a n = (y : Bool) → turned ts y a n ≡ true → after ts (not y) a n ≡ true → ⊥
+abbrev pub Unconflicted : List Transition → ℕ → ℕ → Type 0
+Unconflicted ts a n = (y : Bool) → turned ts y a n ≡ true → after ts (not y) a n ≡ true → ⊥
 
 -- so what was seen after a step was never turned to the other value
-pub not-turned : (ts : List Transition) (a n : ℕ) → Untorn ts a n → (x y : Bool) → Sight ts a n x y → turned ts (not y) a n ≡ false
-not-turned ts a n untorn x true s = is-false _ (λ e. untorn false e (after-in ts a n x true s))
-not-turned ts a n untorn x false s = is-false _ (λ e. untorn true e (after-in ts a n x false s))
+pub not-turned : (ts : List Transition) (a n : ℕ) → Unconflicted ts a n → (x y : Bool) → Sight ts a n x y → turned ts (not y) a n ≡ false
+not-turned ts a n unconflicted x true s = is-false _ (λ e. unconflicted false e (after-in ts a n x true s))
+not-turned ts a n unconflicted x false s = is-false _ (λ e. unconflicted true e (after-in ts a n x false s))
 
--- Where an atom is not torn, the learned model makes of a value what was seen of it.
-pub learned-makes : (D : Domain) (ts : List Transition) (a n : ℕ) → D .atom a n ≡ true → Untorn ts a n → (x y : Bool) → Sight ts a n x y → value (learned D ts) a n x ≡ y
+-- Where an atom is in no conflict, the learned model makes of a value what was seen of it.
+pub learned-makes : (D : Domain) (ts : List Transition) (a n : ℕ) → D .atom a n ≡ true → Unconflicted ts a n → (x y : Bool) → Sight ts a n x y → value (learned D ts) a n x ≡ y
 unfolding value learned
-learned-makes D ts a n atom untorn true true s = rw (atom, not-turned ts a n untorn true true s) (or-right (turned ts true a n) true refl)
-learned-makes D ts a n atom untorn true false s = rw (atom, not-turned ts a n untorn true false s, turned-in ts a n false s)
-learned-makes D ts a n atom untorn false true s = rw (atom, turned-in ts a n true s)
-learned-makes D ts a n atom untorn false false s = rw (atom, not-turned ts a n untorn false false s)
+learned-makes D ts a n atom unconflicted true true s = rw (atom, not-turned ts a n unconflicted true true s) (or-right (turned ts true a n) true refl)
+learned-makes D ts a n atom unconflicted true false s = rw (atom, not-turned ts a n unconflicted true false s, turned-in ts a n false s)
+learned-makes D ts a n atom unconflicted false true s = rw (atom, turned-in ts a n true s)
+learned-makes D ts a n atom unconflicted false false s = rw (atom, not-turned ts a n unconflicted false false s)
 
 module _ (D : Domain) (ts : List Transition) (formed : Formed D ts) (M : Model) (consistent : Consistent D ts M) where
   -- a consistent model makes of each value what was seen of it
@@ -49,8 +49,8 @@ module _ (D : Domain) (ts : List Transition) (formed : Formed D ts) (M : Model) 
       let h = next-at D (t .step) M (consistent .valid) (t .pre) (formed .proper t (s .member)) n (rw (s .action) atom) in
       rw (s .action, s .was, s .got) at (sym h ∙ sym (consistent .fits t (s .member) .yields (t .step .ground n)))
 
-  pub model-untorn : (a n : ℕ) → D .atom a n ≡ true → Untorn ts a n
-  model-untorn a n atom y e h =
+  pub model-unconflicted : (a n : ℕ) → D .atom a n ≡ true → Unconflicted ts a n
+  model-unconflicted a n atom y e h =
       let (x, s) = after-out ts a n (not y) h in
       not-self y (sym (made a n atom (not y) y (turned-out ts a n y e)) ∙ rw (made a n atom x (not y) s) at (value-twice M a n x))
 
@@ -58,7 +58,7 @@ module _ (D : Domain) (ts : List Transition) (formed : Formed D ts) (M : Model) 
   pub agree : (a n : ℕ) → D .atom a n ≡ true → (b : Bool) → before ts b a n ≡ true → value M a n b ≡ value (learned D ts) a n b
   agree a n atom b e =
       let (y, s) = before-out ts a n b e in
-      made a n atom b y s ∙ sym (learned-makes D ts a n atom (model-untorn a n atom) b y s)
+      made a n atom b y s ∙ sym (learned-makes D ts a n atom (model-unconflicted a n atom) b y s)
 
   -- what a consistent model needs, was never seen otherwise before the action
   pub never-unmet : (b : Bool) (a n : ℕ) → M .precondition b a n ≡ true → before ts (not b) a n ≡ true → ⊥
@@ -66,12 +66,12 @@ module _ (D : Domain) (ts : List Transition) (formed : Formed D ts) (M : Model) 
       let (y, s) = before-out ts a n (not b) e in
       let t = s .transition in
       let ranged = formed .proper t (s .member) .ranged n (rw (s .action) (consistent .valid .needed-atom b a n h)) in
-      clash _ (stuck-in D (t .step) M (t .pre) n ranged (rw (s .was, not-not, s .action) h)) (consistent .fits t (s .member) .goes)
+      clash _ (stuck-in D (t .step) M (t .pre) n ranged (rw (s .was, Bool·not-not, s .action) h)) (consistent .fits t (s .member) .goes)
 
   -- The learned model is stricter than each consistent one.
   pub stricter : Stricter D (learned D ts) M
   stricter =
       record {
         needs = λ b a n h. need-in D ts b a n (consistent .valid .needed-atom b a n h) (is-false _ (never-unmet b a n h));
-        alike = λ b a n atom h. agree a n atom b (is-true _ (λ e. clash _ (need-in D ts (not b) a n atom (rw not-not e)) h));
+        alike = λ b a n atom h. agree a n atom b (is-true _ (λ e. clash _ (need-in D ts (not b) a n atom (rw Bool·not-not e)) h));
       }

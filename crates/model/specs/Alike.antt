@@ -15,12 +15,12 @@ pub record Alike (D : Domain) (t u : Transition) : Type 0 where
   pub got : (n : ℕ) → D .atom (t .step .action) n ≡ true → t .post (t .step .ground n) ≡ u .post (u .step .ground n)
 
 -- each transition of the action in the one list has one alike in the other, however often and wherever
-abbrev pub Shown : Domain → ℕ → List Transition → List Transition → Type 0
-Shown D a ts us = (t : Transition) → Mem t ts → t .step .action ≡ a → (u : Transition) × Mem u us × Alike D t u
+abbrev pub EachAlike : Domain → ℕ → List Transition → List Transition → Type 0
+EachAlike D a ts us = (t : Transition) → Mem t ts → t .step .action ≡ a → (u : Transition) × Mem u us × Alike D t u
 
 pub record SameRow (D : Domain) (a : ℕ) (ts us : List Transition) : Type 0 where
-  pub forth : Shown D a ts us
-  pub back : Shown D a us ts
+  pub forth : EachAlike D a ts us
+  pub back : EachAlike D a us ts
 
 -- the same transitions, in whatever sequence and number
 abbrev pub SameMembers : List Transition → List Transition → Type 0

@@ -4,9 +4,9 @@ use mathlib.Core.Bool.{Bool, true, false, _||_}
 use mathlib.Core.List.{List}
 use Rattle.model.specs.Quantify.{any, below, first}
 use Rattle.model.specs.Domain.{Domain, State, Step, Transition, Entry}
-use Rattle.model.specs.Model.{Model, Run, stopped, ended, run}
+use Rattle.model.specs.Model.{Run, stopped, ended, run}
 use Rattle.model.specs.Judge.{Verdict, impossible, stops, misses, passes, wrong}
-use Rattle.model.specs.Learned.{learned, stray, torn}
+use Rattle.model.specs.Learned.{learned, unboundEffect, conflicting}
 
 -- the goal at the end state
 unfoldable pub reached : State → ℕ → Verdict
@@ -23,9 +23,9 @@ unfoldable pub planVerdict : Domain → List Transition → List Step → State 
 planVerdict D ts plan st goal = judgedRun goal (run D (learned D ts) plan st 1)
 
 -- rows 11 and 12
-unfoldable pub conflict : Domain → List Transition → Bool
-conflict D ts = any (stray D) ts || below (D .actions) (λ a. torn D ts (suc a))
+unfoldable pub inconsistent : Domain → List Transition → Bool
+inconsistent D ts = any (unboundEffect D) ts || below (D .actions) (λ a. conflicting D ts (suc a))
 
 -- the whole check: impossible by row 11 or 12, else the plan under the learned model
 unfoldable pub checked : Domain → List Transition → List Step → State → List Entry → Verdict
-checked D ts plan st goal = elim (conflict D ts) [ true ↦ impossible | false ↦ planVerdict D ts plan st goal ]
+checked D ts plan st goal = elim (inconsistent D ts) [ true ↦ impossible | false ↦ planVerdict D ts plan st goal ]

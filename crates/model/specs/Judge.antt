@@ -1,11 +1,11 @@
--- The judge: the verdict over every model that he holds. This file cites nothing that is learned.
+-- The judge: the semantics over all models that he holds, as a verdict. This file cites nothing that is learned.
 use Prim.Native.Nat.{ℕ, _≤_}
 use mathlib.Core.Path.{_≡_}
 use mathlib.Core.Bool.{Bool, true, not}
 use mathlib.Core.List.{List}
 use Rattle.model.specs.Quantify.{same, has}
 use Rattle.model.specs.Domain.{Domain, State, Step, Entry}
-use Rattle.model.specs.Model.{Model, Run, stopped, ended, run}
+use Rattle.model.specs.Model.{Model, stopped, ended, run}
 
 pub data Verdict : Type 0 where
   impossible : Verdict

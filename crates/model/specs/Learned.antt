@@ -4,7 +4,7 @@ use mathlib.Core.Bool.{Bool, true, false, _&&_, _||_, not}
 use mathlib.Core.List.{List}
 use lib.Dec.{eqb}
 use Rattle.model.specs.Quantify.{same, below, any}
-use Rattle.model.specs.Domain.{Domain, State, Step, Transition}
+use Rattle.model.specs.Domain.{Domain, Transition}
 use Rattle.model.specs.Model.{Model, image}
 
 -- some transition of the action has, at the atom's fact, values before and after that pass the test
@@ -27,9 +27,9 @@ unfoldable pub learned : Domain → List Transition → Model
 learned D ts = record { precondition = λ b a n. D .atom a n && not (before ts (not b) a n); effect = λ b a n. D .atom a n && turned ts b a n }
 
 -- row 11: a fact changed that is no atom of the step
-unfoldable pub stray : Domain → Transition → Bool
-stray D t = below (D .facts) (λ f. not (same (t .pre f) (t .post f)) && not (image D (D .atom (t .step .action)) (t .step) f))
+unfoldable pub unboundEffect : Domain → Transition → Bool
+unboundEffect D t = below (D .facts) (λ f. not (same (t .pre f) (t .post f)) && not (image D (D .atom (t .step .action)) (t .step) f))
 
 -- row 12: an atom of the action turned to one value, and has the other after another of its steps
-unfoldable pub torn : Domain → List Transition → ℕ → Bool
-torn D ts a = below (D .atoms) (λ n. D .atom a n && ((turned ts true a n && after ts false a n) || (turned ts false a n && after ts true a n)))
+unfoldable pub conflicting : Domain → List Transition → ℕ → Bool
+conflicting D ts a = below (D .atoms) (λ n. D .atom a n && ((turned ts true a n && after ts false a n) || (turned ts false a n && after ts true a n)))

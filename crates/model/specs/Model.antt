@@ -23,7 +23,7 @@ pub record Valid (D : Domain) (M : Model) : Type 0 where
 unfoldable pub image : Domain → (ℕ → Bool) → Step → State
 image D q s f = below (D .atoms) (λ n. q n && eqb (s .ground n) f)
 
--- some precondition is unmet: an atom is needed to be what its fact is not
+-- the step is not applicable: an atom is needed to be what its fact is not
 unfoldable pub stuck : Domain → Model → Step → State → Bool
 stuck D M s st = below (D .atoms) (λ n. M .precondition (not (st (s .ground n))) (s .action) n)
 

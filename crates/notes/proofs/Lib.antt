@@ -1,5 +1,4 @@
--- The proofs of the code, and the laws that they use: Atoms for a fact, Laws for facts in a row, Sets and Start for what is held.
-pub mod Atoms
-pub mod Laws
+-- The proofs of the code, and the laws that they use: Sets for a step's six sets, Steps for what is held after it, Start before any record.
 pub mod Sets
+pub mod Steps
 pub mod Start

@@ -1,5 +1,5 @@
 -- What is held before any record, byte by byte. Uses the laws of masks.
-use Prim.Native.Nat.{ℕ, zero, suc, _+_, _*_, _/_, _%_, _<_, _≤_}
+use Prim.Native.Nat.{ℕ, _+_, _*_, _/_, _%_, _<_, _≤_}
 use mathlib.Core.Path.{_≡_, refl, ap, _∙_}
 use mathlib.Core.Bool.{Bool, true, false, cond, _||_}
 use mathlib.Core.List.{List}
@@ -8,26 +8,15 @@ use native.Mathlib.Omega.{arith}
 use lib.Dec.{eqb, lit<}
 use lib.ListN.{length, getD, set, length-set, List·getD-eq-default}
 use lib.Seq.{getD-set-same, getD-set-other}
+use Rattle.limits.specs.Limits.{heldSize}
 use Rattle.mask.specs.Bits.{bitOf, testBit, Bytes}
-use Rattle.mask.proofs.Numbers.{bit-none}
+use Rattle.mask.proofs.Numbers.{bit-none, bit-all}
 use Rattle.mask.proofs.Whole.{is-maskOf}
-use Rattle.held.specs.Held.{heldSize, nothingSeen}
+use Rattle.held.specs.Held.{nothingSeen}
 use Rattle.notes.specs.Notes.{firstByte}
 
-full-bit : (j : ℕ) → j < 8 → bitOf 255 j ≡ true
-unfolding bitOf
-full-bit zero h = refl
-full-bit (suc zero) h = refl
-full-bit (suc (suc zero)) h = refl
-full-bit (suc (suc (suc zero))) h = refl
-full-bit (suc (suc (suc (suc zero)))) h = refl
-full-bit (suc (suc (suc (suc (suc zero))))) h = refl
-full-bit (suc (suc (suc (suc (suc (suc zero)))))) h = refl
-full-bit (suc (suc (suc (suc (suc (suc (suc zero))))))) h = refl
-full-bit (suc (suc (suc (suc (suc (suc (suc (suc j)))))))) h = absurd (omega arith)
-
 cond-bit : (b : Bool) (j : ℕ) → j < 8 → bitOf (cond b 255 0) j ≡ b
-cond-bit true j h = full-bit j h
+cond-bit true j h = bit-all j h
 cond-bit false j h = bit-none j
 
 cond-byte : (b : Bool) → cond b 255 0 < 256

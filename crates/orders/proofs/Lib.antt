@@ -1,5 +1,2 @@
--- The proofs of the code, and laws: Tests, Turns and Places for this crate's functions, Laws for callers.
+-- The proofs of the code, and Tests, the laws that they use.
 pub mod Tests
-pub mod Turns
-pub mod Places
-pub mod Laws

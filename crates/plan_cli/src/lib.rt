@@ -42,7 +42,7 @@ fn answer_line(a: Answer, line: &mut [u8; 128]) -> usize
 fn plan_line(book: &[u8], order: &[u8], line: &mut [u8; 128]) -> usize
     ensures { λ r. ⌜ Counts r (now (line .exit)) × (take r (now (line .exit)) ≡ planPrinted (now (book .entry)) (now (order .entry))) ⌝ }
 {
-    let mut end = [0u8; 512];
+    let mut end = [0u8; limits::END_SIZE];
     let a = checker::check(book, order, &mut end);
     answer_line(a, line)
 }
@@ -55,8 +55,8 @@ fn print_plan(book: &[u8], order: &[u8]) {
 
 // One byte more than a book may have is read of each file, and no further.
 pub fn run() {
-    let mut book = [0u8; 60001];
-    let mut order = [0u8; 60001];
+    let mut book = [0u8; limits::MAX_LENGTH + 1];
+    let mut order = [0u8; limits::MAX_LENGTH + 1];
     let b = load(b"book", &mut book);
     let o = load(b"order", &mut order);
     print_plan(&book[..b], &order[..o]);

@@ -11,7 +11,7 @@ use Rattle.answer.specs.Answer.{_>>=_, refuse}
 use Rattle.answer.specs.Laws.{refuse-unmet}
 use Rattle.terms.specs.declared.Sections.{Sections}
 use Rattle.terms.specs.Sections.{sectionsOf}
-use Rattle.format.specs.Limits.{maxLength}
+use Rattle.limits.specs.Limits.{maxLength}
 use Rattle.format.specs.Records.{recordAt}
 
 -- where the next record starts, or the first refusal met in this one

@@ -6,8 +6,6 @@ use terms::Sections;
 ghost use mathlib.Core.Path.{_≡_};
 ghost use Rattle.reader.specs.Reader.{recordFrom};
 
-const MAX_LENGTH: usize = 60000;
-
 pub struct Reader<'a> {
     pub src: &'a [u8],
     pub at: usize,
@@ -17,7 +15,7 @@ pub struct Reader<'a> {
 pub fn record_of(s: &[u8], at: usize) -> Answer
     ensures { λ r. ⌜ r ≡ recordFrom (now (s .entry)) at ⌝ }
 {
-    if (MAX_LENGTH < s.len()) | (MAX_LENGTH < at) {
+    if (limits::MAX_LENGTH < s.len()) | (limits::MAX_LENGTH < at) {
         return Answer::Refused(6, at);
     }
     records::record_at(s, Sections::read(s), at)

@@ -6,17 +6,18 @@ use lib.ListN.{length}
 use native.Mathlib.Omega.{arith}
 use borrow.Author.Tests.{ltb-false}
 use Rattle.answer.specs.declared.Answer.the-variants.{Good}
-use Rattle.answer.specs.Laws.{parted, neither}
+use Rattle.truth.specs.Bools.{neither}
+use Rattle.answer.specs.Laws.{parted}
 use Rattle.answer.specs.Walk.{walk}
 use Rattle.terms.specs.declared.Sections.{Sections}
 use Rattle.terms.specs.Schema.{Schema, Hall}
-use Rattle.format.specs.Limits.{headSize, maxSteps}
+use Rattle.limits.specs.Limits.{headSize, maxSteps}
 use Rattle.format.specs.States.{cut}
-use Rattle.format.specs.Records.{lengthIn, object, step, trajectory, body, recordAt}
+use Rattle.format.specs.Records.{lengthIn, object, step, trajectory, body, recordAt, stepRefused, closed}
 use Rattle.format.specs.LookOver.{stepTotal}
 use Rattle.answer.specs.Bounds.{Bounded, bounded-good, bounded-then, bounded-row, bounded-walk, bounded-wider}
-use Rattle.states.proofs.Laws.{state-bounded}
-use Rattle.records.proofs.Laws.{head-limits, record-within, record-steps}
+use Rattle.format.proofs.States.{state-bounded}
+use Rattle.format.proofs.Records.{head-limits, record-within, record-steps}
 
 -- the highest number of rows 6 to 10
 abbrev lastRow : ℕ
@@ -29,7 +30,7 @@ object-bounded kinds s end at h =
 
 module _ (sch : Schema) (hl : Hall) (s : List ℕ) (end : ℕ) where
   step-bounded : (at : ℕ) → at ≤ end → Bounded lastRow end (step sch hl s end at)
-  unfolding step cut
+  unfolding step stepRefused cut
   step-bounded at h =
       bounded-row lastRow end _ _ _ _ (omega arith) h
       (λ e.
@@ -44,7 +45,7 @@ module _ (sch : Schema) (hl : Hall) (s : List ℕ) (end : ℕ) where
 
 module _ (h : Sections) (s : List ℕ) where
   body-bounded : (at end : ℕ) → at + headSize ≤ end → Bounded lastRow end (body h s at end)
-  unfolding body
+  unfolding body closed
   body-bounded at end l =
       bounded-then lastRow end _ _ (bounded-walk lastRow end _ (object-bounded (h .kinds) s end) _ _ l)
       (λ first e i.

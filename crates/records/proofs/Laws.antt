@@ -1,4 +1,5 @@
--- Laws of a record's head and body, of a record, and of all records with the sum of their steps.
+-- A record's head and body, a record, and all records with the sum of their steps, as the code meets them. What format/proofs/Records says of a
+-- good record is here for this crate's callers.
 use Prim.Native.Nat.{ℕ, zero, suc, _+_, _-_, _≤_, _<_}
 use mathlib.Core.Path.{_≡_, refl, sym, _∙_}
 use mathlib.Core.Bool.{Bool, true, false, _||_}
@@ -7,47 +8,28 @@ use lib.ListN.{length}
 use lib.Dec.{ltb}
 use native.Mathlib.Numerals.{sub-one}
 use native.Mathlib.Omega.{arith}
-use borrow.Author.Tests.{ltb-false, lt-ltb, le-ltb}
+use borrow.Author.Tests.{lt-ltb, le-ltb}
 use Rattle.answer.specs.declared.Answer.{Answer}
 use Rattle.answer.specs.declared.Answer.the-variants.{Good, Refused}
 use Rattle.answer.specs.Answer.{isRefused, valueOf}
-use Rattle.answer.specs.Laws.{passed, parted, neither, refuse-met, refuse-unmet, bind-good, bind-refused}
+use Rattle.answer.specs.Laws.{refuse-met, refuse-unmet, bind-good, bind-refused}
 use Rattle.answer.specs.Walk.{walk}
 use Rattle.input.specs.Bytes.{byteAt, two}
 use Rattle.terms.specs.declared.Sections.{Sections}
 use Rattle.terms.specs.Schema.{schema, hall}
-use Rattle.format.specs.Limits.{headSize, maxObjects, maxSteps}
+use Rattle.limits.specs.Limits.{headSize, maxObjects, maxSteps}
 use Rattle.format.specs.States.{cut}
-use Rattle.format.specs.Records.{objectsIn, stepsIn, lengthIn, headBad, object, objectsOf, trajectory, body, recordAt}
-use Rattle.format.specs.LookOver.{stepTotal}
-use Rattle.records.specs.Parts.{closed, allRecords}
+use Rattle.format.specs.Records.{objectsIn, stepsIn, lengthIn, headBad, object, objectsOf, trajectory, body, recordAt, closed}
+use Rattle.format.specs.LookOver.{stepTotal, allRecords}
 use Rattle.answer.specs.Turns.{part-stays, part-follows}
 
-module _ (s : List ℕ) where
-  pub head-bad-by : (at a b n : ℕ)
-      → a ≡ byteAt s at
-      → b ≡ byteAt s (at + 1)
-      → n ≡ two s (at + 2)
-      → (ltb (length s) (at + headSize) || ltb maxObjects a || ltb maxSteps b || ltb n headSize || ltb (length s) (at + n)) ≡ headBad s at
-  unfolding headBad cut objectsIn stepsIn lengthIn
-  head-bad-by at a b n p q r = rw (p, q, r)
-
-  pub head-limits : (at : ℕ)
-      → headBad s at ≡ false
-      → (stepsIn s at ≤ maxSteps) × (headSize ≤ lengthIn s at) × (at + lengthIn s at ≤ length s)
-  unfolding headBad cut
-  head-limits at e =
-      let p = neither _ _ e in
-      let q = neither _ _ (p .0) in
-      let r = neither (ltb (length s) (at + headSize) || ltb maxObjects (objectsIn s at)) _ (q .0) in
-      (ltb-false _ _ (r .1), ltb-false _ _ (q .1), ltb-false _ _ (p .1))
-
-  pub head-objects : (at : ℕ) → headBad s at ≡ false → objectsIn s at ≤ maxObjects
-  unfolding headBad cut
-  head-objects at e =
-      let q = neither _ _ (neither _ _ e .0) in
-      let r = neither (ltb (length s) (at + headSize) || ltb maxObjects (objectsIn s at)) _ (q .0) in
-      ltb-false _ _ (neither (ltb (length s) (at + headSize)) _ (r .0) .1)
+pub head-bad-by : (s : List ℕ) (at a b n : ℕ)
+    → a ≡ byteAt s at
+    → b ≡ byteAt s (at + 1)
+    → n ≡ two s (at + 2)
+    → (ltb (length s) (at + headSize) || ltb maxObjects a || ltb maxSteps b || ltb n headSize || ltb (length s) (at + n)) ≡ headBad s at
+unfolding headBad cut objectsIn stepsIn lengthIn
+head-bad-by s at a b n p q r = rw (p, q, r)
 
 module _ (h : Sections) (s : List ℕ) (at end : ℕ) where
   pub body-stays : (n : ℕ) (a : Answer) (b : Bool)
@@ -102,27 +84,6 @@ module _ (h : Sections) (s : List ℕ) where
       → r ≡ recordAt h s at
   unfolding recordAt lengthIn
   record-body at n b r p e q u = u ∙ rw q (sym (refuse-unmet _ _ _ _ (sym p ∙ e)))
-
-  pub body-end : (at end next : ℕ) → body h s at end ≡ Good next → next ≡ end
-  unfolding body
-  body-end at end next e =
-      let p = parted _ _ _ e in
-      let q = parted _ _ _ (p .2) in
-      let r = passed _ _ _ _ _ (q .2) .1 in
-      cc
-
-  -- a good record ends where its head says, which is within the book
-  pub record-within : (at next : ℕ) → recordAt h s at ≡ Good next → (next ≡ at + lengthIn s at) × (next ≤ length s)
-  unfolding recordAt
-  record-within at next e =
-      let p = passed _ _ _ _ _ e in
-      let q = body-end at _ next (p .1) in
-      let l = head-limits s at (p .0) .2 in
-      (q, omega arith)
-
-  pub record-steps : (at next : ℕ) → recordAt h s at ≡ Good next → stepsIn s at ≤ maxSteps
-  unfolding recordAt
-  record-steps at next e = head-limits s at (passed _ _ _ _ _ e .0) .0
 
   -- the records of a book, by what a loop over them has in hand
   pub all-refused : (n from k p : ℕ) → Refused k p ≡ walk (recordAt h s) n from → Refused k p ≡ allRecords h s n from

@@ -1,4 +1,4 @@
--- A move's row of the sheet, and the sheet, row after row. Uses the sets of held, mask's lengths, and Written.antt.
+-- A move's row of the sheet, and the sheet, row after row. Uses the sets of held, mask's lengths, and output's laws.
 use Prim.Native.Nat.{ℕ, zero, suc, _+_, _-_, _*_, _≤_}
 use native.Mathlib.Omega.{arith}
 use mathlib.Core.Path.{_≡_, refl, sym, _∙_, ap, ap₂}
@@ -10,9 +10,11 @@ use Rattle.mask.proofs.Laws.{length-intersection, length-difference}
 use Rattle.mask.proofs.Whole.{length-maskOf}
 use Rattle.terms.specs.Schema.{Schema}
 use Rattle.terms.specs.Steps.{isAtom}
-use Rattle.held.specs.Rules.{heldSet, atomSet, ruleSet, rulesHeld, sheetHeld}
-use Rattle.rulesheet.specs.Sheet.{ruleSets, row, written}
-use Rattle.rulesheet.proofs.Written.{length-written, written-then, written-whole, written-part}
+use Rattle.atoms.specs.Atoms.{atomSet}
+use Rattle.held.specs.Rules.{heldSet, ruleSet, rulesHeld, sheetHeld}
+use Rattle.output.specs.Written.{written}
+use Rattle.rulesheet.specs.Sheet.{ruleSets, row}
+use Rattle.output.proofs.Written.{length-written, written-then, written-whole, written-part}
 
 -- four runs one after the other
 pub row-by : (d a b c e : List ℕ) {p q r t : List ℕ}
@@ -30,19 +32,15 @@ row-by d a b c e {p} {q} {r} {t} h (f, la) (g, lb) (j, lc) (k, le) =
     k ∙ rw r′ (written-then d 0 (a ++ b ++ c) e 96 (omega arith) (omega arith))
 
 module _ (sch : Schema) (l : List ℕ) where
-  pub rules-by : (a : ℕ) {atoms x₀ x₁ x₄ x₅ pos neg add delete : List ℕ}
+  pub rules-by : (a : ℕ) {atoms pos neg add delete : List ℕ}
       → atoms ≡ atomSet sch a
-      → x₀ ≡ heldSet l a 0
-      → pos ≡ intersection atoms x₀
-      → x₁ ≡ heldSet l a 1
-      → neg ≡ difference atoms x₁
-      → x₄ ≡ heldSet l a 4
-      → add ≡ intersection atoms x₄
-      → x₅ ≡ heldSet l a 5
-      → delete ≡ intersection atoms x₅
+      → pos ≡ intersection atoms (heldSet l a 0)
+      → neg ≡ difference atoms (heldSet l a 1)
+      → add ≡ intersection atoms (heldSet l a 4)
+      → delete ≡ intersection atoms (heldSet l a 5)
       → _≡_ {A = List (List ℕ)} (pos ∷ neg ∷ add ∷ delete ∷ []) (ruleSets sch l a)
   unfolding ruleSets ruleSet
-  rules-by a e f₀ g₀ f₁ g₁ f₄ g₄ f₅ g₅ = rw (g₀, g₁, g₄, g₅, e, f₀, f₁, f₄, f₅)
+  rules-by a e f g j k = rw (f, g, j, k, e)
 
   pub row-rules : (a : ℕ) → row (ruleSets sch l a) ≡ rulesHeld sch l a
   unfolding row ruleSets rulesHeld

@@ -1,24 +1,18 @@
 -- Sets laid over an empty one: how a set that is lent, and a difference, come by value.
-use Prim.Native.Nat.{ℕ, zero, suc, _+_, _-_, _≤_}
+use Prim.Native.Nat.{ℕ, _+_, _-_, _≤_}
 use native.Mathlib.Omega.{arith}
-use mathlib.Core.Path.{_≡_, refl, _∙_, ap}
-use mathlib.Core.List.{List, [], _∷_}
+use mathlib.Core.Path.{_≡_, _∙_, ap}
+use mathlib.Core.List.{List}
 use lib.ListN.{length, take, drop, length-drop}
 use lib.Seq.{length-take-le}
-use Rattle.mask.specs.Sets.{bytewise, union, difference, empty}
+use Rattle.mask.specs.Sets.{union, difference, empty}
 use Rattle.mask.proofs.Laws.{length-difference}
+use Rattle.mask.proofs.Whole.{union-empty}
 use Rattle.held.specs.Held.{setAt}
 use Rattle.held.specs.Rules.{heldSet}
 
-pub union-empty : (len : ℕ) (m : List ℕ) → length m ≡ len → union (empty len) m ≡ m
-unfolding union empty bytewise
-union-empty zero [] e = refl
-union-empty zero (x ∷ m) e = absurd (omega arith)
-union-empty (suc len) [] e = absurd (omega arith)
-union-empty (suc len) (x ∷ m) e = ap (λ (l : List ℕ). x ∷ l) (union-empty len m (omega arith))
-
-pub difference-by : (a b m r : List ℕ) → length a ≡ 32 → m ≡ empty 32 → r ≡ union m (difference a b) → r ≡ difference a b
-difference-by a b m r l e f = f ∙ rw e (union-empty 32 (difference a b) (length-difference a b ∙ l))
+pub difference-by : (a b m x r : List ℕ) → length a ≡ 32 → m ≡ empty 32 → x ≡ b → r ≡ union m (difference a x) → r ≡ difference a b
+difference-by a b m x r l e f g = g ∙ rw (e, f) (union-empty 32 (difference a b) (length-difference a b ∙ l))
 
 pub held-set-by : (l : List ℕ) (a k at end : ℕ) (e r : List ℕ)
     → at ≡ setAt a k

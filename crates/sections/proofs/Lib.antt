@@ -1,4 +1,2 @@
--- The proofs of the code, and laws: Tests and Entries for this crate's functions, Laws for callers too.
+-- The proofs of the code, and Tests, the laws that they use.
 pub mod Tests
-pub mod Entries
-pub mod Laws

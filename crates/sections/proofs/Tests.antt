@@ -12,7 +12,7 @@ use Rattle.answer.specs.Laws.{stays, follows}
 use Rattle.answer.specs.Walk.{walk}
 use Rattle.input.specs.Bytes.{byteAt}
 use Rattle.terms.specs.declared.Sections.{Sections}
-use Rattle.format.specs.Limits.{maxPlaces, maxParams}
+use Rattle.limits.specs.Limits.{maxPlaces, maxParams}
 use Rattle.format.specs.Header.{lengthBad, countsBad, offsetsBad, kindBad, relationBad, moveBad, relation, move, sections}
 
 module _ (s : List ℕ) (kinds at : ℕ) where

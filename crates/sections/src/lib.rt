@@ -1,5 +1,5 @@
 // Rows 1 to 5 of the refusal table: the length, the header's counts and offsets, the relations and the moves of a book.
-// Uses answer, input, terms and the definitions of format; each function is proved equal to the one of its name there.
+// Uses answer, input, limits, terms and the definitions of format; each contract names its definition.
 ghost use mathlib.Core.Path.{_≡_};
 ghost use Prim.Native.Nat.{_≤_};
 ghost use Rattle.answer.specs.Walk.{walk};
@@ -7,42 +7,22 @@ ghost use Rattle.format.specs.Header.{lengthBad, countsBad, offsetsBad, kindBad
 use answer::Answer;
 use terms::Sections;
 
-const HEADER_SIZE: usize = 16;
-
-const MAX_LENGTH: usize = 60000;
-
-const MAX_KINDS: u16 = 8;
-
-const MAX_RELATIONS: u16 = 16;
-
-const MAX_MOVES: u16 = 32;
-
-const MAX_RECORDS: u16 = 64;
-
-const RELATION_SIZE: usize = 4;
-
-const MOVE_SIZE: usize = 6;
-
-const MAX_PLACES: u8 = 2;
-
-const MAX_PARAMS: u8 = 4;
-
 // Row 1.
 fn length_bad(s: &[u8]) -> bool
     ensures { λ r. ⌜ r ≡ lengthBad (now (s .entry)) ⌝ }
 {
     let size = s.len();
-    (size < HEADER_SIZE) | (MAX_LENGTH < size)
+    (size < limits::HEADER_SIZE) | (limits::MAX_LENGTH < size)
 }
 
 // Row 2.
 fn counts_bad(h: Sections) -> bool
     ensures { λ r. ⌜ r ≡ countsBad h ⌝ }
 {
-    (MAX_KINDS < h.kinds)
-        | (MAX_RELATIONS < h.relations.count)
-        | (MAX_MOVES < h.moves.count)
-        | (MAX_RECORDS < h.records.count)
+    (limits::MAX_KINDS < h.kinds)
+        | (limits::MAX_RELATIONS < h.relations.count)
+        | (limits::MAX_MOVES < h.moves.count)
+        | (limits::MAX_RECORDS < h.records.count)
 }
 
 // Row 3: the sections touch, and the records begin at or before the end, which is the length.
@@ -53,9 +33,9 @@ fn offsets_bad(h: Sections, size: usize) -> bool
     let moves = h.moves.at as usize;
     let records = h.records.at as usize;
     let end = h.end as usize;
-    (relations != HEADER_SIZE)
-        | (moves != relations + RELATION_SIZE * h.relations.count as usize)
-        | (records != moves + MOVE_SIZE * h.moves.count as usize)
+    (relations != limits::HEADER_SIZE)
+        | (moves != relations + limits::RELATION_SIZE * h.relations.count as usize)
+        | (records != moves + limits::MOVE_SIZE * h.moves.count as usize)
         | (end != size)
         | (end < records)
 }
@@ -77,7 +57,7 @@ fn relation_bad(s: &[u8], kinds: u16, at: usize) -> bool
     let first = kind_bad(s, kinds, at + 1, 1 <= places);
     let second = kind_bad(s, kinds, at + 2, 2 <= places);
     let last = input::byte_at(s, at + 3);
-    (MAX_PLACES < places) | first | second | (last != 0)
+    (limits::MAX_PLACES < places) | first | second | (last != 0)
 }
 
 // Row 5, of the move at an offset.
@@ -91,7 +71,7 @@ fn move_bad(s: &[u8], kinds: u16, at: usize) -> bool
     let third = kind_bad(s, kinds, at + 3, 3 <= params);
     let fourth = kind_bad(s, kinds, at + 4, 4 <= params);
     let last = input::byte_at(s, at + 5);
-    (MAX_PARAMS < params) | first | second | third | fourth | (last != 0)
+    (limits::MAX_PARAMS < params) | first | second | third | fourth | (last != 0)
 }
 
 // Row 4 of each relation: where the moves start, or the first one that is wrong.
@@ -104,7 +84,7 @@ fn relations(s: &[u8], kinds: u16, n: u16, from: u16) -> Answer
         if relation_bad(s, kinds, at) {
             return Answer::Refused(4, at);
         }
-        at += RELATION_SIZE;
+        at += limits::RELATION_SIZE;
         left -= 1;
     }
     Answer::Good(at)
@@ -120,7 +100,7 @@ fn moves(s: &[u8], kinds: u16, n: u16, from: u16) -> Answer
         if move_bad(s, kinds, at) {
             return Answer::Refused(5, at);
         }
-        at += MOVE_SIZE;
+        at += limits::MOVE_SIZE;
         left -= 1;
     }
     Answer::Good(at)

@@ -1,27 +1,29 @@
 -- A plan over masks comes to what it comes to under the model, and so do rows 19 and 20.
 use Prim.Native.Nat.{ℕ, zero, suc, _≤_}
 use native.Mathlib.Omega.{arith}
-use mathlib.Core.Path.{_≡_, refl, sym, ap, ap₂, subst, subst₂, _∙_}
+use mathlib.Core.Path.{_≡_, refl, sym, ap, subst, subst₂, _∙_}
 use mathlib.Core.Logic.{_⊎_, inl, inr}
 use mathlib.Core.Bool.{Bool, true, false, not}
 use mathlib.Core.List.{List, [], _∷_, map}
+use Rattle.truth.specs.Bools.{decide}
+use Rattle.limits.specs.Limits.{endSize, maxAtoms}
 use Rattle.terms.specs.declared.Fact.{Fact}
 use Rattle.terms.specs.declared.Step.{Step}
 use Rattle.terms.specs.Schema.{Schema}
 use Rattle.terms.specs.Facts.{factNumber}
 use Rattle.format.specs.Order.{GoalEntry}
 use Rattle.mask.specs.Sets.{maskOf}
-use Rattle.model.specs.Quantify.{same, first, later, here, there}
+use Rattle.model.specs.Quantify.{same, first, here, there}
 use Rattle.model.specs.Domain.{Domain, State, Step as GroundAction}
 use Rattle.model.specs.Model.{Model, Valid, Run, stopped, ended, stuck, next, run}
 use Rattle.model.specs.Judge.{wrong}
-use Rattle.model.proofs.Truth.{decide}
+use Rattle.model.proofs.Quantify.{first-map}
 use Rattle.model.proofs.Lockstep.{run-stop, run-go}
 use Rattle.jobs.specs.Planning.{holding, groundAction, goalEntry}
-use Rattle.jobs.specs.Check.{endSize, runAnswer, endSheet}
+use Rattle.jobs.specs.Check.{runAnswer, endSheet}
 use Rattle.held.specs.Rules.{ruleSet}
-use Rattle.statemask.specs.Statemask.{startMask, stepStuck, stepNext, Carried, carry, missed}
-use Rattle.statemask.specs.Carrying.{setNumbers, Under, Ruled, Fitting, Carrying, Agrees, carriedAnswer}
+use Rattle.statemask.specs.Statemask.{startMask, stepStuck, stepNext, Carried, carry, missed, misses}
+use Rattle.statemask.specs.Carrying.{Under, Ruled, Fitting, Carrying, Agrees, carriedAnswer}
 use Rattle.statemask.proofs.Masks.{test-mask, start-mask}
 use Rattle.statemask.proofs.Step.{next-under, stuck-mask, next-mask}
 
@@ -35,7 +37,7 @@ module _ (sch : Schema) (l : List ℕ) (st : Step) (plan : List Step) (m : List 
   carry-go e = rw (e, carry)
 
 module _ (D : Domain) (M : Model) (sch : Schema) (l : List ℕ) where
-  module _ (few : D .atoms ≤ setNumbers) (valid : Valid D M) (s : Step) (fits : Fitting D (groundAction sch s)) (st : State) (under : Under st) where
+  module _ (few : D .atoms ≤ maxAtoms) (valid : Valid D M) (s : Step) (fits : Fitting D (groundAction sch s)) (st : State) (under : Under st) where
     step-stuck : Ruled M (s .action .0) (ruleSet sch l (s .action .0)) → stepStuck sch l s (maskOf endSize st) ≡ stuck D M (groundAction sch s) st
     unfolding stepStuck groundAction
     step-stuck ruled = stuck-mask D M few valid (groundAction sch s) fits (ruleSet sch l (s .action .0)) ruled st under
@@ -78,15 +80,9 @@ module _ (D : Domain) (M : Model) (sch : Schema) (l : List ℕ) where
           (sym (run-go D M t (map (groundAction sch) plan) st k e))
           deeper
 
--- the first of a list mapped, where each member passes as it does mapped
-first-map : {A B : Type 0} (p : A → Bool) (q : B → Bool) (f : A → B) → ((x : A) → p x ≡ q (f x)) → (xs : List A) → first p xs ≡ first q (map f xs)
-unfolding first
-first-map p q f h [] = refl
-first-map p q f h (x ∷ xs) = ap₂ (λ (b : Bool) (k : ℕ). elim b as (λ c. ℕ) [ true ↦ 1 | false ↦ later k ]) (h x) (first-map p q f h xs)
-
 -- The first goal entry that the mask misses is the first that is wrong in the state.
 pub missed-first : (end : State) → Under end → (goal : List GoalEntry) → missed (maskOf endSize end) goal ≡ first (wrong end) (map goalEntry goal)
-unfolding missed wrong goalEntry
+unfolding missed misses wrong goalEntry
 missed-first end under goal =
     first-map _ _ goalEntry (λ e. ap (λ (t : Bool). not (same t (e .wanted))) (test-mask end under (factNumber (e .fact)))) goal
 
@@ -98,21 +94,11 @@ agrees-answer steps goal c (stopped zero) a = absurd (omega arith)
 agrees-answer steps goal c (stopped (suc k)) a = rw (a .0)
 agrees-answer steps goal c (ended end) a = rw (a .0, a .1, missed-first end (a .2) goal)
 
--- Where no step stops, the run ends in the state of the mask,
-pub agrees-ended : (c : Carried) (r : Run) → Agrees c r → c .stop ≡ 0 → (end : State) × (r ≡ ended end) × (c .mask ≡ maskOf endSize end) × Under end
-agrees-ended c (stopped k) a e = absurd (omega arith)
-agrees-ended c (ended end) a e = (end, refl, a .1, a .2)
-
--- and the end sheet is the mask.
+-- Where no step stops, the end sheet is the mask.
 pub agrees-sheet : (c : Carried) (r : Run) → Agrees c r → c .stop ≡ 0 → c .mask ≡ endSheet r
 unfolding endSheet
 agrees-sheet c (stopped k) a e = absurd (omega arith)
 agrees-sheet c (ended end) a e = a .1
-
--- Where a step stops, the run stops at it.
-pub agrees-stopped : (c : Carried) (r : Run) (k : ℕ) → Agrees c r → c .stop ≡ suc k → r ≡ stopped (suc k)
-agrees-stopped c (stopped j) k a e = ap stopped (sym (a .0) ∙ e)
-agrees-stopped c (ended end) k a e = absurd (omega arith)
 
 -- ---- from the start facts
 module _ (D : Domain) (M : Model) (sch : Schema) (l : List ℕ) (plan : List Step) (c : Carrying D M sch l plan) (fs : List Fact) (under : Under (holding fs)) where

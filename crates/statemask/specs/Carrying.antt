@@ -3,6 +3,7 @@ use Prim.Native.Nat.{ℕ, zero, suc, _≤_, _<_}
 use mathlib.Core.Path.{_≡_}
 use mathlib.Core.Bool.{true, false}
 use mathlib.Core.List.{List}
+use Rattle.limits.specs.Limits.{setSize, endSize, maxAtoms, maxFactNumbers}
 use Rattle.answer.specs.declared.Answer.{Answer}
 use Rattle.answer.specs.declared.Answer.the-variants.{Refused}
 use Rattle.terms.specs.declared.Step.{Step}
@@ -13,39 +14,29 @@ use Rattle.model.specs.Quantify.{Mem}
 use Rattle.model.specs.Domain.{Domain, State, Step as GroundAction}
 use Rattle.model.specs.Model.{Model, Valid, Run, stopped, ended}
 use Rattle.jobs.specs.Planning.{groundAction}
-use Rattle.jobs.specs.Check.{endSize, goalAnswer}
+use Rattle.jobs.specs.Check.{goalAnswer}
 use Rattle.held.specs.Rules.{ruleSet}
 use Rattle.statemask.specs.Statemask.{Carried, missed}
 
--- a set of bound facts has 32 bytes, and so 256 numbers; a state has 512 bytes, and so 4,096
-abbrev pub setSize : ℕ
-setSize = 32
-
-abbrev pub setNumbers : ℕ
-setNumbers = 256
-
-abbrev pub maskNumbers : ℕ
-maskNumbers = 4096
-
 -- no fact holds that the mask has no bit for
 abbrev pub Under : State → Type 0
-Under st = (f : ℕ) → maskNumbers ≤ f → st f ≡ false
+Under st = (f : ℕ) → maxFactNumbers ≤ f → st f ≡ false
 
 -- the four sets are the model's for the action
 pub record Ruled (M : Model) (a : ℕ) (R : ℕ → List ℕ) : Type 0 where
-  pub hold : R 0 ≡ maskOf setSize (M .precondition true a)
-  pub bar : R 1 ≡ maskOf setSize (M .precondition false a)
+  pub positive : R 0 ≡ maskOf setSize (M .precondition true a)
+  pub negative : R 1 ≡ maskOf setSize (M .precondition false a)
   pub added : R 2 ≡ maskOf setSize (M .effect true a)
   pub removed : R 3 ≡ maskOf setSize (M .effect false a)
 
 -- the atoms of the step's action are counted by the domain, and become facts that the mask has a bit for
 pub record Fitting (D : Domain) (s : GroundAction) : Type 0 where
   pub ranged : (n : ℕ) → D .atom (s .action) n ≡ true → n < D .atoms
-  pub under : (n : ℕ) → D .atom (s .action) n ≡ true → s .ground n < maskNumbers
+  pub under : (n : ℕ) → D .atom (s .action) n ≡ true → s .ground n < maxFactNumbers
 
 -- what is asked of a plan, its schema and what is held, for a model and its domain
 pub record Carrying (D : Domain) (M : Model) (sch : Schema) (l : List ℕ) (plan : List Step) : Type 0 where
-  pub few : D .atoms ≤ setNumbers
+  pub few : D .atoms ≤ maxAtoms
   pub valid : Valid D M
   pub ruled : (st : Step) → Mem st plan → Ruled M (st .action .0) (ruleSet sch l (st .action .0))
   pub fitting : (st : Step) → Mem st plan → Fitting D (groundAction sch st)

@@ -3,7 +3,8 @@
 use Prim.Native.Nat.{ℕ, zero, suc}
 use mathlib.Core.Bool.{Bool, true, false, cond, _&&_, _||_, not}
 use mathlib.Core.List.{List, [], _∷_}
-use Rattle.mask.specs.Bits.{testBit, setBit, clearBit}
+use Rattle.limits.specs.Limits.{endSize, maxAtoms}
+use Rattle.mask.specs.Bits.{testBit, setBit, putBit}
 use Rattle.mask.specs.Sets.{empty}
 use Rattle.terms.specs.declared.Fact.{Fact}
 use Rattle.terms.specs.declared.Step.{Step}
@@ -20,26 +21,23 @@ withFacts [] m = m
 withFacts (f ∷ fs) m = withFacts fs (setBit m (factNumber f))
 
 unfoldable pub startMask : List Fact → List ℕ
-startMask fs = withFacts fs (empty 512)
+startMask fs = withFacts fs (empty endSize)
 
 -- a need of bound fact n is unmet
 unfoldable pub unmet : (ℕ → List ℕ) → (ℕ → ℕ) → List ℕ → ℕ → Bool
 unmet R g m n = testBit (R 0) n && not (testBit m (g n)) || testBit (R 1) n && testBit m (g n)
 
 unfoldable pub stuckIn : (ℕ → List ℕ) → (ℕ → ℕ) → List ℕ → Bool
-stuckIn R g m = below 256 (unmet R g m)
+stuckIn R g m = below maxAtoms (unmet R g m)
 
--- the removed facts of the bound facts below n cleared, and the added ones set
-unfoldable pub deletes : (ℕ → List ℕ) → (ℕ → ℕ) → List ℕ → ℕ → List ℕ
-deletes R g m zero = m
-deletes R g m (suc n) = cond (testBit (R 3) n) (clearBit (deletes R g m n) (g n)) (deletes R g m n)
+-- The value put at the facts of those bound facts below n that the set has: true adds them, false removes them.
+unfoldable pub effects : Bool → List ℕ → (ℕ → ℕ) → List ℕ → ℕ → List ℕ
+effects value set g m zero = m
+effects value set g m (suc n) = cond (testBit set n) (putBit value (effects value set g m n) (g n)) (effects value set g m n)
 
-unfoldable pub adds : (ℕ → List ℕ) → (ℕ → ℕ) → List ℕ → ℕ → List ℕ
-adds R g m zero = m
-adds R g m (suc n) = cond (testBit (R 2) n) (setBit (adds R g m n) (g n)) (adds R g m n)
-
+-- A fact that is both removed and added holds after the step: the removed ones go first.
 unfoldable pub nextIn : (ℕ → List ℕ) → (ℕ → ℕ) → List ℕ → List ℕ
-nextIn R g m = adds R g (deletes R g m 256) 256
+nextIn R g m = effects true (R 2) g (effects false (R 3) g m maxAtoms) maxAtoms
 
 -- one step by what is held: whether it is stuck, and the mask after it
 unfoldable pub stepStuck : Schema → List ℕ → Step → List ℕ → Bool
@@ -59,6 +57,10 @@ carry sch l (st ∷ plan) m k =
     elim (stepStuck sch l st m)
     [ true ↦ record { stop = k; mask = m } | false ↦ carry sch l plan (stepNext sch l st m) (suc k) ]
 
+-- a goal entry that the mask misses
+unfoldable pub misses : List ℕ → GoalEntry → Bool
+misses m e = not (same (testBit m (factNumber (e .fact))) (e .wanted))
+
 -- the number, from 1, of the first goal entry that the mask misses, 0 where it misses none
 unfoldable pub missed : List ℕ → List GoalEntry → ℕ
-missed m goal = first (λ e. not (same (testBit m (factNumber (e .fact))) (e .wanted))) goal
+missed m goal = first (misses m) goal

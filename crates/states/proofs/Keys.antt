@@ -1,45 +1,27 @@
--- Facts by key: one turn of the loop, and that a table which is right makes them the facts of format, since keys of bytes are in the facts' order.
-use Prim.Native.Nat.{ℕ, zero, suc, _+_, _-_, _*_, _≤_, _<_}
+-- Facts by key: that they are entries in order, and that a table which is right makes them the facts of format, since keys of bytes are in the facts' order.
+use Prim.Native.Nat.{ℕ, zero, suc, _+_, _*_, _≤_, _<_}
 use mathlib.Core.Path.{_≡_, refl}
 use mathlib.Core.Bool.{Bool, true, false, _&&_, _||_, not}
 use mathlib.Core.List.{List}
 use lib.Dec.{ltb, leb, eqb}
 use lib.ListN.{getD}
-use native.Mathlib.Numerals.{sub-one}
 use native.Mathlib.Omega.{arith}
 use borrow.Author.Tests.{ltb-true, ltb-false, eqb-true, eqb-false, lt-ltb, le-ltb, le-leb, lt-leb}
-use Rattle.answer.specs.declared.Answer.the-variants.{Good, Refused}
-use Rattle.answer.specs.Laws.{neither, refuse-met, refuse-unmet}
+use Rattle.truth.specs.Bools.{neither}
 use Rattle.input.specs.Bytes.{byteAt}
 use Rattle.terms.specs.declared.Fact.{Fact}
 use Rattle.terms.specs.Schema.{Schema, Hall}
 use Rattle.terms.specs.Facts.{factAt, precedes, noFact}
-use Rattle.format.specs.Limits.{factSize}
+use Rattle.limits.specs.Limits.{factSize}
 use Rattle.format.specs.States.{cut, factRefused, facts}
+use Rattle.format.proofs.Chains.{Chain}
 use Rattle.tables.specs.Tables.{tableBad, Tabled}
 use Rattle.states.specs.Keyed.{factKey, keyRefused, keyed}
 
-module _ (num : ℕ) (table s : List ℕ) (end : ℕ) where
-  pub keyed-none : (n key at : ℕ) → n ≡ 0 → keyed num table s end n key at ≡ Good at
-  unfolding keyed
-  keyed-none n key at e = rw e
-
-  pub keyed-refused : (n key at : ℕ) → 0 < n → keyRefused table s end key at ≡ true → keyed num table s end n key at ≡ Refused num at
-  unfolding keyed
-  keyed-refused zero key at h e = absurd (omega arith)
-  keyed-refused (suc n) key at h e = refuse-met _ _ _ _ e
-
-  pub keyed-good : (n key at : ℕ)
-      → 0 < n
-      → keyRefused table s end key at ≡ false
-      → keyed num table s end n key at ≡ keyed num table s end (n - 1) (factKey (factAt s at)) (at + factSize)
-  unfolding keyed
-  keyed-good zero key at h e = absurd (omega arith)
-  keyed-good (suc n) key at h e = rw sub-one (refuse-unmet _ _ _ _ e)
-
-  -- equal cursors have equal answers
-  pub keyed-same : (n m k l a b : ℕ) → a ≡ b → n ≡ m → k ≡ l → keyed num table s end n k a ≡ keyed num table s end m l b
-  keyed-same n m k l a b p q r = rw (p, q, r)
+-- facts by key are entries in order
+pub keyed-chain : (num : ℕ) (table s : List ℕ) (end : ℕ) → Chain (keyed num table s end) (keyRefused table s end) (λ at. factKey (factAt s at)) num factSize
+unfolding keyed
+keyed-chain num table s end = record { none = λ key at. refl; more = λ n key at. refl }
 
 module _ (table s : List ℕ) (end : ℕ) where
   -- a fact that is not refused ends within
@@ -65,36 +47,22 @@ module _ (table s : List ℕ) (end : ℕ) where
 unfoldable pub Small : Fact → Type 0
 Small f = (f .relation .0 < 256) × (f .first .0 < 256) × (f .second .0 < 256)
 
+abbrev key : ℕ → ℕ → ℕ → ℕ
+key r x y = r * 65536 + x * 256 + y
+
 ordered : (r x y r′ x′ y′ : ℕ) (a b c d e : Bool)
     → x < 256 → y < 256 → x′ < 256 → y′ < 256
     → ltb r r′ ≡ a → eqb r r′ ≡ b → ltb x x′ ≡ c → eqb x x′ ≡ d → ltb y y′ ≡ e
-    → leb (r′ * 65536 + x′ * 256 + y′) (r * 65536 + x * 256 + y) ≡ not (a || b && (c || d && e))
-ordered r x y r′ x′ y′ true b c d e h i j k p q u v w =
-    let l = ltb-true r r′ p in
-    lt-leb (r′ * 65536 + x′ * 256 + y′) (r * 65536 + x * 256 + y) (omega arith)
-ordered r x y r′ x′ y′ false false c d e h i j k p q u v w =
-    let l = ltb-false r r′ p in
-    let m : r ≡ r′ → ⊥ = eqb-false r r′ q in
-    le-leb (r′ * 65536 + x′ * 256 + y′) (r * 65536 + x * 256 + y) (omega arith)
-ordered r x y r′ x′ y′ false true true d e h i j k p q u v w =
-    let l = eqb-true r r′ q in
-    let m = ltb-true x x′ u in
-    lt-leb (r′ * 65536 + x′ * 256 + y′) (r * 65536 + x * 256 + y) (omega arith)
+    → leb (key r′ x′ y′) (key r x y) ≡ not (a || b && (c || d && e))
+ordered r x y r′ x′ y′ true b c d e h i j k p q u v w = lt-leb (key r′ x′ y′) (key r x y) (omega (arith, ltb-true r r′ p))
+ordered r x y r′ x′ y′ false false c d e h i j k p q u v w = le-leb (key r′ x′ y′) (key r x y) (omega (arith, ltb-false r r′ p, eqb-false r r′ q))
+ordered r x y r′ x′ y′ false true true d e h i j k p q u v w = lt-leb (key r′ x′ y′) (key r x y) (omega (arith, eqb-true r r′ q, ltb-true x x′ u))
 ordered r x y r′ x′ y′ false true false false e h i j k p q u v w =
-    let l = eqb-true r r′ q in
-    let m = ltb-false x x′ u in
-    let n : x ≡ x′ → ⊥ = eqb-false x x′ v in
-    le-leb (r′ * 65536 + x′ * 256 + y′) (r * 65536 + x * 256 + y) (omega arith)
+    le-leb (key r′ x′ y′) (key r x y) (omega (arith, eqb-true r r′ q, ltb-false x x′ u, eqb-false x x′ v))
 ordered r x y r′ x′ y′ false true false true true h i j k p q u v w =
-    let l = eqb-true r r′ q in
-    let m = eqb-true x x′ v in
-    let n = ltb-true y y′ w in
-    lt-leb (r′ * 65536 + x′ * 256 + y′) (r * 65536 + x * 256 + y) (omega arith)
+    lt-leb (key r′ x′ y′) (key r x y) (omega (arith, eqb-true r r′ q, eqb-true x x′ v, ltb-true y y′ w))
 ordered r x y r′ x′ y′ false true false true false h i j k p q u v w =
-    let l = eqb-true r r′ q in
-    let m = eqb-true x x′ v in
-    let n = ltb-false y y′ w in
-    le-leb (r′ * 65536 + x′ * 256 + y′) (r * 65536 + x * 256 + y) (omega arith)
+    le-leb (key r′ x′ y′) (key r x y) (omega (arith, eqb-true r r′ q, eqb-true x x′ v, ltb-false y y′ w))
 
 key-order : (f g : Fact) → Small f → Small g → leb (factKey g) (factKey f) ≡ not (precedes f g)
 unfolding Small factKey precedes

@@ -8,7 +8,7 @@ use Rattle.answer.specs.declared.Answer.the-variants.{Good}
 use Rattle.answer.specs.Answer.{_>>=_, refuse}
 use Rattle.terms.specs.declared.Fact.{Fact}
 use Rattle.terms.specs.Facts.{factAt}
-use Rattle.format.specs.Limits.{factSize}
+use Rattle.limits.specs.Limits.{factSize}
 use Rattle.format.specs.States.{cut}
 use Rattle.tables.specs.Tables.{tableBad}
 

@@ -1,6 +1,6 @@
 // Row 8 of the refusal table: the facts of a state, in order, by a cursor that carries the key of the fact before. What suits is told by a
 // table of the record or order, so that both are looked at by the same functions.
-// Uses answer, input, terms, tables, and the definitions of format.
+// Uses answer, limits, terms, tables, and the definitions of input and format.
 use answer::Answer;
 use terms::Fact;
 use terms::Object;
@@ -8,21 +8,16 @@ use terms::Relation;
 ghost use mathlib.Core.Path.{_≡_};
 ghost use Prim.Native.Nat.{_+_, _-_, _*_, _≤_, _<_};
 ghost use lib.ListN.{length};
+ghost use Rattle.limits.specs.Limits.{countSize, maxFacts, factSize};
 ghost use Rattle.input.specs.Bytes.{two};
 ghost use Rattle.terms.specs.Facts.{factAt, noFact};
 ghost use Rattle.format.specs.States.{countBad, facts, state};
 ghost use Rattle.tables.specs.Tables.{ForTabled};
 ghost use Rattle.states.specs.Keyed.{factKey, keyRefused, keyed};
 
-const MAX_FACTS: u16 = 256;
-
-const COUNT_SIZE: usize = 2;
-
-const FACT_SIZE: usize = 3;
-
 // A fact that is not cut.
 fn read(t: &[u8], at: usize) -> Fact
-    requires { ⌜ (at ≤ 200000) × (at + 3 ≤ length (now t)) ⌝ }
+    requires { ⌜ (at ≤ 200000) × (at + factSize ≤ length (now t)) ⌝ }
     ensures { λ r. ⌜ r ≡ factAt (now (t .entry)) at ⌝ }
 {
     Fact {
@@ -61,7 +56,7 @@ impl FactCursor {
         requires { ⌜ (end ≤ length (now t)) × (self .at ≤ 200000) ⌝ }
         ensures { λ r. ⌜ r ≡ keyRefused (now (table .entry)) (now (t .entry)) end (self .last) (self .at) ⌝ }
     {
-        if end < self.at + FACT_SIZE {
+        if end < self.at + limits::FACT_SIZE {
             return true;
         }
         let f = read(t, self.at);
@@ -69,11 +64,11 @@ impl FactCursor {
     }
 
     fn next(self, t: &[u8]) -> FactCursor
-        requires { ⌜ (self .at ≤ 200000) × (self .at + 3 ≤ length (now t)) × (0 < self .left) ⌝ }
-        ensures { λ r. ⌜ (r .at ≡ self .at + 3) × (r .left ≡ self .left - 1) × (r .last ≡ factKey (factAt (now (t .entry)) (self .at))) ⌝ }
+        requires { ⌜ (self .at ≤ 200000) × (self .at + factSize ≤ length (now t)) × (0 < self .left) ⌝ }
+        ensures { λ r. ⌜ (r .at ≡ self .at + factSize) × (r .left ≡ self .left - 1) × (r .last ≡ factKey (factAt (now (t .entry)) (self .at))) ⌝ }
     {
         FactCursor {
-            at: self.at + FACT_SIZE,
+            at: self.at + limits::FACT_SIZE,
             left: self.left - 1,
             last: key(read(t, self.at)),
         }
@@ -81,7 +76,7 @@ impl FactCursor {
 }
 
 fn keyed(number: usize, t: &[u8], table: &[u32; 512], end: usize, n: usize, from: usize) -> Answer
-    requires { ⌜ (end ≤ length (now t)) × (from ≤ 100010) × (n ≤ 256) ⌝ }
+    requires { ⌜ (end ≤ length (now t)) × (from ≤ 100010) × (n ≤ maxFacts) ⌝ }
     ensures { λ r. ⌜ r ≡ keyed number (now (table .entry)) (now (t .entry)) end n 0 from ⌝ }
 {
     let mut c = FactCursor::new(n, from);
@@ -103,7 +98,7 @@ pub fn facts(
     n: usize,
     from: usize,
 ) -> Answer
-    requires { ⌜ (end ≤ length (now t)) × (from ≤ 100010) × (n ≤ 256) ⌝ }
+    requires { ⌜ (end ≤ length (now t)) × (from ≤ 100010) × (n ≤ maxFacts) ⌝ }
     ensures { λ r. ⌜ ForTabled (now (table .entry)) (λ sch hl. r ≡ facts number sch hl (now (t .entry)) end n noFact from) ⌝ }
 {
     keyed(number, t, table, end, n, from)
@@ -117,7 +112,7 @@ fn joined(high: u8, low: u8) -> u16
 
 // A count that is not cut.
 fn count(s: &[u8], at: usize) -> u16
-    requires { ⌜ (at ≤ 100000) × (at + 2 ≤ length (now s)) ⌝ }
+    requires { ⌜ (at ≤ 100000) × (at + countSize ≤ length (now s)) ⌝ }
     ensures { λ r. ⌜ r ≡ two (now (s .entry)) at ⌝ }
 {
     joined(s[at], s[at + 1])
@@ -127,10 +122,10 @@ fn count_bad(s: &[u8], end: usize, at: usize) -> bool
     requires { ⌜ (end ≤ length (now s)) × (at ≤ 100000) ⌝ }
     ensures { λ r. ⌜ r ≡ countBad (now (s .entry)) end at ⌝ }
 {
-    if end < at + COUNT_SIZE {
+    if end < at + limits::COUNT_SIZE {
         return true;
     }
-    MAX_FACTS < count(s, at)
+    limits::MAX_FACTS < count(s, at)
 }
 
 // Row 8.
@@ -141,5 +136,12 @@ pub fn state(book: &[u8], table: &[u32; 512], end: usize, at: usize) -> Answer
     if count_bad(book, end, at) {
         return Answer::Refused(8, at);
     }
-    facts(8, book, table, end, count(book, at) as usize, at + 2)
+    facts(
+        8,
+        book,
+        table,
+        end,
+        count(book, at) as usize,
+        at + limits::COUNT_SIZE,
+    )
 }

@@ -1,17 +1,20 @@
--- What a whole table says: that the table by kind tells which objects suit, and the table by relation which facts are wrong.
+-- What a whole table says: that the table by kind tells which objects suit and which steps are wrong, and the table by relation which facts are.
 use Prim.Native.Nat.{ℕ, _+_, _<_, _≤_}
 use mathlib.Core.Path.{_≡_, refl, sym, ap, _∙_}
-use mathlib.Core.Bool.{Bool, true, false, cond, _&&_, _||_, not, or-false}
+use mathlib.Core.Bool.{Bool, true, false, cond, _&&_, _||_, not, or-false, Bool·not-not}
 use mathlib.Core.List.{List}
 use native.Mathlib.Omega.{arith}
 use borrow.Author.Tests.{le-leb, lt-leb, ltb-true, leb-true, ltb-false, leb-false}
 use lib.Dec.{eqb, ltb, leb}
+use Rattle.truth.specs.Bools.{clash, and-out}
 use Rattle.input.specs.Bytes.{byteAt}
 use Rattle.terms.specs.declared.Sections.{Sections}
 use Rattle.terms.specs.declared.Object.{Object}
 use Rattle.terms.specs.declared.Relation.{Relation}
-use Rattle.terms.specs.Schema.{Schema, Hall, schema, relationAt, numberBad, kindSuits, objectBad}
+use Rattle.terms.specs.declared.Step.{Step}
+use Rattle.terms.specs.Schema.{Schema, Hall, schema, relationAt, moveAt, numberBad, kindSuits, objectBad}
 use Rattle.terms.specs.Facts.{factBad}
+use Rattle.terms.specs.Steps.{objectOf, argumentBad, stepBad}
 use Rattle.tables.specs.Tables.{member, entry, Kinds, kindsBad, placeSet, tableBad, Tabled, Follows}
 use Rattle.tables.proofs.Turns.{member-none, member-one, below-all, KindsTo, RowsTo}
 
@@ -42,19 +45,15 @@ module _ (sch : Schema) (hl : Hall) (ks : List ℕ) (right : Kinds hl ks) where
   unfolding Kinds kindSuits
   object-in named x = right named x ∙ suits (numberBad (hl .count) (x .0)) (eqb (hl .kind x) named)
 
-  not-twice : (b : Bool) → not (not b) ≡ b
-  not-twice true = refl
-  not-twice false = refl
-
-  pub kinds-bad : (used : Bool) (named : ℕ) (x : Object) → kindsBad ks used named x ≡ objectBad sch hl used named x
+  kinds-bad : (used : Bool) (named : ℕ) (x : Object) → kindsBad ks used named x ≡ objectBad sch hl used named x
   unfolding kindsBad objectBad
-  kinds-bad used named x = rw (object-in named x, not-twice (numberBad (hl .count) (x .0) || not (kindSuits sch named (hl .kind x)))) refl
+  kinds-bad used named x = rw (object-in named x, Bool·not-not (numberBad (hl .count) (x .0) || not (kindSuits sch named (hl .kind x)))) refl
 
   place-in : (used : Bool) (named : ℕ) (x : Object) → member (cond used (entry ks named) 1) (x .0) ≡ not (objectBad sch hl used named x)
   unfolding objectBad
   place-in true named x =
       rw (or-false (numberBad (hl .count) (x .0) || not (kindSuits sch named (hl .kind x)))) (object-in named x)
-  place-in false named x = member-one (x .0) ∙ sym (not-twice (eqb (x .0) 0))
+  place-in false named x = member-one (x .0) ∙ sym (Bool·not-not (eqb (x .0) 0))
 
   pub place-set-in : (r : Relation) (i : ℕ) (x : Object)
       → member (placeSet sch ks r i) (x .0) ≡ not (objectBad sch hl (leb i (sch .places r)) (sch .placeKind r i) x)
@@ -83,16 +82,11 @@ module _ (sch : Schema) (hl : Hall) (ks : List ℕ) (right : Kinds hl ks) where
       (either (numberBad (sch .relations) r) _ _ _ _ _ _ (place-set-in (f .relation) 1 (f .first)) (place-set-in (f .relation) 2 (f .second)))
 
 -- a walk over the relations goes on, and ends behind the last of them that is a byte
-goes-on-by : (count n : ℕ) (a b : Bool) → leb n count ≡ a → ltb n 256 ≡ b → (a && b) ≡ true → (n ≤ count) × (n < 256)
-goes-on-by count n true true e f g = (leb-true n count e, ltb-true n 256 f)
-goes-on-by count n true false e f g = absurd (let z : _≡_ {A = ℕ} 0 1 = cc in omega arith)
-goes-on-by count n false b e f g = absurd (let z : _≡_ {A = ℕ} 0 1 = cc in omega arith)
-
 pub goes-on : (count n : ℕ) → (leb n count && ltb n 256) ≡ true → (n ≤ count) × (n < 256)
-goes-on count n g = goes-on-by count n _ _ refl refl g
+goes-on count n g = let (l, k) = and-out _ _ g in (leb-true n count l, ltb-true n 256 k)
 
 walked : (count n : ℕ) (a b : Bool) → leb n count ≡ a → ltb n 256 ≡ b → (a && b) ≡ false → (x : ℕ) → x < 256 → x ≤ count → x < n
-walked count n true true e f g x h l = absurd (let z : _≡_ {A = ℕ} 0 1 = cc in omega arith)
+walked count n true true e f g x h l = clash true refl g
 walked count n true false e f g x h l = let i = ltb-false n 256 f in omega arith
 walked count n false b e f g x h l = let i = leb-false n count e in omega arith
 
@@ -103,3 +97,28 @@ pub rows-follow : (sch : Schema) (ks : List ℕ) (n : ℕ) (t : List ℕ)
     → Follows sch ks t
 unfolding Follows
 rows-follow sch ks n t l g i hl right = rows-tabled sch hl ks right n t l (walked (sch .relations) n _ _ refl refl g) i
+
+-- ---- a step, by the table by kind
+module _ (h : Sections) (s : List ℕ) (hl : Hall) (ks : List ℕ) (right : Kinds hl ks) (st : Step) (at params : ℕ) where
+  argument-by : (i : ℕ) (a : Bool)
+      → at ≡ moveAt h (st .action)
+      → params ≡ byteAt s at
+      → a ≡ kindsBad ks (leb i params) (byteAt s (at + i)) (objectOf (st .binding) (record { 0 = i }))
+      → a ≡ argumentBad (schema h s) hl st i
+  unfolding argumentBad schema
+  argument-by i a p q r =
+      r ∙ kinds-bad (schema h s) hl ks right (leb i params) (byteAt s (at + i)) (objectOf (st .binding) (record { 0 = i })) ∙ rw (q, p) refl
+
+  -- a step's test, put together from what the calls in the code return
+  pub step-bad-by : (n a b c d : Bool)
+      → at ≡ moveAt h (st .action)
+      → params ≡ byteAt s at
+      → n ≡ numberBad (h .moves .count) (st .action .0)
+      → a ≡ kindsBad ks (leb 1 params) (byteAt s (at + 1)) (objectOf (st .binding) (record { 0 = 1 }))
+      → b ≡ kindsBad ks (leb 2 params) (byteAt s (at + 2)) (objectOf (st .binding) (record { 0 = 2 }))
+      → c ≡ kindsBad ks (leb 3 params) (byteAt s (at + 3)) (objectOf (st .binding) (record { 0 = 3 }))
+      → d ≡ kindsBad ks (leb 4 params) (byteAt s (at + 4)) (objectOf (st .binding) (record { 0 = 4 }))
+      → (n || a || b || c || d) ≡ stepBad (schema h s) hl st
+  unfolding stepBad schema
+  step-bad-by n a b c d p q t u v w z =
+      rw (t, argument-by 1 a p q u, argument-by 2 b p q v, argument-by 3 c p q w, argument-by 4 d p q z) refl

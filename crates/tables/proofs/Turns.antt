@@ -17,6 +17,7 @@ use Rattle.mask.specs.Sets.{empty}
 use Rattle.mask.proofs.Numbers.{bit-or, bit-power, bit-none}
 use Rattle.mask.proofs.Bytes.{zeros}
 use Rattle.mask.proofs.Laws.{length-empty}
+use Rattle.mask.proofs.Whole.{ltb-next}
 use Rattle.terms.specs.Schema.{numberBad}
 use Rattle.tables.specs.Tables.{member, entry, put, stored}
 
@@ -77,17 +78,9 @@ below-new : (n : ℕ) → 1 ≤ n → below (n + 1) n ≡ true
 unfolding below
 below-new n h = rw (le-leb 1 n h, lt-ltb n (n + 1) (omega arith)) refl
 
-skip : (n x : ℕ) (b : Bool) → ltb x n ≡ b → (n ≡ x → ⊥) → ltb x (n + 1) ≡ b
-skip n x true e d = let h = ltb-true x n e in lt-ltb x (n + 1) (omega arith)
-skip n x false e d = let h = ltb-false x n e in le-ltb x (n + 1) (after (ℕ-discrete n x))
-  where
-    after : Dec (n ≡ x) → n + 1 ≤ x
-    after (yes i) = absurd (d i)
-    after (no j) = let h = ltb-false x n e in omega arith
-
 below-other : (n x : ℕ) → (n ≡ x → ⊥) → below (n + 1) x ≡ below n x
 unfolding below
-below-other n x d = rw (skip n x (ltb x n) refl d) refl
+below-other n x d = rw (ltb-next n x d) refl
 
 -- all numbers up to a count: those that are not bad
 below-bools : (count n x : ℕ) (a b : Bool)

@@ -1,15 +1,22 @@
 // Tables of what suits, made once for a record or an order: each fact and each step is then tested by a few reads. A set of objects is one
 // number, whose bit x stands for object x, and bit 0 for an unused place. Uses input, terms, and the bits of mask.
+use terms::Binding;
 use terms::Fact;
 use terms::Object;
 use terms::Objects;
+use terms::Param;
 use terms::Relation;
 use terms::Sections;
+use terms::Step;
 ghost use mathlib.Core.Path.{_≡_};
-ghost use Prim.Native.Nat.{_≤_, _<_};
+ghost use Prim.Native.Nat.{_+_, _≤_, _<_};
+ghost use lib.Dec.{leb};
+ghost use Rattle.limits.specs.Limits.{maxParams};
+ghost use Rattle.input.specs.Bytes.{byteAt};
 ghost use Rattle.mask.specs.Sets.{empty};
 ghost use Rattle.terms.specs.Schema.{schema, hall};
-ghost use Rattle.tables.specs.Tables.{member, entry, put, stored, Kinds, kindsBad, placeSet, tableBad, Follows};
+ghost use Rattle.terms.specs.Steps.{objectOf, stepBad};
+ghost use Rattle.tables.specs.Tables.{member, entry, put, stored, Kinds, kindsBad, placeSet, tableBad, Follows, ForKinds};
 
 fn member(set: u32, x: u8) -> bool
     ensures { λ r. ⌜ r ≡ member set x ⌝ }
@@ -76,7 +83,7 @@ pub fn kinds_of(s: &[u8], objects: Objects) -> [u32; 256]
 }
 
 // What stands where an object of the kind named belongs is wrong. `used`: the place or parameter is one of those that count.
-pub fn object_bad(kinds: &[u32; 256], used: bool, named: u8, x: Object) -> bool
+fn object_bad(kinds: &[u32; 256], used: bool, named: u8, x: Object) -> bool
     ensures { λ r. ⌜ r ≡ kindsBad (now (kinds .entry)) used named x ⌝ }
 {
     (used & !member(entry(kinds, named as usize), x.0)) | (!used & !(x.0 == 0))
@@ -131,4 +138,31 @@ pub fn fact_bad(table: &[u32; 512], f: Fact) -> bool
 {
     let r = f.relation.0 as usize;
     !(member(entry(table, r), f.first.0) & member(entry(table, 256 + r), f.second.0))
+}
+
+// Row 9 of one parameter. The move's entry is at an offset, and has so many parameters.
+fn argument_bad(book: &[u8], kinds: &[u32; 256], at: usize, params: u8, b: Binding, i: u8) -> bool
+    requires { ⌜ (at ≤ 70000) × (i ≤ maxParams) ⌝ }
+    ensures { λ r. ⌜ r ≡ kindsBad (now (kinds .entry)) (leb i params) (byteAt (now (book .entry)) (at + i)) (objectOf b (record { 0 = i })) ⌝ }
+{
+    object_bad(
+        kinds,
+        i <= params,
+        input::byte_at(book, at + i as usize),
+        b.object(Param(i)),
+    )
+}
+
+// Rows 9 and 18 of a step's move and objects: the move is there, and its parameters have objects that suit.
+pub fn step_bad(book: &[u8], h: Sections, kinds: &[u32; 256], st: Step) -> bool
+    ensures { λ r. ⌜ ForKinds (now (kinds .entry)) (λ hl. r ≡ stepBad (schema h (now (book .entry))) hl st) ⌝ }
+{
+    let at = h.move_at(st.action);
+    let params = input::byte_at(book, at);
+    let b = st.binding;
+    terms::number_bad(h.moves.count, st.action.0)
+        | argument_bad(book, kinds, at, params, b, 1)
+        | argument_bad(book, kinds, at, params, b, 2)
+        | argument_bad(book, kinds, at, params, b, 3)
+        | argument_bad(book, kinds, at, params, b, 4)
 }

@@ -33,6 +33,6 @@ precedes f g =
 unfoldable pub noFact : Fact
 noFact = record { relation = record { 0 = 0 }; first = record { 0 = 0 }; second = record { 0 = 0 } }
 
--- the number of a fact, an unused place adding 0
+-- the number of a fact by the paper's formula, an unused place adding 0
 unfoldable pub factNumber : Fact → ℕ
 factNumber f = 256 * (f .relation .0 - 1) + 16 * (f .first .0 - 1) + (f .second .0 - 1)

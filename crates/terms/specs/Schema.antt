@@ -3,6 +3,7 @@ use Prim.Native.Nat.{ℕ, _+_, _-_, _*_}
 use mathlib.Core.Bool.{Bool, _&&_, _||_, not}
 use mathlib.Core.List.{List}
 use lib.Dec.{eqb, ltb}
+use Rattle.limits.specs.Limits.{relationSize, moveSize}
 use Rattle.input.specs.Bytes.{byteAt}
 use Rattle.terms.specs.declared.Param.{Param}
 use Rattle.terms.specs.declared.Object.{Object}
@@ -27,10 +28,10 @@ pub record Schema : Type 0 where
 
 -- where a relation and a move stand
 unfoldable pub relationAt : Sections → Relation → ℕ
-relationAt h r = h .relations .at + 4 * (r .0 - 1)
+relationAt h r = h .relations .at + relationSize * (r .0 - 1)
 
 unfoldable pub moveAt : Sections → Move → ℕ
-moveAt h m = h .moves .at + 6 * (m .0 - 1)
+moveAt h m = h .moves .at + moveSize * (m .0 - 1)
 
 -- places count from 1
 unfoldable pub schema : Sections → List ℕ → Schema
@@ -45,7 +46,7 @@ schema h s =
       paramKind = λ m p. byteAt s (moveAt h m + p .0);
     }
 
--- the objects of a record or an order, with their kinds
+-- the objects of a record or an order, with their kinds: the typed objects of a planning problem
 pub record Hall : Type 0 where
   pub count : ℕ
   pub kind : Object → ℕ

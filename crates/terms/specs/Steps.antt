@@ -11,7 +11,6 @@ use Rattle.terms.specs.declared.Relation.{Relation}
 use Rattle.terms.specs.declared.Move.{Move}
 use Rattle.terms.specs.declared.Binding.{Binding}
 use Rattle.terms.specs.declared.Step.{Step}
-use Rattle.terms.specs.declared.Fact.{Fact}
 use Rattle.terms.specs.Schema.{Schema, Hall, numberBad, objectBad, kindSuits}
 
 -- the object that a binding gives a parameter: the only way from one to the other

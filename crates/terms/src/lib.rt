@@ -1,13 +1,12 @@
-// The words of the formats as values: typed numbers, sections, facts and steps, each read from bytes and tested against the book's schema.
-// Uses input and answer. Every test is one Bool definition of specs/.
+// The words of the formats as values: typed numbers, sections, facts and steps, each read from bytes, and the tests that need no table.
+// Uses input. Every test is one Bool definition of specs/; whether a fact or a step suits the book's schema is asked of `tables`.
 ghost use mathlib.Core.Path.{_≡_};
-ghost use mathlib.Core.Bool.{Bool};
-ghost use mathlib.Core.List.{List};
-ghost use Prim.Native.Nat.{ℕ, _-_, _≤_};
+ghost use Prim.Native.Nat.{_-_, _≤_};
+ghost use Rattle.limits.specs.Limits.{maxParams};
 ghost use Rattle.terms.specs.Sections.{sectionsOf};
-ghost use Rattle.terms.specs.Schema.{schema, hall, numberBad, relationAt, moveAt, kindSuits, objectBad};
-ghost use Rattle.terms.specs.Facts.{factAt, factBad, precedes, noFact, factNumber};
-ghost use Rattle.terms.specs.Steps.{objectOf, stepAt, argumentBad, stepBad, samePair, repeats};
+ghost use Rattle.terms.specs.Schema.{schema, numberBad, relationAt, moveAt, kindSuits};
+ghost use Rattle.terms.specs.Facts.{factAt, precedes, noFact};
+ghost use Rattle.terms.specs.Steps.{objectOf, stepAt, samePair, repeats};
 
 // Numbers that count from 1. Each has a type of its own, so that a binding is the only way from a parameter to an object.
 pub struct Param(pub u8);
@@ -78,13 +77,13 @@ impl Sections {
     pub fn relation_at(self, r: Relation) -> usize
         ensures { λ at. ⌜ (at ≡ relationAt self r) × (at ≤ 70000) ⌝ }
     {
-        self.relations.at as usize + 4 * index(r.0)
+        self.relations.at as usize + limits::RELATION_SIZE * index(r.0)
     }
 
     pub fn move_at(self, m: Move) -> usize
         ensures { λ at. ⌜ (at ≡ moveAt self m) × (at ≤ 70000) ⌝ }
     {
-        self.moves.at as usize + 6 * index(m.0)
+        self.moves.at as usize + limits::MOVE_SIZE * index(m.0)
     }
 }
 
@@ -110,25 +109,6 @@ pub fn kind_suits(book: &[u8], h: Sections, named: u8, kind: u8) -> bool
     ensures { λ r. ⌜ r ≡ kindSuits (schema h (now (book .entry))) named kind ⌝ }
 {
     kind == named
-}
-
-// What stands where an object of the kind named belongs is wrong. `used`: the place or parameter is one of those that count.
-// `book` has the schema, `s` the kinds of the objects.
-fn object_bad(
-    book: &[u8],
-    h: Sections,
-    s: &[u8],
-    objects: Objects,
-    used: bool,
-    named: u8,
-    x: Object,
-) -> bool
-    requires { ⌜ objects .at ≤ 100000 ⌝ }
-    ensures { λ r. ⌜ r ≡ objectBad (schema h (now (book .entry))) (hall objects (now (s .entry))) used named x ⌝ }
-{
-    let kind = input::byte_at(s, objects.at + index(x.0));
-    let wrong = number_bad(objects.count as u16, x.0) | !kind_suits(book, h, named, kind);
-    (used & wrong) | (!used & !(x.0 == 0))
 }
 
 impl Fact {
@@ -161,39 +141,11 @@ impl Fact {
         let first = (self.first.0 < other.first.0) | ((self.first.0 == other.first.0) & second);
         (self.relation.0 < other.relation.0) | ((self.relation.0 == other.relation.0) & first)
     }
-
-    // The fact is wrong: `book` has the relations, `s` the kinds of the objects.
-    pub fn bad(self, book: &[u8], h: Sections, s: &[u8], objects: Objects) -> bool
-        requires { ⌜ objects .at ≤ 100000 ⌝ }
-        ensures { λ r. ⌜ r ≡ factBad (schema h (now (book .entry))) (hall objects (now (s .entry))) self ⌝ }
-    {
-        let at = h.relation_at(self.relation);
-        let places = input::byte_at(book, at);
-        let first = object_bad(
-            book,
-            h,
-            s,
-            objects,
-            1 <= places,
-            input::byte_at(book, at + 1),
-            self.first,
-        );
-        let second = object_bad(
-            book,
-            h,
-            s,
-            objects,
-            2 <= places,
-            input::byte_at(book, at + 2),
-            self.second,
-        );
-        number_bad(h.relations.count, self.relation.0) | first | second
-    }
 }
 
 impl Binding {
     pub fn object(self, p: Param) -> Object
-        requires { ⌜ p .0 ≤ 4 ⌝ }
+        requires { ⌜ p .0 ≤ maxParams ⌝ }
         ensures { λ r. ⌜ r ≡ objectOf self p ⌝ }
     {
         let objects = self.objects;
@@ -220,38 +172,8 @@ impl Step {
         }
     }
 
-    fn argument_bad(self, book: &[u8], h: Sections, s: &[u8], objects: Objects, i: u8) -> bool
-        requires { ⌜ (objects .at ≤ 100000) × (i ≤ 4) ⌝ }
-        ensures { λ r. ⌜ r ≡ argumentBad (schema h (now (book .entry))) (hall objects (now (s .entry))) self i ⌝ }
-    {
-        let at = h.move_at(self.action);
-        let params = input::byte_at(book, at);
-        let b = self.binding;
-        object_bad(
-            book,
-            h,
-            s,
-            objects,
-            i <= params,
-            input::byte_at(book, at + i as usize),
-            b.object(Param(i)),
-        )
-    }
-
-    // Row 9, but for the cut.
-    pub fn bad(self, book: &[u8], h: Sections, s: &[u8], objects: Objects) -> bool
-        requires { ⌜ objects .at ≤ 100000 ⌝ }
-        ensures { λ r. ⌜ r ≡ stepBad (schema h (now (book .entry))) (hall objects (now (s .entry))) self ⌝ }
-    {
-        number_bad(h.moves.count, self.action.0)
-            | self.argument_bad(book, h, s, objects, 1)
-            | self.argument_bad(book, h, s, objects, 2)
-            | self.argument_bad(book, h, s, objects, 3)
-            | self.argument_bad(book, h, s, objects, 4)
-    }
-
     fn same_pair(self, i: u8, j: u8) -> bool
-        requires { ⌜ (i ≤ 4) × (j ≤ 4) ⌝ }
+        requires { ⌜ (i ≤ maxParams) × (j ≤ maxParams) ⌝ }
         ensures { λ r. ⌜ r ≡ samePair self i j ⌝ }
     {
         let b = self.binding;

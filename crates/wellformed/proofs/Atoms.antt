@@ -1,137 +1,26 @@
 -- Bound facts under the binding of a right step: each becomes a right fact, of the number that `ground` says, and no two become one.
-use Prim.Native.Nat.{ℕ, _+_, _-_, _*_, _/_, _%_, _≤_, _<_}
+use Prim.Native.Nat.{ℕ, _-_, _*_, _≤_, _<_}
 use mathlib.Core.Path.{_≡_, refl, sym, ap, _∙_}
-use mathlib.Core.Logic.{_⊎_, inl, inr}
-use mathlib.Core.Bool.{Bool, true, false, cond, _&&_, _||_}
-use native.Mathlib.Omega.{arith}
-use lib.Dec.{eqb, ltb, leb}
-use borrow.Author.Tests.{leb-true, leb-false, le-leb, lt-ltb, le-ltb, eqb-true, eq-eqb}
+use mathlib.Core.Bool.{Bool, true, false, cond}
+use lib.Dec.{leb}
 use Rattle.terms.specs.declared.Object.{Object}
 use Rattle.terms.specs.declared.Param.{Param}
 use Rattle.terms.specs.declared.Relation.{Relation}
-use Rattle.terms.specs.declared.Move.{Move}
 use Rattle.terms.specs.declared.Binding.{Binding}
 use Rattle.terms.specs.declared.Step.{Step}
 use Rattle.terms.specs.declared.Fact.{Fact}
-use Rattle.terms.specs.Schema.{Schema, Hall, kindSuits, objectBad}
+use Rattle.terms.specs.Schema.{Schema, Hall, objectBad}
 use Rattle.terms.specs.Facts.{factBad, factNumber}
 use Rattle.terms.specs.Steps.{objectOf, atomRelation, atomFirst, atomSecond, parameterFills, isAtom, placed, ground}
-use Rattle.format.specs.Limits.{maxObjects}
+use Rattle.terms.proofs.Atoms.{number-in, first-range, second-range, relation-from-1, atom-same, fills-used, fills-unused, atom-out}
+use Rattle.terms.proofs.Atoms.{atom-below}
+use Rattle.limits.specs.Limits.{maxObjects}
 use Rattle.model.specs.Formed.{Proper}
-use Rattle.model.proofs.Truth.{clash, and-in, and-out, or-right, or-out}
 use Rattle.jobs.specs.Planning.{domain, groundAction}
 use Rattle.wellformed.specs.Right.{RightStep}
 use Rattle.wellformed.specs.Grounding.{objectIn, factOf}
-use Rattle.wellformed.proofs.Suits.{number-in, used-in, unused-in, argument-used, parameters-apart}
+use Rattle.wellformed.proofs.Suits.{used-in, unused-in, argument-used, parameters-apart}
 use Rattle.wellformed.proofs.Numbers.{number-below, number-injective}
-
--- the parameters of a bound fact count from 1 to 4
-pub first-range : (n : ℕ) → (1 ≤ atomFirst n .0) × (atomFirst n .0 ≤ 4)
-unfolding atomFirst
-first-range n = (omega arith, omega arith)
-
-pub second-range : (n : ℕ) → (1 ≤ atomSecond n .0) × (atomSecond n .0 ≤ 4)
-unfolding atomSecond
-second-range n = (omega arith, omega arith)
-
-pub relation-from-1 : (n : ℕ) → 1 ≤ atomRelation n .0
-unfolding atomRelation
-relation-from-1 n = omega arith
-
--- a bound fact is told by its relation and its parameters
-pub atom-same : (m n : ℕ) → atomRelation m .0 ≡ atomRelation n .0 → atomFirst m .0 ≡ atomFirst n .0 → atomSecond m .0 ≡ atomSecond n .0 → m ≡ n
-unfolding atomRelation atomFirst atomSecond
-atom-same m n r p q = digits m ∙ same ∙ sym (digits n)
-  where
-    digits : (k : ℕ) → k ≡ 16 * (k / 16) + 4 * (k / 4 % 4) + k % 4
-    digits k = omega arith
-
-    same : 16 * (m / 16) + 4 * (m / 4 % 4) + m % 4 ≡ 16 * (n / 16) + 4 * (n / 4 % 4) + n % 4
-    same =
-        let x : m / 16 ≡ n / 16 = omega arith in
-        let y : m / 4 % 4 ≡ n / 4 % 4 = omega arith in
-        let z : m % 4 ≡ n % 4 = omega arith in
-        rw (x, y, z)
-
--- one of two guarded cases, where the other one's guard fails
-case-left : (u x y v w : Bool) → (u && x && y || v && w) ≡ true → v ≡ false → (x ≡ true) × (y ≡ true)
-case-left u x y v w e h = go (or-out (u && x && y) (v && w) e)
-  where
-    go : ((u && x && y) ≡ true) ⊎ ((v && w) ≡ true) → (x ≡ true) × (y ≡ true)
-    go (inl k) = let (l, r) = and-out (u && x) y k in (and-out u x l .1, r)
-    go (inr k) = clash v (and-out v w k .0) h
-
-case-right : (u x y v w : Bool) → (u && x && y || v && w) ≡ true → u ≡ false → w ≡ true
-case-right u x y v w e h = go (or-out (u && x && y) (v && w) e)
-  where
-    go : ((u && x && y) ≡ true) ⊎ ((v && w) ≡ true) → w ≡ true
-    go (inl k) = clash u (and-out u x (and-out (u && x) y k .0) .0) h
-    go (inr k) = and-out v w k .1
-
-module _ (sch : Schema) (m : Move) (r : Relation) (i : ℕ) (p : Param) where
-  -- a parameter in a used place is one of the move's, of the kind named; in an unused place it is 1
-  pub fills-used : parameterFills sch m r i p ≡ true → leb i (sch .places r) ≡ true → (p .0 ≤ sch .params m) × (sch .paramKind m p ≡ sch .placeKind r i)
-  unfolding parameterFills kindSuits
-  fills-used e u =
-      let off = le-ltb (sch .places r) i (leb-true i (sch .places r) u) in
-      let (own, kind) = case-left (leb i (sch .places r)) (leb (p .0) (sch .params m)) (eqb (sch .paramKind m p) (sch .placeKind r i))
-      (ltb (sch .places r) i) (eqb (p .0) 1) e off
-      in
-      (leb-true (p .0) (sch .params m) own, eqb-true (sch .paramKind m p) (sch .placeKind r i) kind)
-
-  pub fills-unused : parameterFills sch m r i p ≡ true → leb i (sch .places r) ≡ false → p .0 ≡ 1
-  unfolding parameterFills kindSuits
-  fills-unused e u =
-      eqb-true (p .0) 1
-      (case-right (leb i (sch .places r)) (leb (p .0) (sch .params m)) (eqb (sch .paramKind m p) (sch .placeKind r i)) (ltb (sch .places r) i)
-      (eqb (p .0) 1) e u)
-
-  pub fills-in-used : leb i (sch .places r) ≡ true → p .0 ≤ sch .params m → sch .paramKind m p ≡ sch .placeKind r i → parameterFills sch m r i p ≡ true
-  unfolding parameterFills kindSuits
-  fills-in-used u own kind = rw (u, le-leb (p .0) (sch .params m) own, eq-eqb (sch .paramKind m p) (sch .placeKind r i) kind)
-
-  pub fills-in-unused : leb i (sch .places r) ≡ false → p .0 ≡ 1 → parameterFills sch m r i p ≡ true
-  unfolding parameterFills kindSuits
-  fills-in-unused u one =
-      or-right (leb i (sch .places r) && leb (p .0) (sch .params m) && eqb (sch .paramKind m p) (sch .placeKind r i)) _
-      (and-in (ltb (sch .places r) i) (eqb (p .0) 1) (lt-ltb (sch .places r) i (leb-false i (sch .places r) u)) (eq-eqb (p .0) 1 one))
-
--- what the test on a bound fact of a move says
-pub record AtomParts (sch : Schema) (a n : ℕ) : Type 0 where
-  pub from-1 : 1 ≤ a
-  pub known : a ≤ sch .moves
-  pub relation : atomRelation n .0 ≤ sch .relations
-  pub first : parameterFills sch (record { 0 = a }) (atomRelation n) 1 (atomFirst n) ≡ true
-  pub second : parameterFills sch (record { 0 = a }) (atomRelation n) 2 (atomSecond n) ≡ true
-
-module _ (sch : Schema) (a n : ℕ) where
-  pub atom-out : isAtom sch a n ≡ true → AtomParts sch a n
-  unfolding isAtom
-  atom-out e =
-      let r : Bool = leb (atomRelation n .0) (sch .relations) in
-      let x : Bool = parameterFills sch (record { 0 = a }) (atomRelation n) 1 (atomFirst n) in
-      let y : Bool = parameterFills sch (record { 0 = a }) (atomRelation n) 2 (atomSecond n) in
-      let (four, second) = and-out (leb 1 a && leb a (sch .moves) && r && x) y e in
-      let (three, first) = and-out (leb 1 a && leb a (sch .moves) && r) x four in
-      let (two, relation) = and-out (leb 1 a && leb a (sch .moves)) r three in
-      let (low, high) = and-out (leb 1 a) (leb a (sch .moves)) two in
-      record {
-        from-1 = leb-true 1 a low;
-        known = leb-true a (sch .moves) high;
-        relation = leb-true (atomRelation n .0) (sch .relations) relation;
-        first = first;
-        second = second;
-      }
-
-  pub atom-in : AtomParts sch a n → isAtom sch a n ≡ true
-  unfolding isAtom
-  atom-in h =
-      rw (le-leb 1 a (h .from-1), le-leb a (sch .moves) (h .known), le-leb (atomRelation n .0) (sch .relations) (h .relation), h .first, h .second)
-
--- bound facts number 16 to a relation
-pub atom-below : (sch : Schema) (a n : ℕ) → isAtom sch a n ≡ true → n < 16 * sch .relations
-unfolding atomRelation
-atom-below sch a n atom = omega (arith, atom-out sch a n atom .relation)
 
 -- `ground` is the number of the fact that the bound fact becomes
 pub ground-number : (sch : Schema) (b : Binding) (n : ℕ) → factNumber (factOf sch b n) ≡ ground sch b n

@@ -5,10 +5,10 @@ use mathlib.Core.Logic.{_⊎_, inl, inr}
 use mathlib.Core.Bool.{true, false}
 use mathlib.Core.List.{List, [], _∷_}
 use native.Mathlib.Omega.{arith}
+use Rattle.truth.specs.Bools.{decide, is-false}
 use Rattle.model.specs.Quantify.{Mem, here, there}
 use Rattle.model.specs.Domain.{Domain, State, Step}
 use Rattle.model.specs.Model.{Model, Valid, ended, image, stuck, next, run}
-use Rattle.model.proofs.Truth.{decide, is-false}
 use Rattle.model.proofs.Next.{image-out}
 use Rattle.model.proofs.Lockstep.{run-stop, run-go}
 use Rattle.model.proofs.Judge.{not-both, one-end}

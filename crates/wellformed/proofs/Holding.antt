@@ -6,12 +6,12 @@ use mathlib.Core.List.{List}
 use native.Mathlib.Omega.{arith}
 use lib.Dec.{eqb}
 use borrow.Author.Tests.{eqb-true, eq-eqb}
+use Rattle.truth.specs.Bools.{is-false}
 use Rattle.terms.specs.declared.Fact.{Fact}
 use Rattle.terms.specs.Schema.{Schema, Hall}
 use Rattle.terms.specs.Facts.{factNumber}
-use Rattle.format.specs.Limits.{maxObjects}
+use Rattle.limits.specs.Limits.{maxObjects}
 use Rattle.model.specs.Quantify.{Mem}
-use Rattle.model.proofs.Truth.{is-false}
 use Rattle.model.proofs.Quantify.{any-in, any-out}
 use Rattle.jobs.specs.Planning.{holding}
 use Rattle.wellformed.specs.Right.{RightState}

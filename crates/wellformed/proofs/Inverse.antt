@@ -1,6 +1,6 @@
 -- From facts back to bound facts: a right fact over the objects of a right step is just one bound fact of it.
 -- For a learner that meets facts and asks which bound facts they are.
-use Prim.Native.Nat.{ℕ, _+_, _-_, _*_, _/_, _%_, _≤_}
+use Prim.Native.Nat.{ℕ, _≤_}
 use mathlib.Core.Path.{_≡_, refl, sym, ap, _∙_}
 use mathlib.Core.Bool.{Bool, true, false}
 use native.Mathlib.Omega.{arith}
@@ -11,36 +11,14 @@ use Rattle.terms.specs.declared.Step.{Step}
 use Rattle.terms.specs.declared.Fact.{Fact}
 use Rattle.terms.specs.Schema.{Schema, Hall, objectBad}
 use Rattle.terms.specs.Facts.{factBad, factNumber}
-use Rattle.terms.specs.Steps.{atomRelation, atomFirst, atomSecond, parameterFills, isAtom, ground}
-use Rattle.format.specs.Limits.{maxObjects}
+use Rattle.terms.specs.Steps.{parameterFills, isAtom, ground}
+use Rattle.terms.proofs.Atoms.{number-out, fact-path, atomNumber, number-relation, number-first, number-second, fills-in-used, fills-in-unused, atom-in}
+use Rattle.limits.specs.Limits.{maxObjects}
 use Rattle.wellformed.specs.Right.{RightStep}
 use Rattle.wellformed.specs.Grounding.{objectIn, factOf, BoundBy, Covered}
-use Rattle.wellformed.proofs.Suits.{number-out, used-out, unused-out, move-known, argument-used}
-use Rattle.wellformed.proofs.Numbers.{fact-parts, fact-path, number-injective}
-use Rattle.wellformed.proofs.Atoms.{fills-in-used, fills-in-unused, atom-in, ground-number, fact-right, ground-injective}
-
--- the number of a bound fact
-unfoldable pub atomNumber : ℕ → ℕ → ℕ → ℕ
-atomNumber r p q = 16 * (r - 1) + 4 * (p - 1) + (q - 1)
-
-module _ (r p q : ℕ) (some : 1 ≤ r) (low : 1 ≤ p) (high : p ≤ 4) (low′ : 1 ≤ q) (high′ : q ≤ 4) where
-  number-relation : atomRelation (atomNumber r p q) ≡ record { 0 = r }
-  unfolding atomRelation atomNumber
-  number-relation =
-      let e : (16 * (r - 1) + 4 * (p - 1) + (q - 1)) / 16 + 1 ≡ r = omega arith in
-      λ i. record { 0 = e i }
-
-  number-first : atomFirst (atomNumber r p q) ≡ record { 0 = p }
-  unfolding atomFirst atomNumber
-  number-first =
-      let e : (16 * (r - 1) + 4 * (p - 1) + (q - 1)) / 4 % 4 + 1 ≡ p = omega arith in
-      λ i. record { 0 = e i }
-
-  number-second : atomSecond (atomNumber r p q) ≡ record { 0 = q }
-  unfolding atomSecond atomNumber
-  number-second =
-      let e : (16 * (r - 1) + 4 * (p - 1) + (q - 1)) % 4 + 1 ≡ q = omega arith in
-      λ i. record { 0 = e i }
+use Rattle.wellformed.proofs.Suits.{used-out, unused-out, move-known, argument-used}
+use Rattle.wellformed.proofs.Numbers.{fact-parts, number-injective}
+use Rattle.wellformed.proofs.Atoms.{ground-number, fact-right, ground-injective}
 
 -- a parameter that fills a place with the object that stands there
 record Pick (sch : Schema) (st : Step) (r : Relation) (i : ℕ) (x : Object) : Type 0 where

@@ -1,7 +1,6 @@
 -- Theorems about good form, from bytes up to the hypotheses of `model`. To cite: filed-right (Records), formed (Formed), order-right and grounded (Orders),
 -- fact-of-atom and atom-of-fact (Inverse).
 pub mod Lists
-pub mod Walks
 pub mod States
 pub mod Headers
 pub mod Records

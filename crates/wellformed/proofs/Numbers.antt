@@ -4,13 +4,14 @@ use mathlib.Core.Path.{_≡_, refl, sym, _∙_}
 use mathlib.Core.Bool.{Bool, true, false, _||_}
 use native.Mathlib.Omega.{arith}
 use lib.Dec.{leb}
-use Rattle.answer.specs.Laws.{neither}
+use Rattle.truth.specs.Bools.{neither}
 use Rattle.terms.specs.declared.Object.{Object}
 use Rattle.terms.specs.declared.Fact.{Fact}
 use Rattle.terms.specs.Schema.{Schema, Hall, numberBad, objectBad}
 use Rattle.terms.specs.Facts.{factBad, factNumber}
-use Rattle.format.specs.Limits.{maxObjects}
-use Rattle.wellformed.proofs.Suits.{number-out, used-out, unused-out, object-most}
+use Rattle.terms.proofs.Atoms.{number-out, fact-path}
+use Rattle.limits.specs.Limits.{maxObjects}
+use Rattle.wellformed.proofs.Suits.{used-out, unused-out, object-most}
 
 -- three digits, of which the last two are under 16, are told by their number
 pub digits-same : (a b c d e f : ℕ) → b < 16 → c < 16 → e < 16 → f < 16 → 256 * a + 16 * b + c ≡ 256 * d + 16 * e + f
@@ -32,9 +33,6 @@ fact-parts sch hl f e =
     let (both, second) = neither (nb || one) (objectBad sch hl (leb 2 (sch .places (f .relation))) (sch .placeKind (f .relation) 2) (f .second)) e in
     let (number, first) = neither nb one both in
     (number, first, second)
-
-pub fact-path : (f g : Fact) → f .relation .0 ≡ g .relation .0 → f .first .0 ≡ g .first .0 → f .second .0 ≡ g .second .0 → f ≡ g
-fact-path f g p q r = λ i. record { relation = record { 0 = p i }; first = record { 0 = q i }; second = record { 0 = r i } }
 
 module _ (sch : Schema) (hl : Hall) (few : hl .count ≤ maxObjects) where
   -- A right fact's number is under 256 for each relation.

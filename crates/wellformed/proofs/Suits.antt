@@ -6,24 +6,14 @@ use mathlib.Core.Logic.{_⊎_, inl, inr}
 use mathlib.Core.Bool.{Bool, true, false, _&&_, _||_, not}
 use native.Mathlib.Omega.{arith}
 use lib.Dec.{eqb, ltb}
-use borrow.Author.Tests.{ltb-true, ltb-false, lt-ltb, le-ltb, le-leb, eqb-true, eq-eqb, not-false}
-use Rattle.answer.specs.Laws.{neither}
+use borrow.Author.Tests.{ltb-true, ltb-false, lt-ltb, le-leb, eqb-true, eq-eqb, not-false}
+use Rattle.truth.specs.Bools.{clash, and-in, decide, neither}
 use Rattle.terms.specs.declared.Object.{Object}
 use Rattle.terms.specs.declared.Step.{Step}
 use Rattle.terms.specs.Schema.{Schema, Hall, numberBad, kindSuits, objectBad}
 use Rattle.terms.specs.Steps.{objectOf, argumentBad, stepBad, samePair, repeats}
-use Rattle.model.proofs.Truth.{clash, and-in, decide}
+use Rattle.terms.proofs.Atoms.{number-out, number-in}
 use Rattle.wellformed.specs.Right.{RightStep}
-
-pub number-out : (count n : ℕ) → numberBad count n ≡ false → (1 ≤ n) × (n ≤ count)
-unfolding numberBad
-number-out count n e =
-    let (low, high) = neither (ltb n 1) (ltb count n) e in
-    (ltb-false n 1 low, ltb-false count n high)
-
-pub number-in : (count n : ℕ) → 1 ≤ n → n ≤ count → numberBad count n ≡ false
-unfolding numberBad
-number-in count n low high = rw (le-ltb n 1 low, le-ltb count n high)
 
 module _ (sch : Schema) (hl : Hall) (named : ℕ) (x : Object) where
   -- a used place has the number of an object of the kind named; an unused one has 0

@@ -8,7 +8,7 @@ use Rattle.terms.specs.declared.Step.{Step}
 use Rattle.terms.specs.declared.Fact.{Fact}
 use Rattle.terms.specs.Schema.{Schema, Hall}
 use Rattle.terms.specs.Steps.{isAtom, ground}
-use Rattle.format.specs.Limits.{maxObjects}
+use Rattle.limits.specs.Limits.{maxObjects}
 use Rattle.model.specs.Quantify.{Mem}
 use Rattle.jobs.specs.Planning.{holding}
 use Rattle.wellformed.specs.Right.{RightStep, RightState}

@@ -11,7 +11,7 @@ use Rattle.terms.specs.declared.Step.{Step}
 use Rattle.terms.specs.declared.Fact.{Fact}
 use Rattle.terms.specs.Schema.{Schema}
 use Rattle.terms.specs.Steps.{objectOf, atomRelation, atomFirst, atomSecond}
-use Rattle.format.specs.Limits.{maxParams}
+use Rattle.limits.specs.Limits.{maxParams}
 
 -- the object in a place, 0 in an unused one
 unfoldable pub objectIn : Schema → Binding → Relation → ℕ → Param → Object

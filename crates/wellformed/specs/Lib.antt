@@ -1,3 +1,3 @@
--- The words in which good form is told to the proofs above it.
+-- What good form says of steps, states and orders, for the proofs above.
 pub mod Right
 pub mod Grounding

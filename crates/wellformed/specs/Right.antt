@@ -9,7 +9,7 @@ use Rattle.terms.specs.declared.Step.{Step}
 use Rattle.terms.specs.Schema.{Schema, Hall, hall}
 use Rattle.terms.specs.Facts.{factBad, precedes, noFact}
 use Rattle.terms.specs.Steps.{stepBad, repeats}
-use Rattle.format.specs.Limits.{maxObjects, maxFacts}
+use Rattle.limits.specs.Limits.{maxObjects, maxFacts}
 use Rattle.format.specs.Decode.{Filed}
 use Rattle.format.specs.Order.{GoalEntry, orderObjects, startFacts, goal, plan}
 use Rattle.model.specs.Quantify.{Mem}

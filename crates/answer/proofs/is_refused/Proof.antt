@@ -3,12 +3,6 @@ use Rattle.answer.specs.Answer.{isRefused}
 use Rattle.answer.proofs.is_refused.Statement.{statement}
 use Rattle.answer.proofs.is_refused.Tie as tie
 
-enum-told : tie.Need-enum-told
-enum-told c = search needs
-
-enum-told-2 : tie.Need-enum-told-2
-enum-told-2 c = search needs
-
 returns : tie.Need-returns
 unfolding isRefused
 returns c = search needs
@@ -18,4 +12,4 @@ unfolding isRefused
 returns-2 c = search needs
 
 pub is-refused-spec : {M : Type 1} → statement M
-is-refused-spec = tie.close (tie.spec enum-told enum-told-2 returns returns-2)
+is-refused-spec = tie.close (tie.spec (λ c. search needs) (λ c. search needs) returns returns-2)

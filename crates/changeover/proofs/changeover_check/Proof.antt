@@ -1,25 +1,16 @@
-use Rattle.changeover.proofs.Bounds.{check-number, check-place}
+use Rattle.changeover.proofs.Bounds.{check-fits}
 use Rattle.changeover.proofs.Laws.{says-by}
 use borrow.Author.Needs.{needs}
 use Rattle.changeover.proofs.changeover_check.Statement.{statement}
 use Rattle.changeover.proofs.changeover_check.Tie as tie
 
-check-requires : tie.Need-check-requires
-check-requires c κs = search needs
-
 pack-requires : tie.Need-pack-requires
-pack-requires c κs = rw (c .before .before .check .ensures .says) (check-number _ _ _, check-place _ _ _)
-
-same-length : tie.Need-same-length
-same-length c = search needs
+pack-requires c κs = rw (c .before .before .check .ensures .says) (check-fits _ _ _)
 
 returns : tie.Need-returns
 returns c =
     let a = c .before .before .before .check .ensures in
-    record {
-      answer = says-by _ _ _ (a .says) (check-number _ _ _) (check-place _ _ _) (c .pack .ensures);
-      end = a .bytes;
-    }
+    record { answer = says-by _ _ _ (a .says) (check-fits _ _ _) (c .pack .ensures); end = a .bytes }
 
 pub changeover-check-spec : {M : Type 1} → statement M
-changeover-check-spec = tie.close (tie.spec check-requires pack-requires same-length returns)
+changeover-check-spec = tie.close (tie.spec (λ c κs. search needs) pack-requires (λ c. search needs) returns)

@@ -1,25 +1,16 @@
-use Rattle.changeover.proofs.Bounds.{learn-number, learn-place}
+use Rattle.changeover.proofs.Bounds.{learn-fits}
 use Rattle.changeover.proofs.Laws.{says-by}
 use borrow.Author.Needs.{needs}
 use Rattle.changeover.proofs.changeover_learn.Statement.{statement}
 use Rattle.changeover.proofs.changeover_learn.Tie as tie
 
-learn-requires : tie.Need-learn-requires
-learn-requires c κs = search needs
-
 pack-requires : tie.Need-pack-requires
-pack-requires c κs = rw (c .before .before .learn .ensures .says) (learn-number _ _, learn-place _ _)
-
-same-length : tie.Need-same-length
-same-length c = search needs
+pack-requires c κs = rw (c .before .before .learn .ensures .says) (learn-fits _ _)
 
 returns : tie.Need-returns
 returns c =
     let a = c .before .before .before .learn .ensures in
-    record {
-      answer = says-by _ _ _ (a .says) (learn-number _ _) (learn-place _ _) (c .pack .ensures);
-      sheet = a .bytes;
-    }
+    record { answer = says-by _ _ _ (a .says) (learn-fits _ _) (c .pack .ensures); sheet = a .bytes }
 
 pub changeover-learn-spec : {M : Type 1} → statement M
-changeover-learn-spec = tie.close (tie.spec learn-requires pack-requires same-length returns)
+changeover-learn-spec = tie.close (tie.spec (λ c κs. search needs) pack-requires (λ c. search needs) returns)

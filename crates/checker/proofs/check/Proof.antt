@@ -1,4 +1,4 @@
-use mathlib.Core.Path.{sym, ap, _∙_}
+use mathlib.Core.Path.{sym, _∙_}
 use Rattle.answer.specs.Turns.{is-good}
 use Rattle.learner.proofs.Book.{schema-own, form-good}
 use Rattle.checker.proofs.Carried.{carriable}

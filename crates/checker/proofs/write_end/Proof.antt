@@ -2,7 +2,7 @@ use mathlib.Core.Path.{_≡_, _∙_}
 use native.Mathlib.Omega.{arith}
 use denote.Ref.{now}
 use lib.ListN.{length}
-use Rattle.rulesheet.proofs.Written.{written-whole}
+use Rattle.output.proofs.Written.{written-whole}
 use borrow.Author.Needs.{needs}
 use Rattle.checker.proofs.write_end.Statement.{statement}
 use Rattle.checker.proofs.write_end.Tie as tie

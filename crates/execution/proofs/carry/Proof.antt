@@ -1,3 +1,4 @@
+-- `execution::carry` meets its contract: what the rest of the plan comes to from here is what the whole plan comes to.
 use Prim.Native.Nat.{_+_, _≤_}
 use native.Mathlib.Omega.{arith}
 use mathlib.Core.Path.{_≡_, refl, sym, _∙_}

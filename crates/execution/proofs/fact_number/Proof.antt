@@ -1,3 +1,4 @@
+-- `execution::fact_number` meets its contract.
 use borrow.Author.Needs.{needs}
 use Rattle.terms.specs.Facts.{factNumber}
 use Rattle.execution.proofs.fact_number.Statement.{statement}

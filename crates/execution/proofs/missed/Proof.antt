@@ -1,10 +1,11 @@
+-- `execution::missed` meets its contract: no entry so far is missed, so the first of the rest is the first of all.
 use Prim.Native.Nat.{_+_, _*_, _≤_}
 use native.Mathlib.Omega.{arith}
 use mathlib.Core.Path.{_≡_, sym, _∙_}
 use borrow.Author.Needs.{needs}
 use Rattle.format.specs.Order.{goalFrom}
 use Rattle.statemask.specs.Statemask.{missed}
-use Rattle.execution.proofs.Turns.{missedFrom, missed-whole, missed-none, missed-here, missed-more}
+use Rattle.execution.proofs.Goal.{missedFrom, missed-whole, missed-none, missed-here, missed-more}
 use Rattle.execution.proofs.missed.Statement.{statement}
 use Rattle.execution.proofs.missed.Tie as tie
 

@@ -1,5 +1,6 @@
+-- `execution::misses` meets its contract: what is wanted against the fact's bit.
 use borrow.Author.Needs.{needs}
-use Rattle.execution.proofs.Tests.{misses-by}
+use Rattle.execution.proofs.Goal.{misses-by}
 use Rattle.execution.proofs.misses.Statement.{statement}
 use Rattle.execution.proofs.misses.Tie as tie
 

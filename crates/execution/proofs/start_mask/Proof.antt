@@ -1,10 +1,11 @@
+-- `execution::start_mask` meets its contract: the rest of the facts put into the state give what all give from nothing.
 use Prim.Native.Nat.{_+_, _*_, _≤_}
 use native.Mathlib.Omega.{arith}
 use mathlib.Core.Path.{_≡_, sym, _∙_}
 use borrow.Author.Needs.{needs}
 use Rattle.format.specs.Decode.{factsAt}
 use Rattle.statemask.specs.Statemask.{withFacts, startMask}
-use Rattle.execution.proofs.Turns.{facts-none, facts-more}
+use Rattle.execution.proofs.Start.{facts-none, facts-more}
 use Rattle.execution.proofs.start_mask.Statement.{statement}
 use Rattle.execution.proofs.start_mask.Tie as tie
 

@@ -7,26 +7,8 @@ use borrow.Author.Needs.{needs}
 use Rattle.learner.proofs.learn.Statement.{statement}
 use Rattle.learner.proofs.learn.Tie as tie
 
-read-requires : tie.Need-read-requires
-read-requires c κs = search needs
-
-slice-aggregate-note-book : tie.Need-slice-aggregate-note-book
-slice-aggregate-note-book c = search needs
-
-note-book-requires : tie.Need-note-book-requires
-note-book-requires c κs = search needs
-
-is-refused-requires : tie.Need-is-refused-requires
-is-refused-requires c κs = search needs
-
 returns : tie.Need-returns
 returns c = learn-refused _ _ _ _ (c .before .before .before .note-book .ensures .says) (c .before .is-refused .ensures) (c .if1 .taken)
-
-cast-if2 : tie.Need-cast-if2
-cast-if2 c = search needs
-
-mul-if2 : tie.Need-mul-if2
-mul-if2 c = search needs
 
 returns-2 : tie.Need-returns-2
 returns-2 c =
@@ -37,9 +19,6 @@ returns-2 c =
     let g = sym (b .ensures .says) ∙ e in
     learn-size _ _ _ g (λ i. c .if2 .taken (i ∙ ap (λ n. 128 * n) (sym (moves-own _ _ own))))
 
-slice-aggregate-write-sheet : tie.Need-slice-aggregate-write-sheet
-slice-aggregate-write-sheet c = search needs
-
 write-sheet-requires : tie.Need-write-sheet-requires
 write-sheet-requires c κs =
     let x = c .before .before .before .before in
@@ -48,9 +27,6 @@ write-sheet-requires c κs =
     let e = is-good _ (sym (x .before .is-refused .ensures) ∙ x .if1 .left) in
     let g = sym (b .ensures .says) ∙ e in
     (c .before .before .if2 .left, rw (moves-own _ _ own) (moves-few _ _ (form-good _ _ g .1)), b .kept .1 .1 .0)
-
-same-length : tie.Need-same-length
-same-length c = search needs
 
 returns-3 : tie.Need-returns-3
 returns-3 c =
@@ -67,15 +43,15 @@ pub learn-spec : {M : Type 1} → statement M
 learn-spec =
     tie.close
     (tie.spec
-    read-requires
-    slice-aggregate-note-book
-    note-book-requires
-    is-refused-requires
+    (λ c κs. search needs)
+    (λ c. search needs)
+    (λ c κs. search needs)
+    (λ c κs. search needs)
     returns
-    cast-if2
-    mul-if2
+    (λ c. search needs)
+    (λ c. search needs)
     returns-2
-    slice-aggregate-write-sheet
+    (λ c. search needs)
     write-sheet-requires
-    same-length
+    (λ c. search needs)
     returns-3)

@@ -1,106 +1,60 @@
-use mathlib.Core.Path.{sym, _∙_}
-use Rattle.answer.specs.Turns.{is-good}
+-- `note_book` meets its contract: each return by the rows before it.
+use mathlib.Core.Path.{_∙_}
 use Rattle.wellformed.proofs.Headers.{moves-few}
-use Rattle.learner.proofs.Book.{refused-book, moves-own, torn-own, form-refused, at-stray, stray-refused, at-torn, torn-refused, book-good}
+use Rattle.learner.proofs.Book.{moves-own, at-form, formed, at-unbound, at-conflict, at-end}
 use borrow.Author.Needs.{needs}
 use Rattle.learner.proofs.note_book.Statement.{statement}
 use Rattle.learner.proofs.note_book.Tie as tie
 
-note-form-requires : tie.Need-note-form-requires
-note-form-requires c κs = search needs
-
-is-refused-requires : tie.Need-is-refused-requires
-is-refused-requires c κs = search needs
-
-same-length : tie.Need-same-length
-same-length c = search needs
-
 returns : tie.Need-returns
-returns c =
-    refused-book _ _ _ _ (c .before .is-refused .ensures) (c .if1 .taken)
-    (form-refused _ _ _ (c .before .before .before .before .note-form .ensures .says) (c .before .is-refused .ensures) (c .if1 .taken))
-
-stray-answer-requires : tie.Need-stray-answer-requires
-stray-answer-requires c κs = search needs
-
-is-refused-requires-2 : tie.Need-is-refused-requires-2
-is-refused-requires-2 c κs = search needs
-
-same-length-2 : tie.Need-same-length-2
-same-length-2 c = search needs
+returns c = at-form _ _ _ (c .before .before .before .before .note-form .ensures) _ (c .before .is-refused .ensures) (c .if1 .taken)
 
 returns-2 : tie.Need-returns-2
 returns-2 c =
     let x = c .before .before .before in
-    let f = x .before .before .before .before .note-form in
-    let e = is-good _ (sym (x .before .is-refused .ensures) ∙ x .if1 .left) in
-    let g = sym (f .ensures .says) ∙ e in
-    refused-book _ _ _ _ (c .before .is-refused2 .ensures) (c .if2 .taken)
-    (stray-refused _ _ g _ _ (at-stray _ _ g _ _ _ (f .ensures .holds _ e) (c .before .before .stray-answer .ensures)) (c .before .is-refused2 .ensures) (c .if2 .taken))
+    at-unbound _ _ _ (x .before .before .before .before .note-form .ensures) _ (x .before .is-refused .ensures) (x .if1 .left)
+    _ _ (c .before .before .unbound-answer .ensures) (c .before .is-refused2 .ensures) (c .if2 .taken)
 
-torn-answer-requires : tie.Need-torn-answer-requires
-torn-answer-requires c κs =
+conflict-among-requires : tie.Need-conflict-among-requires
+conflict-among-requires c κs =
     let x = c .before .before .before .before in
-    let f = x .before .before .before .before .note-form in
-    let e = is-good _ (sym (x .before .is-refused .ensures) ∙ x .if1 .left) in
-    let g = sym (f .ensures .says) ∙ e in
-    let p = c .before .before .before .before .before .before .before .before .before .before .before .before .pre in
-    (f .kept .1 .1 .0 ∙ p .1, rw (moves-own _ _ (p .0)) (moves-few _ _ g))
-
-is-refused-requires-3 : tie.Need-is-refused-requires-3
-is-refused-requires-3 c κs = search needs
-
-same-length-3 : tie.Need-same-length-3
-same-length-3 c = search needs
+    let f = x .before .before .before .before in
+    let p = f .before .before .before .before .pre in
+    (f .note-form .kept .1 .1 .0 ∙ p .1, rw (moves-own _ _ (p .0)) (moves-few _ _ (formed _ _ _ (f .note-form .ensures) _ (x .before .is-refused .ensures) (x .if1 .left))))
 
 returns-3 : tie.Need-returns-3
 returns-3 c =
-    let x = c .before .before .before .before .before .before .before in
-    let f = x .before .before .before .before .note-form in
-    let e = is-good _ (sym (x .before .is-refused .ensures) ∙ x .if1 .left) in
-    let g = sym (f .ensures .says) ∙ e in
     let y = c .before .before .before .before in
-    let p = x .before .before .before .before .before .before .before .before .pre .0 in
-    let h = f .ensures .holds _ e in
-    let k = at-stray _ _ g _ _ _ h (y .before .before .stray-answer .ensures) in
-    let t = at-torn _ _ g _ _ _ h (torn-own _ _ p _ _ (c .before .before .torn-answer .ensures)) in
-    refused-book _ _ _ _ (c .before .is-refused3 .ensures) (c .if3 .taken)
-    (torn-refused _ _ g _ _ _ _ k (y .before .is-refused2 .ensures) (y .if2 .left) t (c .before .is-refused3 .ensures) (c .if3 .taken))
-
-same-length-4 : tie.Need-same-length-4
-same-length-4 c = search needs
+    let x = y .before .before .before in
+    let f = x .before .before .before .before in
+    at-conflict _ _ _ (f .note-form .ensures) _ (x .before .is-refused .ensures) (x .if1 .left)
+    _ _ (y .before .before .unbound-answer .ensures) (y .before .is-refused2 .ensures) (y .if2 .left)
+    _ (f .before .before .before .before .pre .0) _ _ (c .before .before .conflict-among .ensures) (c .before .is-refused3 .ensures) (c .if3 .taken)
 
 returns-4 : tie.Need-returns-4
 returns-4 c =
-    let x = c .before .before .before .before .before .before .before in
-    let f = x .before .before .before .before .note-form in
-    let e = is-good _ (sym (x .before .is-refused .ensures) ∙ x .if1 .left) in
-    let g = sym (f .ensures .says) ∙ e in
     let y = c .before .before .before .before in
-    let p = x .before .before .before .before .before .before .before .before .pre .0 in
-    let h = f .ensures .holds _ e in
-    let k = at-stray _ _ g _ _ _ h (y .before .before .stray-answer .ensures) in
-    let t = at-torn _ _ g _ _ _ h (torn-own _ _ p _ _ (c .before .before .torn-answer .ensures)) in
-    record {
-      says = e ∙ book-good _ _ g _ _ _ _ k (y .before .is-refused2 .ensures) (y .if2 .left) t (c .before .is-refused3 .ensures) (c .if3 .left);
-      holds = λ m i. h .masks;
-    }
+    let x = y .before .before .before in
+    let f = x .before .before .before .before in
+    at-end _ _ _ (f .note-form .ensures) _ (x .before .is-refused .ensures) (x .if1 .left)
+    _ _ (y .before .before .unbound-answer .ensures) (y .before .is-refused2 .ensures) (y .if2 .left)
+    _ (f .before .before .before .before .pre .0) _ _ (c .before .before .conflict-among .ensures) (c .before .is-refused3 .ensures) (c .if3 .left)
 
 pub note-book-spec : {M : Type 1} → statement M
 note-book-spec =
     tie.close
     (tie.spec
-    note-form-requires
-    is-refused-requires
-    same-length
+    (λ c κs. search needs)
+    (λ c κs. search needs)
+    (λ c. search needs)
     returns
-    stray-answer-requires
-    is-refused-requires-2
-    same-length-2
+    (λ c κs. search needs)
+    (λ c κs. search needs)
+    (λ c. search needs)
     returns-2
-    torn-answer-requires
-    is-refused-requires-3
-    same-length-3
+    conflict-among-requires
+    (λ c κs. search needs)
+    (λ c. search needs)
     returns-3
-    same-length-4
+    (λ c. search needs)
     returns-4)

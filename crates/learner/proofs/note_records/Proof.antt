@@ -5,42 +5,34 @@ use borrow.Author.Needs.{needs}
 use lib.ListN.{length}
 use Rattle.answer.specs.Walk.{walk}
 use Rattle.terms.specs.Sections.{sectionsOf}
-use Rattle.format.specs.Limits.{maxLength}
+use Rattle.limits.specs.Limits.{maxLength, heldSize}
 use Rattle.format.specs.Records.{recordAt}
 use Rattle.format.specs.LookOver.{stepTotal}
 use Rattle.format.specs.Decode.{recordsFiled}
-use Rattle.held.specs.Held.{heldSize, holdAll}
+use Rattle.held.specs.Held.{holdAll}
 use Rattle.reader.specs.Reader.{record-by}
 use Rattle.answer.specs.Turns.{turn-none, turn-refused, turn-good}
-use Rattle.records.proofs.Laws.{record-within, all-refused, all-left, all-good, total-none, total-more}
+use Rattle.records.proofs.Laws.{all-refused, all-left, all-good, total-none, total-more}
+use Rattle.format.proofs.Records.{record-within}
 use Rattle.learner.proofs.Steps.{holding}
 use Rattle.learner.proofs.Records.{record-noteable, record-turn, records-done, refused-noted}
 use Rattle.learner.proofs.note_records.Statement.{statement}
 use Rattle.learner.proofs.note_records.Tie as tie
 
 abbrev Inv-loop : tie.InvT-loop
-Inv-loop s n from held₀ left₀ at₀ total₀ stray₀ held left at total stray =
+Inv-loop s n from held₀ left₀ at₀ total₀ named₀ held left at total named =
     (at ≤ maxLength)
     × (total + 255 * left ≤ 255 * n)
     × (walk (recordAt (sectionsOf s) s) left at ≡ walk (recordAt (sectionsOf s) s) n from)
     × (total + stepTotal s left at ≡ stepTotal s n from)
     × (length held ≡ heldSize)
-    × (holdAll (recordsFiled s left at) (holding held stray) ≡ holdAll (recordsFiled s n from) (holding held₀ 0))
+    × (holdAll (recordsFiled s left at) (holding held named) ≡ holdAll (recordsFiled s n from) (holding held₀ 0))
 
 abbrev μ-loop : tie.MeasureT-loop
-μ-loop s n from held₀ left₀ at₀ total₀ stray₀ held left at total stray = left
+μ-loop s n from held₀ left₀ at₀ total₀ named₀ held left at total named = left
 
 loop-holds : tie.Need-loop-holds Inv-loop μ-loop
 loop-holds c = let p = c .before .before .pre in (p .1, omega arith, refl, omega arith, p .4, refl)
-
-record-from-requires : tie.Need-record-from-requires Inv-loop μ-loop
-record-from-requires c κs = search needs
-
-enum-known-k : tie.Need-enum-known-k Inv-loop μ-loop
-enum-known-k c = search needs
-
-same-length : tie.Need-same-length Inv-loop μ-loop
-same-length c = search needs
 
 returns : tie.Need-returns Inv-loop μ-loop
 returns c =
@@ -51,9 +43,6 @@ returns c =
     (all-refused _ _ _ _ _ _
     (turn-refused _ _ _ _ _ _ _ (d .before .before .loop .inv .2) (d .before .loop-test .taken) r (c .before .k .given .1)))
 
-enum-known-next : tie.Need-enum-known-next Inv-loop μ-loop
-enum-known-next c = search needs
-
 note-record-requires : tie.Need-note-record-requires Inv-loop μ-loop
 note-record-requires c κs =
     let x = c .before .before in
@@ -62,24 +51,6 @@ note-record-requires c κs =
     let p = d .before .before .before .before .before .pre in
     let r = record-by _ _ _ refl (p .0) (i .0) (d .record-from .ensures) in
     (i .0, i .4, record-noteable _ _ (p .0) (p .3) _ _ (sym r ∙ x .next .given .1))
-
-add-byte-at : tie.Need-add-byte-at Inv-loop μ-loop
-add-byte-at c = search needs
-
-byte-at-requires : tie.Need-byte-at-requires Inv-loop μ-loop
-byte-at-requires c κs = search needs
-
-cast-total : tie.Need-cast-total Inv-loop μ-loop
-cast-total c = search needs
-
-add-total : tie.Need-add-total Inv-loop μ-loop
-add-total c = search needs
-
-sub-left : tie.Need-sub-left Inv-loop μ-loop
-sub-left c = search needs
-
-loop-less : tie.Need-loop-less Inv-loop μ-loop
-loop-less c = search needs
 
 loop-again : tie.Need-loop-again Inv-loop μ-loop
 loop-again c =
@@ -98,16 +69,10 @@ loop-again c =
       record-turn _ _ _ _ _ _ _ _ _ (d .before .loop-test .taken) (w .0) (c .before .before .before .note-record .ensures) (i .5),
     )
 
-same-length-2 : tie.Need-same-length-2 Inv-loop μ-loop
-same-length-2 c = search needs
-
 returns-2 : tie.Need-returns-2 Inv-loop μ-loop
 returns-2 c =
     refused-noted _ _ _ _ _ _ _ _ _
     (all-left _ _ _ _ _ (turn-none _ _ _ _ (c .before .before .loop .inv .2) (omega arith)) (c .if1 .taken))
-
-same-length-3 : tie.Need-same-length-3 Inv-loop μ-loop
-same-length-3 c = search needs
 
 returns-3 : tie.Need-returns-3 Inv-loop μ-loop
 returns-3 c =
@@ -124,20 +89,20 @@ note-records-spec =
     Inv-loop
     μ-loop
     loop-holds
-    record-from-requires
-    enum-known-k
-    same-length
+    (λ c κs. search needs)
+    (λ c. search needs)
+    (λ c. search needs)
     returns
-    enum-known-next
+    (λ c. search needs)
     note-record-requires
-    add-byte-at
-    byte-at-requires
-    cast-total
-    add-total
-    sub-left
-    loop-less
+    (λ c. search needs)
+    (λ c κs. search needs)
+    (λ c. search needs)
+    (λ c. search needs)
+    (λ c. search needs)
+    (λ c. search needs)
     loop-again
-    same-length-2
+    (λ c. search needs)
     returns-2
-    same-length-3
+    (λ c. search needs)
     returns-3)

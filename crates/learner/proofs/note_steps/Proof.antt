@@ -2,21 +2,22 @@ use borrow.Author.Needs.{needs}
 use native.Mathlib.Omega.{arith}
 use mathlib.Core.Path.{_≡_, refl, _∙_}
 use lib.ListN.{length}
+use Rattle.limits.specs.Limits.{heldSize}
 use Rattle.format.specs.Decode.{filedAt}
-use Rattle.held.specs.Held.{heldSize, holdAll}
+use Rattle.held.specs.Held.{holdAll}
 use Rattle.learner.specs.Learner.{Noteable}
 use Rattle.learner.proofs.Steps.{holding, step-turn, steps-done, noteable-at, noteable-next}
 use Rattle.learner.proofs.note_steps.Statement.{statement}
 use Rattle.learner.proofs.note_steps.Tie as tie
 
 abbrev Inv-loop : tie.InvT-loop
-Inv-loop s n from held₀ stray left₀ at₀ first₀ held left at first =
+Inv-loop s n from held₀ named left₀ at₀ first₀ held left at first =
     (length held ≡ heldSize)
     × Noteable s left at
-    × (holdAll (filedAt s left at) (holding held first) ≡ holdAll (filedAt s n from) (holding held₀ stray))
+    × (holdAll (filedAt s left at) (holding held first) ≡ holdAll (filedAt s n from) (holding held₀ named))
 
 abbrev μ-loop : tie.MeasureT-loop
-μ-loop s n from held₀ stray left₀ at₀ first₀ held left at first = left
+μ-loop s n from held₀ named left₀ at₀ first₀ held left at first = left
 
 loop-holds : tie.Need-loop-holds Inv-loop μ-loop
 loop-holds c = (c .before .before .pre .0, c .before .before .pre .1, refl)
@@ -31,15 +32,6 @@ hold-requires c κs =
     let a = noteable-at _ _ _ (d .before .loop .inv .1) in
     ((omega arith, omega (arith, m .0), d .before .loop .inv .0), ((m .1, m .2), (a .1, noteable-at _ _ _ (m .3) .1)))
 
-add-at : tie.Need-add-at Inv-loop μ-loop
-add-at c = search needs
-
-sub-left : tie.Need-sub-left Inv-loop μ-loop
-sub-left c = search needs
-
-loop-less : tie.Need-loop-less Inv-loop μ-loop
-loop-less c = search needs
-
 loop-again : tie.Need-loop-again Inv-loop μ-loop
 loop-again c =
     let d = c .before .before .before .before .before in
@@ -49,9 +41,6 @@ loop-again c =
       noteable-next _ _ _ _ (d .loop-test .taken) e (i .1) .3,
       step-turn _ _ _ _ _ _ _ _ _ (d .loop-test .taken) e (c .before .before .hold .ensures) (i .2),
     )
-
-same-length : tie.Need-same-length Inv-loop μ-loop
-same-length c = search needs
 
 returns : tie.Need-returns Inv-loop μ-loop
 returns c = steps-done _ _ _ _ _ _ (omega arith) (c .before .loop .inv .2)
@@ -65,9 +54,9 @@ note-steps-spec =
     loop-holds
     state-end-requires
     hold-requires
-    add-at
-    sub-left
-    loop-less
+    (λ c. search needs)
+    (λ c. search needs)
+    (λ c. search needs)
     loop-again
-    same-length
+    (λ c. search needs)
     returns)

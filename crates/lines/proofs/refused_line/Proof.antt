@@ -28,15 +28,19 @@ slice-aggregate-put-3 c = search needs
 put-requires-3 : tie.Need-put-requires-3
 put-requires-3 c κs = search needs
 
+same-length : tie.Need-same-length
+same-length c = search needs
+
 returns : tie.Need-returns
 unfolding refusedLine
 returns c =
-    let place = c .before .before .before in
-    let space = place .before .before in
-    let number = space .before .before .before in
-    let word = number .before .before in (
-      c .put3 .ensures .0 .1,
-      rw (c .put3 .ensures .1, place .put-decimal2 .ensures .1, space .put2 .ensures .1, number .put-decimal .ensures .1, word .put .ensures .1),
+    let end = c .before .before in
+    let place = end .before .before .before .before .before in
+    let space = place .before .before .before .before in
+    let number = space .before .before .before .before .before in
+    let word = number .before .before .before .before in (
+      end .put3 .ensures .0 .1,
+      rw (end .put3 .ensures .1, place .put-decimal2 .ensures .1, space .put2 .ensures .1, number .put-decimal .ensures .1, word .put .ensures .1),
     )
 
 pub refused-line-spec : {M : Type 1} → statement M
@@ -51,4 +55,5 @@ refused-line-spec =
     put-decimal-requires-2
     slice-aggregate-put-3
     put-requires-3
+    same-length
     returns)

@@ -1,7 +1,7 @@
 -- `look_over` meets its contract: rows 1 to 5, by which the records are within bounds, then the records.
 use mathlib.Core.Path.{sym, _∙_}
 use native.Mathlib.Omega.{arith}
-use Rattle.sections.proofs.Laws.{sections-good}
+use Rattle.format.proofs.Header.{sections-good}
 use Rattle.answer.specs.Turns.{is-good}
 use Rattle.lookover.proofs.Laws.{records-own, look-over-stays, look-over-records}
 use borrow.Author.Needs.{needs}

@@ -5,12 +5,13 @@ use native.Mathlib.Omega.{arith}
 use borrow.Author.Needs.{needs}
 use Rattle.answer.specs.Walk.{walk}
 use Rattle.terms.specs.Sections.{sectionsOf}
-use Rattle.format.specs.Limits.{maxLength}
+use Rattle.limits.specs.Limits.{maxLength}
 use Rattle.format.specs.Records.{recordAt}
 use Rattle.format.specs.LookOver.{stepTotal}
 use Rattle.reader.specs.Reader.{record-by}
 use Rattle.answer.specs.Turns.{turn-none, turn-refused, turn-good}
-use Rattle.records.proofs.Laws.{record-within, all-refused, all-left, all-good, total-none, total-more}
+use Rattle.records.proofs.Laws.{all-refused, all-left, all-good, total-none, total-more}
+use Rattle.format.proofs.Records.{record-within}
 use Rattle.lookover.proofs.records.Statement.{statement}
 use Rattle.lookover.proofs.records.Tie as tie
 

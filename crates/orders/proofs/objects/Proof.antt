@@ -1,12 +1,15 @@
 -- `objects` meets its contract: the objects still left answer as all of them do.
 use Prim.Native.Nat.{_+_, _≤_}
-use mathlib.Core.Path.{_≡_, refl, sym, _∙_}
+use mathlib.Core.Path.{_≡_, refl}
 use native.Mathlib.Omega.{arith}
 use borrow.Author.Needs.{needs}
-use Rattle.answer.specs.Walk.{walk, walk-none}
-use Rattle.format.specs.Limits.{headerSize}
+use Rattle.answer.specs.Walk.{walk}
+use Rattle.answer.specs.Turns.{turn-none}
+use Rattle.answer.specs.Entries.{entry-refused, entry-good}
+use Rattle.limits.specs.Limits.{headerSize}
 use Rattle.format.specs.Order.{objectCount, orderObject}
-use Rattle.orders.proofs.Turns.{object-refused, object-good, walk-same}
+use Rattle.format.proofs.Orders.{order-object-entry}
+use Rattle.orders.proofs.Tests.{walk-same, object-bad-by}
 use Rattle.orders.proofs.objects.Statement.{statement}
 use Rattle.orders.proofs.objects.Tie as tie
 
@@ -32,8 +35,8 @@ number-bad-requires c κs = search needs
 returns : tie.Need-returns Inv-loop μ-loop
 returns c =
     let d = c .before .before in
-    sym (object-refused _ _ _ _ _ _ (d .before .loop-test .taken) (d .byte-at .ensures) (c .before .number-bad .ensures) (c .if1 .taken))
-    ∙ d .before .before .loop .inv .1
+    entry-refused _ _ 15 1 (order-object-entry _ _) _ _ _ _ (d .before .before .loop .inv .1) (d .before .loop-test .taken)
+    (object-bad-by _ _ _ _ _ (d .byte-at .ensures) (c .before .number-bad .ensures)) (c .if1 .taken)
 
 add-at : tie.Need-add-at Inv-loop μ-loop
 add-at c = search needs
@@ -46,12 +49,14 @@ loop-less c = search needs
 
 loop-again : tie.Need-loop-again Inv-loop μ-loop
 loop-again c =
-    let d = c .before .before in
-    let good = object-good _ _ _ _ _ _ (d .before .loop-test .taken) (d .byte-at .ensures) (c .before .number-bad .ensures) (c .if1 .left) in
-    (omega arith, sym good ∙ d .before .before .loop .inv .1)
+    let d = c .before .before in (
+      omega arith,
+      entry-good _ _ 15 1 (order-object-entry _ _) _ _ _ _ (d .before .before .loop .inv .1) (d .before .loop-test .taken)
+          (object-bad-by _ _ _ _ _ (d .byte-at .ensures) (c .before .number-bad .ensures)) (c .if1 .left),
+    )
 
 returns-2 : tie.Need-returns-2 Inv-loop μ-loop
-returns-2 c = sym (walk-none _ _ _ (omega arith)) ∙ c .before .loop .inv .1
+returns-2 c = turn-none _ _ _ _ (c .before .loop .inv .1) (omega arith)
 
 pub objects-spec : {M : Type 1} → statement M
 objects-spec =

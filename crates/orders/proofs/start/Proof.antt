@@ -1,15 +1,9 @@
--- `start` meets its contract, by what `states::facts` says and a table that is right.
-use Rattle.tables.specs.Tables.{ForTabled, Follows}
+-- `start` meets its contract, by what `states::facts` says.
+use Rattle.tables.specs.Tables.{ForTabled}
 use Rattle.orders.proofs.Tests.{start-by}
 use borrow.Author.Needs.{needs}
 use Rattle.orders.proofs.start.Statement.{statement}
 use Rattle.orders.proofs.start.Tie as tie
-
-kinds-of-requires : tie.Need-kinds-of-requires
-kinds-of-requires c κs = search needs
-
-table-of-requires : tie.Need-table-of-requires
-table-of-requires c κs = search needs
 
 start-count-requires : tie.Need-start-count-requires
 start-count-requires c κs = search needs
@@ -24,21 +18,11 @@ facts-requires : tie.Need-facts-requires
 facts-requires c κs = search needs
 
 returns : tie.Need-returns
-unfolding ForTabled Follows
-returns c =
-    let f = c .before .before .before .before in
-    let k = f .before .before in
-    start-by _ _ _ _ _ _ (c .before .before .start-count .ensures) (c .before .start-at .ensures .0)
-    (c .facts .ensures _ _ (f .table-of .ensures _ (k .kinds-of .ensures)))
+unfolding ForTabled
+returns c sch hl right =
+    start-by _ _ _ _ _ _ (c .before .before .start-count .ensures) (c .before .start-at .ensures .0) (c .facts .ensures sch hl right)
 
 pub start-spec : {M : Type 1} → statement M
 start-spec =
     tie.close
-    (tie.spec
-    kinds-of-requires
-    table-of-requires
-    start-count-requires
-    cast-facts
-    start-at-requires
-    facts-requires
-    returns)
+    (tie.spec start-count-requires cast-facts start-at-requires facts-requires returns)

@@ -2,7 +2,8 @@
 use mathlib.Core.Path.{sym, _∙_}
 use borrow.Author.Needs.{needs}
 use borrow.Author.Tests.{ltb-false}
-use Rattle.answer.specs.Laws.{neither, refuse-met, refuse-unmet}
+use Rattle.truth.specs.Bools.{neither}
+use Rattle.answer.specs.Laws.{refuse-met, refuse-unmet}
 use Rattle.reader.specs.Reader.{recordFrom}
 use Rattle.reader.proofs.record_of.Statement.{statement}
 use Rattle.reader.proofs.record_of.Tie as tie

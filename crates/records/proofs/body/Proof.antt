@@ -2,7 +2,7 @@
 use mathlib.Core.Path.{sym, _∙_}
 use native.Mathlib.Omega.{arith}
 use Rattle.answer.specs.Turns.{is-good}
-use Rattle.records.proofs.Parts.{objects-end}
+use Rattle.format.proofs.Records.{objects-end}
 use Rattle.records.proofs.Laws.{body-stays, body-rest}
 use Rattle.format.specs.Records.{objectsIn}
 use Rattle.tables.specs.Tables.{Follows}
@@ -63,8 +63,10 @@ trajectory-requires c κs =
     let v = c .value-of .ensures in
     let b = d .before .before .before .before in
     let p = b .before .before .pre in
-    let n = b .byte-at .ensures in
-    (p .2, omega arith, omega arith, k .kinds-of .ensures, g .table-of .ensures _ (k .kinds-of .ensures))
+    let n = b .byte-at .ensures in (
+      record { within = p .2; short = omega arith; kinds = k .kinds-of .ensures; table = g .table-of .ensures _ (k .kinds-of .ensures) },
+      omega arith,
+    )
 
 closed-requires : tie.Need-closed-requires
 closed-requires c κs = search needs

@@ -5,8 +5,10 @@ use native.Mathlib.Omega.{arith}
 use borrow.Author.Needs.{needs}
 use Rattle.answer.specs.Walk.{walk}
 use Rattle.format.specs.Records.{object}
-use Rattle.records.proofs.Parts.{object-refused, object-good}
-use Rattle.answer.specs.Turns.{turn-none, turn-refused, turn-good}
+use Rattle.records.proofs.Parts.{object-bad-by}
+use Rattle.format.proofs.Records.{object-entry}
+use Rattle.answer.specs.Turns.{turn-none}
+use Rattle.answer.specs.Entries.{entry-refused, entry-good}
 use Rattle.records.proofs.objects.Statement.{statement}
 use Rattle.records.proofs.objects.Tie as tie
 
@@ -31,8 +33,8 @@ number-bad-requires c κs = search needs
 returns : tie.Need-returns Inv-loop μ-loop
 returns c =
     let d = c .before .before .before in
-    turn-refused _ _ _ _ _ _ _ (d .before .loop .inv .1) (d .loop-test .taken) refl
-    (object-refused _ _ _ _ _ _ (c .before .before .byte-at .ensures) (c .before .number-bad .ensures) (c .if1 .taken))
+    entry-refused _ _ 7 1 (object-entry _ _ _) _ _ _ _ (d .before .loop .inv .1) (d .loop-test .taken)
+    (object-bad-by _ _ _ _ _ _ (c .before .before .byte-at .ensures) (c .before .number-bad .ensures)) (c .if1 .taken)
 
 add-at : tie.Need-add-at Inv-loop μ-loop
 add-at c = search needs
@@ -47,8 +49,8 @@ loop-again : tie.Need-loop-again Inv-loop μ-loop
 loop-again c =
     let d = c .before .before .before in (
       omega arith,
-      turn-good _ _ _ _ _ _ (d .before .loop .inv .1) (d .loop-test .taken) refl
-          (object-good _ _ _ _ _ _ (c .before .before .byte-at .ensures) (c .before .number-bad .ensures) (c .if1 .left)),
+      entry-good _ _ 7 1 (object-entry _ _ _) _ _ _ _ (d .before .loop .inv .1) (d .loop-test .taken)
+          (object-bad-by _ _ _ _ _ _ (c .before .before .byte-at .ensures) (c .before .number-bad .ensures)) (c .if1 .left),
     )
 
 returns-2 : tie.Need-returns-2 Inv-loop μ-loop

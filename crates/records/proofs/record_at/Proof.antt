@@ -2,7 +2,8 @@
 use Rattle.format.specs.Records.{lengthIn}
 use mathlib.Core.Path.{sym, _∙_}
 use native.Mathlib.Omega.{arith}
-use Rattle.records.proofs.Laws.{head-limits, head-objects, record-refused, record-body}
+use Rattle.format.proofs.Records.{head-limits, head-objects}
+use Rattle.records.proofs.Laws.{record-refused, record-body}
 use borrow.Author.Needs.{needs}
 use Rattle.records.proofs.record_at.Statement.{statement}
 use Rattle.records.proofs.record_at.Tie as tie

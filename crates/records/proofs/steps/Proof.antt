@@ -6,17 +6,18 @@ use borrow.Author.Needs.{needs}
 use Rattle.answer.specs.Walk.{walk}
 use Rattle.terms.specs.Schema.{schema, hall}
 use Rattle.format.specs.Records.{step}
-use Rattle.records.proofs.Parts.{step-within}
+use Rattle.format.proofs.Records.{step-within}
 use Rattle.answer.specs.Turns.{turn-none, turn-refused, turn-good}
 use Rattle.records.proofs.steps.Statement.{statement}
 use Rattle.records.proofs.steps.Tie as tie
 
 abbrev Inv-loop : tie.InvT-loop
-Inv-loop book h objects kinds table end n from left₀ at₀ left at =
-    (at ≤ 90000) × (walk (step (schema h book) (hall objects book) book end) left at ≡ walk (step (schema h book) (hall objects book) book end) n from)
+Inv-loop book scope kinds table from left₀ at₀ left at =
+    let one = step (schema (scope .h) book) (hall (scope .objects) book) book (scope .end) in
+    (at ≤ 90000) × (walk one left at ≡ walk one (scope .steps) from)
 
 abbrev μ-loop : tie.MeasureT-loop
-μ-loop book h objects kinds table end n from left₀ at₀ left at = left
+μ-loop book scope kinds table from left₀ at₀ left at = left
 
 loop-holds : tie.Need-loop-holds Inv-loop μ-loop
 loop-holds c = (c .before .pre .1, refl)

@@ -3,27 +3,6 @@ use Rattle.sections.proofs.Tests.{relation-bad-by}
 use Rattle.sections.proofs.relation_bad.Statement.{statement}
 use Rattle.sections.proofs.relation_bad.Tie as tie
 
-byte-at-requires : tie.Need-byte-at-requires
-byte-at-requires c κs = search needs
-
-add-kind-bad : tie.Need-add-kind-bad
-add-kind-bad c = search needs
-
-kind-bad-requires : tie.Need-kind-bad-requires
-kind-bad-requires c κs = search needs
-
-add-kind-bad-2 : tie.Need-add-kind-bad-2
-add-kind-bad-2 c = search needs
-
-kind-bad-requires-2 : tie.Need-kind-bad-requires-2
-kind-bad-requires-2 c κs = search needs
-
-add-byte-at : tie.Need-add-byte-at
-add-byte-at c = search needs
-
-byte-at-requires-2 : tie.Need-byte-at-requires-2
-byte-at-requires-2 c κs = search needs
-
 returns : tie.Need-returns
 returns c =
     let d = c .before .before in
@@ -33,11 +12,11 @@ pub relation-bad-spec : {M : Type 1} → statement M
 relation-bad-spec =
     tie.close
     (tie.spec
-    byte-at-requires
-    add-kind-bad
-    kind-bad-requires
-    add-kind-bad-2
-    kind-bad-requires-2
-    add-byte-at
-    byte-at-requires-2
+    (λ c κs. search needs)
+    (λ c. search needs)
+    (λ c κs. search needs)
+    (λ c. search needs)
+    (λ c κs. search needs)
+    (λ c. search needs)
+    (λ c κs. search needs)
     returns)

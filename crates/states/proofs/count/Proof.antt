@@ -4,18 +4,6 @@ use borrow.Author.Needs.{needs}
 use Rattle.states.proofs.count.Statement.{statement}
 use Rattle.states.proofs.count.Tie as tie
 
-shared-slice-read-joined : tie.Need-shared-slice-read-joined
-shared-slice-read-joined c = search needs
-
-add-joined : tie.Need-add-joined
-add-joined c = search needs
-
-shared-slice-read-joined-2 : tie.Need-shared-slice-read-joined-2
-shared-slice-read-joined-2 c = search needs
-
-joined-requires : tie.Need-joined-requires
-joined-requires c κs = search needs
-
 returns : tie.Need-returns
 unfolding two byteAt
 returns c = c .joined .ensures
@@ -24,8 +12,8 @@ pub count-spec : {M : Type 1} → statement M
 count-spec =
     tie.close
     (tie.spec
-    shared-slice-read-joined
-    add-joined
-    shared-slice-read-joined-2
-    joined-requires
+    (λ c. search needs)
+    (λ c. search needs)
+    (λ c. search needs)
+    (λ c κs. search needs)
     returns)

@@ -4,17 +4,11 @@ use borrow.Author.Needs.{needs}
 use Rattle.states.proofs.count_bad.Statement.{statement}
 use Rattle.states.proofs.count_bad.Tie as tie
 
-add-if1 : tie.Need-add-if1
-add-if1 c = search needs
-
 returns : tie.Need-returns
 returns c = count-cut _ _ _ (c .if1 .taken)
-
-count-requires : tie.Need-count-requires
-count-requires c κs = search needs
 
 returns-2 : tie.Need-returns-2
 returns-2 c = count-whole _ _ _ _ (c .before .if1 .left) (c .count .ensures)
 
 pub count-bad-spec : {M : Type 1} → statement M
-count-bad-spec = tie.close (tie.spec add-if1 returns count-requires returns-2)
+count-bad-spec = tie.close (tie.spec (λ c. search needs) returns (λ c κs. search needs) returns-2)

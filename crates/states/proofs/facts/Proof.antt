@@ -6,9 +6,6 @@ use borrow.Author.Needs.{needs}
 use Rattle.states.proofs.facts.Statement.{statement}
 use Rattle.states.proofs.facts.Tie as tie
 
-keyed-requires : tie.Need-keyed-requires
-keyed-requires c κs = search needs
-
 returns : tie.Need-returns
 unfolding ForTabled
 returns c sch hl right =
@@ -16,4 +13,4 @@ returns c sch hl right =
     c .keyed .ensures ∙ keyed-all sch hl _ _ _ (λ i. d .shared-slice-known .given i .fits) right _ _ _
 
 pub facts-spec : {M : Type 1} → statement M
-facts-spec = tie.close (tie.spec keyed-requires returns)
+facts-spec = tie.close (tie.spec (λ c κs. search needs) returns)

@@ -3,9 +3,10 @@ use Prim.Native.Nat.{_+_, _*_, _≤_}
 use mathlib.Core.Path.{_≡_, sym, _∙_}
 use native.Mathlib.Omega.{arith}
 use borrow.Author.Needs.{needs}
-use Rattle.format.specs.Limits.{factSize}
+use Rattle.limits.specs.Limits.{factSize}
+use Rattle.format.proofs.Chains.{chain-same, chain-none, chain-refused, chain-good}
 use Rattle.states.specs.Keyed.{keyed}
-use Rattle.states.proofs.Keys.{keyed-none, keyed-refused, keyed-good, keyed-same, key-within}
+use Rattle.states.proofs.Keys.{keyed-chain, key-within}
 use Rattle.states.proofs.keyed.Statement.{statement}
 use Rattle.states.proofs.keyed.Tie as tie
 
@@ -17,39 +18,30 @@ Inv-loop number t table end n from c₀ c =
 abbrev μ-loop : tie.MeasureT-loop
 μ-loop number t table end n from c₀ c = c .left
 
-new-requires : tie.Need-new-requires Inv-loop μ-loop
-new-requires c κs = search needs
-
 loop-holds : tie.Need-loop-holds Inv-loop μ-loop
-loop-holds c = let e = c .new .ensures in (omega arith, keyed-same _ _ _ _ _ _ _ _ _ _ (e .0) (e .1) (e .2))
-
-bad-requires : tie.Need-bad-requires Inv-loop μ-loop
-bad-requires c κs = search needs
+loop-holds c = let e = c .new .ensures in (omega arith, chain-same (keyed-chain _ _ _ _) (e .0) (e .1) (e .2))
 
 returns : tie.Need-returns Inv-loop μ-loop
 returns c =
     let d = c .before .before in
-    sym (keyed-refused _ _ _ _ _ _ _ (d .if1 .taken) (sym (c .before .bad .ensures) ∙ c .if2 .taken)) ∙ d .before .before .loop .inv .1
+    chain-refused (keyed-chain _ _ _ _) (d .before .before .loop .inv .1) (d .if1 .taken) (c .before .bad .ensures) (c .if2 .taken)
 
 next-requires : tie.Need-next-requires Inv-loop μ-loop
 next-requires c κs =
     let w = key-within _ _ _ _ _ (sym (c .before .bad .ensures) ∙ c .if2 .left) in
     (omega arith, omega arith, omega arith)
 
-loop-less : tie.Need-loop-less Inv-loop μ-loop
-loop-less c = search needs
-
 loop-again : tie.Need-loop-again Inv-loop μ-loop
 loop-again c =
     let d = c .before .before .before in
-    let e = c .next .ensures in
-    let g = sym (c .before .before .bad .ensures) ∙ c .before .if2 .left in (
+    let e = c .next .ensures in (
       omega arith,
-      keyed-same _ _ _ _ _ _ _ _ _ _ (e .0) (e .1) (e .2) ∙ sym (keyed-good _ _ _ _ _ _ _ (d .if1 .taken) g) ∙ d .before .before .loop .inv .1,
+      chain-same (keyed-chain _ _ _ _) (e .0) (e .1) (e .2)
+          ∙ chain-good (keyed-chain _ _ _ _) (d .before .before .loop .inv .1) (d .if1 .taken) (c .before .before .bad .ensures) (c .before .if2 .left),
     )
 
 returns-2 : tie.Need-returns-2 Inv-loop μ-loop
-returns-2 c = sym (keyed-none _ _ _ _ _ _ _ (omega arith)) ∙ c .before .before .loop .inv .1
+returns-2 c = chain-none (keyed-chain _ _ _ _) (c .before .before .loop .inv .1) (omega arith)
 
 pub keyed-spec : {M : Type 1} → statement M
 keyed-spec =
@@ -57,11 +49,11 @@ keyed-spec =
     (tie.spec
     Inv-loop
     μ-loop
-    new-requires
+    (λ c κs. search needs)
     loop-holds
-    bad-requires
+    (λ c κs. search needs)
     returns
     next-requires
-    loop-less
+    (λ c. search needs)
     loop-again
     returns-2)

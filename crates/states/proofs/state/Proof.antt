@@ -1,14 +1,12 @@
 -- `state` meets its contract, by what `count_bad` and `facts` say.
 use mathlib.Core.Path.{sym, _∙_}
 use native.Mathlib.Omega.{arith}
-use Rattle.states.proofs.Laws.{count-within, state-refused, state-facts}
+use Rattle.format.proofs.States.{count-within}
+use Rattle.states.proofs.Laws.{state-refused, state-facts}
 use Rattle.tables.specs.Tables.{ForTabled}
 use borrow.Author.Needs.{needs}
 use Rattle.states.proofs.state.Statement.{statement}
 use Rattle.states.proofs.state.Tie as tie
-
-count-bad-requires : tie.Need-count-bad-requires
-count-bad-requires c κs = search needs
 
 returns : tie.Need-returns
 unfolding ForTabled
@@ -18,12 +16,6 @@ count-requires : tie.Need-count-requires
 count-requires c κs =
     let w = count-within _ _ _ (sym (c .before .count-bad .ensures) ∙ c .if1 .left) in
     (omega arith, omega arith)
-
-cast-facts : tie.Need-cast-facts
-cast-facts c = search needs
-
-add-facts : tie.Need-add-facts
-add-facts c = search needs
 
 facts-requires : tie.Need-facts-requires
 facts-requires c κs =
@@ -41,10 +33,10 @@ pub state-spec : {M : Type 1} → statement M
 state-spec =
     tie.close
     (tie.spec
-    count-bad-requires
+    (λ c κs. search needs)
     returns
     count-requires
-    cast-facts
-    add-facts
+    (λ c. search needs)
+    (λ c. search needs)
     facts-requires
     returns-2)

@@ -4,20 +4,8 @@ use borrow.Author.Needs.{needs}
 use Rattle.states.proofs.FactCursor.bad.Statement.{statement}
 use Rattle.states.proofs.FactCursor.bad.Tie as tie
 
-add-if1 : tie.Need-add-if1
-add-if1 c = search needs
-
 returns : tie.Need-returns
 returns c = key-cut _ _ _ _ _ (c .if1 .taken)
-
-read-requires : tie.Need-read-requires
-read-requires c κs = search needs
-
-fact-bad-requires : tie.Need-fact-bad-requires
-fact-bad-requires c κs = search needs
-
-key-requires : tie.Need-key-requires
-key-requires c κs = search needs
 
 returns-2 : tie.Need-returns-2
 returns-2 c =
@@ -27,4 +15,4 @@ returns-2 c =
 
 pub bad-spec : {M : Type 1} → statement M
 bad-spec =
-    tie.close (tie.spec add-if1 returns read-requires fact-bad-requires key-requires returns-2)
+    tie.close (tie.spec (λ c. search needs) returns (λ c κs. search needs) (λ c κs. search needs) (λ c κs. search needs) returns-2)

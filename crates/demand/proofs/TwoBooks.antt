@@ -1,0 +1,92 @@
+-- Two books that show the same of a move give it the same row: the same steps, or steps with their objects renumbered.
+use Prim.Native.Nat.{ℕ, _+_, _-_, _≤_}
+use mathlib.Core.Path.{_≡_, sym, ap, ap₂, _∙_, subst}
+use mathlib.Core.List.{List}
+use native.Mathlib.Omega.{arith}
+use Rattle.terms.specs.Steps.{ground}
+use Rattle.format.specs.Decode.{Filed}
+use Rattle.model.specs.Quantify.{Mem}
+use Rattle.model.specs.Domain.{Domain, Transition}
+use Rattle.model.specs.Learned.{learned}
+use Rattle.model.specs.Alike.{Alike, SameRow}
+use Rattle.model.proofs.Row.{alike-sym, precondition-same, effect-same}
+use Rattle.jobs.specs.Planning.{domain, holding, groundAction, transition, schemaOf, filedIn, transitionsOf}
+use Rattle.jobs.specs.Learn.{learnedFrom, ruleRow, ruleSheet}
+use Rattle.wellformed.proofs.Lists.{mem-map-out, mem-map-in}
+use Rattle.demand.specs.TwoBooks.{SameStep, SameSteps, rowOf, SameStepsSameRow}
+use Rattle.demand.proofs.Agree.{Agree, ground-same, domain-same, schemas-agree}
+use Rattle.demand.proofs.Sheet.{row-part, row-same}
+
+module _ (s t : List ℕ) (agree : Agree (schemaOf s) (schemaOf t)) where
+  -- a filed step of the one book shows what a filed step of the other shows
+  abbrev pub AlikeFiled : Filed → Filed → Type 0
+  AlikeFiled f g = Alike (domain (schemaOf s)) (transition (schemaOf s) f) (transition (schemaOf t) g)
+
+  -- each filed step of move a has one alike in the other book
+  pub record AlikeSteps (a : ℕ) : Type 0 where
+    pub forth : (f : Filed) → Mem f (filedIn s) → f .step .action .0 ≡ a → (g : Filed) × Mem g (filedIn t) × AlikeFiled f g
+    pub back : (g : Filed) → Mem g (filedIn t) → g .step .action .0 ≡ a → (f : Filed) × Mem f (filedIn s) × AlikeFiled f g
+
+  row-of-alike : (a : ℕ) → AlikeSteps a → SameRow (domain (schemaOf s)) a (transitionsOf s) (transitionsOf t)
+  unfolding transitionsOf transition groundAction
+  row-of-alike a h =
+      record {
+        forth = λ u m e.
+            let (f, k, q) = mem-map-out (transition (schemaOf s)) (filedIn s) m in
+            let (g, l, alike) = h .forth f k (subst (λ (v : Transition). v .step .action ≡ a) (sym q) e) in (
+              transition (schemaOf t) g,
+              mem-map-in (transition (schemaOf t)) (filedIn t) l,
+              subst (λ (v : Transition). Alike (domain (schemaOf s)) v (transition (schemaOf t) g)) q alike,
+            );
+        back = λ u m e.
+            let (g, k, q) = mem-map-out (transition (schemaOf t)) (filedIn t) m in
+            let (f, l, alike) = h .back g k (subst (λ (v : Transition). v .step .action ≡ a) (sym q) e) in (
+              transition (schemaOf s) f,
+              mem-map-in (transition (schemaOf s)) (filedIn s) l,
+              subst (λ (v : Transition). Alike (domain (schemaOf s)) v (transition (schemaOf s) f)) q
+                  (alike-sym (domain (schemaOf s)) (transition (schemaOf s) f) (transition (schemaOf t) g) alike),
+            );
+      }
+
+  -- Such books give the move the same row.
+  pub same-row : (a : ℕ) → AlikeSteps a → ruleRow (learnedFrom s) a ≡ ruleRow (learnedFrom t) a
+  unfolding learnedFrom
+  same-row a h =
+      let row = row-of-alike a h in
+      let D : Domain = domain (schemaOf s) in
+      row-same (learned D (transitionsOf s)) (learned D (transitionsOf t)) a (precondition-same D a (transitionsOf s) (transitionsOf t) row)
+      (effect-same D a (transitionsOf s) (transitionsOf t) row)
+      ∙ ap (λ (E : Domain). ruleRow (learned E (transitionsOf t)) a) (domain-same (schemaOf s) (schemaOf t) agree)
+
+  -- ---- the same steps
+  alike-of-same : (f g : Filed) → SameStep f g → AlikeFiled f g
+  unfolding transition groundAction domain
+  alike-of-same f g h =
+      record {
+        action = ap (λ x. x .action .0) (h .step);
+        was = λ n atom.
+            ap₂ holding (h .pre) (ap (λ x. ground (schemaOf s) (x .binding) n) (h .step) ∙ ground-same (schemaOf s) (schemaOf t) agree (g .step .binding) (f .step .action .0) n atom);
+        got = λ n atom.
+            ap₂ holding (h .post) (ap (λ x. ground (schemaOf s) (x .binding) n) (h .step) ∙ ground-same (schemaOf s) (schemaOf t) agree (g .step .binding) (f .step .action .0) n atom);
+      }
+
+  alike-of-steps : (a : ℕ) → SameSteps s t a → AlikeSteps a
+  alike-of-steps a h =
+      record {
+        forth = λ f m e. let (g, k, same) = h .forth f m e in (g, k, alike-of-same f g same);
+        back = λ g m e. let (f, k, same) = h .back g m e in (f, k, alike-of-same f g same);
+      }
+
+-- the row of a move in the sheet of a book
+row-of-sheet : (s : List ℕ) (a : ℕ) → 1 ≤ a → a ≤ schemaOf s .moves → rowOf s a ≡ ruleRow (learnedFrom s) a
+unfolding ruleSheet
+row-of-sheet s a low high =
+    let e : 1 + (a - 1) ≡ a = omega arith in
+    row-part (learnedFrom s) (schemaOf s .moves) 1 (a - 1) (omega arith) ∙ ap (ruleRow (learnedFrom s)) e
+
+-- The same steps of one move, states included: the same 128 bytes.
+pub same-steps-same-row : SameStepsSameRow
+same-steps-same-row s t m n good good′ same a low high steps =
+    let agree = schemas-agree s t m n good good′ same in
+    let high′ : a ≤ schemaOf t .moves = omega (arith, agree .moves) in
+    row-of-sheet s a low high ∙ same-row s t agree a (alike-of-steps s t agree a steps) ∙ sym (row-of-sheet t a low high′)

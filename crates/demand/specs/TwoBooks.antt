@@ -1,0 +1,83 @@
+-- Two books side by side: when they show the same of a move, and the two sentences that say what follows for the rule sheet.
+use Prim.Native.Nat.{ℕ, _+_, _-_, _*_, _≤_, _<_}
+use mathlib.Core.Path.{_≡_}
+use mathlib.Core.List.{List, [], _∷_}
+use lib.ListN.{take, drop}
+use Rattle.answer.specs.declared.Answer.the-variants.{Good}
+use Rattle.input.specs.Bytes.{byteAt}
+use Rattle.terms.specs.declared.Fact.{Fact}
+use Rattle.terms.specs.Sections.{sectionsOf}
+use Rattle.terms.specs.Steps.{objectOf}
+use Rattle.limits.specs.Limits.{headerSize, relationSize, moveSize, maxParams, ruleSize}
+use Rattle.format.specs.Decode.{Filed}
+use Rattle.format.specs.LookOver.{lookOver}
+use Rattle.model.specs.Quantify.{Mem}
+use Rattle.jobs.specs.Planning.{schemaOf, filedIn}
+use Rattle.jobs.specs.Learn.{ruleSheet}
+
+-- equal relations and moves: their counts, and each byte of the two sections
+pub record SameSchema (s t : List ℕ) : Type 0 where
+  pub relations : sectionsOf s .relations .count ≡ sectionsOf t .relations .count
+  pub moves : sectionsOf s .moves .count ≡ sectionsOf t .moves .count
+  pub bytes : (i : ℕ) → i < relationSize * sectionsOf s .relations .count + moveSize * sectionsOf s .moves .count
+      → byteAt s (headerSize + i) ≡ byteAt t (headerSize + i)
+
+-- ---- the same steps of one move
+
+-- the same step, states included, wherever each is filed
+pub record SameStep (f g : Filed) : Type 0 where
+  pub step : f .step ≡ g .step
+  pub pre : f .pre ≡ g .pre
+  pub post : f .post ≡ g .post
+
+-- each step of move a that the one book holds, the other holds too, however often and wherever
+pub record SameSteps (s t : List ℕ) (a : ℕ) : Type 0 where
+  pub forth : (f : Filed) → Mem f (filedIn s) → f .step .action .0 ≡ a → (g : Filed) × Mem g (filedIn t) × SameStep f g
+  pub back : (g : Filed) → Mem g (filedIn t) → g .step .action .0 ≡ a → (f : Filed) × Mem f (filedIn s) × SameStep f g
+
+-- the 128 bytes of move a
+abbrev pub rowOf : List ℕ → ℕ → List ℕ
+rowOf s a = take ruleSize (drop (ruleSize * (a - 1)) (ruleSheet s))
+
+-- Two books with equal relations and moves that hold the same steps of one move, states included, give that move the same 128 bytes.
+-- Asked is good form alone: accepted books, which learning does not refuse, are among these.
+abbrev pub SameStepsSameRow : Type 0
+SameStepsSameRow = (s t : List ℕ) (m n : ℕ) → lookOver s ≡ Good m → lookOver t ≡ Good n → SameSchema s t
+    → (a : ℕ) → 1 ≤ a → a ≤ schemaOf s .moves → SameSteps s t a → rowOf s a ≡ rowOf t a
+
+-- ---- objects renumbered
+
+-- a renumbering of objects: no two get one number, and 0, which stands in an unused place, stays
+pub record Renumbering (to : ℕ → ℕ) : Type 0 where
+  pub none : to 0 ≡ 0
+  pub apart : (x y : ℕ) → to x ≡ to y → x ≡ y
+
+unfoldable pub renumbered : (ℕ → ℕ) → Fact → Fact
+renumbered to f = record { relation = f .relation; first = record { 0 = to (f .first .0) }; second = record { 0 = to (f .second .0) } }
+
+-- the facts of the second list are those of the first, renumbered; both being sorted, their sequence may differ
+pub record RenumberedFacts (to : ℕ → ℕ) (fs gs : List Fact) : Type 0 where
+  pub forth : (f : Fact) → Mem f fs → Mem (renumbered to f) gs
+  pub back : (g : Fact) → Mem g gs → (f : Fact) × Mem f fs × (renumbered to f ≡ g)
+
+-- a filed step with its states, renumbered
+pub record RenumberedStep (f g : Filed) : Type 0 where
+  pub to : ℕ → ℕ
+  pub numbering : Renumbering to
+  pub action : f .step .action ≡ g .step .action
+  pub objects : (p : ℕ) → 1 ≤ p → p ≤ maxParams
+      → to (objectOf (f .step .binding) (record { 0 = p }) .0) ≡ objectOf (g .step .binding) (record { 0 = p }) .0
+  pub pre : RenumberedFacts to (f .pre) (g .pre)
+  pub post : RenumberedFacts to (f .post) (g .post)
+
+-- step by step, each with a renumbering of its own; the steps of one record may share theirs
+abbrev pub RenumberedSteps : List Filed → List Filed → Type 0
+RenumberedSteps [] [] = Unit {0}
+RenumberedSteps [] (g ∷ gs) = ⊥
+RenumberedSteps (f ∷ fs) [] = ⊥
+RenumberedSteps (f ∷ fs) (g ∷ gs) = RenumberedStep f g × RenumberedSteps fs gs
+
+-- Two books with equal relations and moves whose records differ by the numbers of their objects alone give the same rule sheet.
+abbrev pub RenumberedSameSheet : Type 0
+RenumberedSameSheet = (s t : List ℕ) (m n : ℕ) → lookOver s ≡ Good m → lookOver t ≡ Good n → SameSchema s t
+    → RenumberedSteps (filedIn s) (filedIn t) → ruleSheet s ≡ ruleSheet t

@@ -1,0 +1,112 @@
+-- The paper's limits and sizes, each under one name, for definitions and contracts. src/lib.rt has them for code.
+use Prim.Native.Nat.{ℕ}
+
+-- ---- a book
+
+abbrev pub maxLength : ℕ
+maxLength = 60000
+
+-- of a book and of an order
+abbrev pub headerSize : ℕ
+headerSize = 16
+
+abbrev pub maxKinds : ℕ
+maxKinds = 8
+
+abbrev pub maxRelations : ℕ
+maxRelations = 16
+
+abbrev pub maxMoves : ℕ
+maxMoves = 32
+
+abbrev pub maxRecords : ℕ
+maxRecords = 64
+
+abbrev pub relationSize : ℕ
+relationSize = 4
+
+abbrev pub moveSize : ℕ
+moveSize = 6
+
+abbrev pub maxPlaces : ℕ
+maxPlaces = 2
+
+abbrev pub maxParams : ℕ
+maxParams = 4
+
+-- ---- a record
+
+abbrev pub headSize : ℕ
+headSize = 4
+
+abbrev pub maxObjects : ℕ
+maxObjects = 16
+
+abbrev pub maxSteps : ℕ
+maxSteps = 64
+
+abbrev pub countSize : ℕ
+countSize = 2
+
+abbrev pub maxFacts : ℕ
+maxFacts = 256
+
+abbrev pub factSize : ℕ
+factSize = 3
+
+abbrev pub stepSize : ℕ
+stepSize = 5
+
+-- ---- an order
+
+abbrev pub maxEntries : ℕ
+maxEntries = 64
+
+abbrev pub entrySize : ℕ
+entrySize = 4
+
+-- ---- the sheets
+
+-- a set of bound facts, a move's four sets, and the end sheet, in bytes
+abbrev pub setSize : ℕ
+setSize = 32
+
+abbrev pub ruleSize : ℕ
+ruleSize = 128
+
+abbrev pub endSize : ℕ
+endSize = 512
+
+-- the most that a rule sheet comes to: the four sets of each move
+abbrev pub sheetMax : ℕ
+sheetMax = 4096
+
+-- ---- what the learner holds
+
+-- six sets of bound facts for each move, in bytes
+abbrev pub heldSets : ℕ
+heldSets = 6
+
+abbrev pub heldPerMove : ℕ
+heldPerMove = 192
+
+abbrev pub heldSize : ℕ
+heldSize = 6144
+
+-- ---- the numbers of bound facts and of facts: each is below the greatest, and a relation has so many
+
+abbrev pub maxAtoms : ℕ
+maxAtoms = 256
+
+abbrev pub atomsPerRelation : ℕ
+atomsPerRelation = 16
+
+abbrev pub maxFactNumbers : ℕ
+maxFactNumbers = 4096
+
+abbrev pub factsPerRelation : ℕ
+factsPerRelation = 256
+
+-- the bits of a move's four sets
+abbrev pub ruleBits : ℕ
+ruleBits = 1024

@@ -1,0 +1,91 @@
+-- `lines::counts_line` meets its contract: each piece stands behind the ones before it.
+use native.Mathlib.Omega.{arith}
+use Rattle.jobs.specs.Listing.{countsLine}
+use borrow.Author.Needs.{needs}
+use Rattle.lines.proofs.counts_line.Statement.{statement}
+use Rattle.lines.proofs.counts_line.Tie as tie
+
+slice-aggregate-put : tie.Need-slice-aggregate-put
+slice-aggregate-put c = search needs
+
+put-requires : tie.Need-put-requires
+put-requires c κs = search needs
+
+put-decimal-requires : tie.Need-put-decimal-requires
+put-decimal-requires c κs = search needs
+
+slice-aggregate-put-2 : tie.Need-slice-aggregate-put-2
+slice-aggregate-put-2 c = search needs
+
+put-requires-2 : tie.Need-put-requires-2
+put-requires-2 c κs = search needs
+
+put-decimal-requires-2 : tie.Need-put-decimal-requires-2
+put-decimal-requires-2 c κs = search needs
+
+slice-aggregate-put-3 : tie.Need-slice-aggregate-put-3
+slice-aggregate-put-3 c = search needs
+
+put-requires-3 : tie.Need-put-requires-3
+put-requires-3 c κs = search needs
+
+put-decimal-requires-3 : tie.Need-put-decimal-requires-3
+put-decimal-requires-3 c κs = search needs
+
+slice-aggregate-put-4 : tie.Need-slice-aggregate-put-4
+slice-aggregate-put-4 c = search needs
+
+put-requires-4 : tie.Need-put-requires-4
+put-requires-4 c κs = search needs
+
+same-length : tie.Need-same-length
+same-length c = search needs
+
+returns : tie.Need-returns
+unfolding countsLine
+returns c =
+    let end = c .before .before in
+    let steps = end .before .before .before .before .before in
+    let steps-word = steps .before .before .before .before in
+    let records = steps-word .before .before .before .before .before in
+    let records-word = records .before .before .before .before in
+    let moves = records-word .before .before .before .before .before in
+    let moves-word = moves .before .before .before .before in (
+      omega (
+        arith,
+        end .put4 .ensures .0 .0,
+        steps .put-decimal3 .ensures .0 .0,
+        steps-word .put3 .ensures .0 .0,
+        records .put-decimal2 .ensures .0 .0,
+        records-word .put2 .ensures .0 .0,
+        moves .put-decimal .ensures .0 .0,
+        moves-word .put .ensures .0 .0,
+      ),
+      rw (
+        end .put4 .ensures .1,
+        steps .put-decimal3 .ensures .1,
+        steps-word .put3 .ensures .1,
+        records .put-decimal2 .ensures .1,
+        records-word .put2 .ensures .1,
+        moves .put-decimal .ensures .1,
+        moves-word .put .ensures .1,
+      ),
+    )
+
+pub counts-line-spec : {M : Type 1} → statement M
+counts-line-spec =
+    tie.close
+    (tie.spec
+    slice-aggregate-put
+    put-requires
+    put-decimal-requires
+    slice-aggregate-put-2
+    put-requires-2
+    put-decimal-requires-2
+    slice-aggregate-put-3
+    put-requires-3
+    put-decimal-requires-3
+    slice-aggregate-put-4
+    put-requires-4
+    same-length
+    returns)

@@ -1,0 +1,2 @@
+-- What the contracts of a bound fact's line cite.
+pub mod SheetBits

@@ -1,0 +1,4 @@
+-- What the proofs of the functions cite.
+pub mod Text
+pub mod Sheet
+pub mod Printed

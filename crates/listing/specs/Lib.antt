@@ -1,0 +1,3 @@
+-- What the contracts of the listing cite.
+pub mod Room
+pub mod SheetOf

@@ -1,0 +1,159 @@
+-- From a fact to its bound fact by a table of shares: the table of a binding, and a fact's mark. Uses the definitions of held.
+use Prim.Native.Nat.{ℕ, _+_, _-_, _*_, _<_, _≤_}
+use mathlib.Core.Path.{_≡_, refl, sym, ap, _∙_}
+use mathlib.Core.Bool.{Bool, true, false, cond, _&&_, _||_, not}
+use mathlib.Core.List.{List}
+use native.Mathlib.Decide.{ℕ-discrete}
+use native.Mathlib.Omega.{arith}
+use borrow.Author.Tests.{eq-eqb, ne-eqb, leb-true, leb-false}
+use lib.Dec.{eqb, leb}
+use lib.ListN.{length, getD, set, length-set, length-replicate, getD-replicate}
+use lib.Seq.{getD-set-same, getD-set-other}
+use Rattle.truth.specs.Bools.{clash}
+use Rattle.mask.specs.Bits.{setBit}
+use Rattle.terms.specs.declared.Object.{Object}
+use Rattle.terms.specs.declared.Binding.{Binding}
+use Rattle.terms.specs.declared.Fact.{Fact}
+use Rattle.terms.specs.Steps.{objectOf}
+use Rattle.held.specs.Inverse.{gives, paramOf, placeBound, factBound, atomOf, mark}
+use Rattle.held.proofs.Params.{param-most}
+use Rattle.marks.specs.Marks.{share, placeOf, noShares, Inverts}
+
+-- ---- the table
+
+-- a table of 256 bytes that has f
+record Table (t : List ℕ) (f : ℕ → ℕ) : Type 0 where
+  long : length t ≡ 256
+  has : (x : ℕ) → x < 256 → getD t x 0 ≡ f x
+
+table-none : Table noShares (λ x. 16)
+unfolding noShares
+table-none = record { long = length-replicate {A = ℕ} 256 16; has = λ x h. getD-replicate {A = ℕ} 256 x 16 0 h }
+
+put-at : (l : List ℕ) (i v x : ℕ) → x < length l → getD (set l i v) x 0 ≡ cond (eqb i x) v (getD l x 0)
+put-at l i v x h = go (ℕ-discrete i x)
+  where
+    go : Dec (i ≡ x) → getD (set l i v) x 0 ≡ cond (eqb i x) v (getD l x 0)
+    go (yes e) = rw (eq-eqb i x e, e) (getD-set-same l x v 0 h)
+    go (no d) = rw (ne-eqb i x d) (getD-set-other l i x v 0 (λ e. d (sym e)))
+
+table-put : {l : List ℕ} {f : ℕ → ℕ} → Table l f → (t : List ℕ) (i v : ℕ) → t ≡ set l i v → Table t (λ x. cond (eqb i x) v (f x))
+table-put {l} {f} w t i v e =
+    record {
+      long = ap length e ∙ length-set l i v ∙ w .long;
+      has =
+          λ x h.
+          ap (λ (k : List ℕ). getD k x 0) e
+          ∙ put-at l i v x (omega (arith, w .long))
+          ∙ ap (λ (y : ℕ). cond (eqb i x) v y) (w .has x h);
+    }
+
+eqb-flip : (m n : ℕ) → eqb m n ≡ eqb n m
+eqb-flip m n = go (ℕ-discrete m n)
+  where
+    go : Dec (m ≡ n) → eqb m n ≡ eqb n m
+    go (yes e) = eq-eqb m n e ∙ sym (eq-eqb n m (sym e))
+    go (no d) = ne-eqb m n d ∙ sym (ne-eqb n m (λ e. d (sym e)))
+
+module _ (b : Binding) (x : Object) where
+  share-is : share b x ≡ cond (eqb (x .0) 0) 0 (cond (gives b 1 x) 0 (cond (gives b 2 x) 1 (cond (gives b 3 x) 2 (cond (gives b 4 x) 3 16))))
+  unfolding share placeBound paramOf
+  share-is = go (eqb (x .0) 0) (gives b 1 x) (gives b 2 x) (gives b 3 x) (gives b 4 x)
+    where
+      go : (z g₁ g₂ g₃ g₄ : Bool)
+          → cond (z || not (eqb (cond z 0 (cond g₁ 1 (cond g₂ 2 (cond g₃ 3 (cond g₄ 4 0))))) 0)) (cond z 0 (cond g₁ 1 (cond g₂ 2 (cond g₃ 3 (cond g₄ 4 0)))) - 1) 16
+          ≡ cond z 0 (cond g₁ 0 (cond g₂ 1 (cond g₃ 2 (cond g₄ 3 16))))
+      go true g₁ g₂ g₃ g₄ = refl
+      go false true g₂ g₃ g₄ = refl
+      go false false true g₃ g₄ = refl
+      go false false false true g₄ = refl
+      go false false false false true = refl
+      go false false false false false = refl
+
+-- the objects of the four parameters put into an empty table, the last first, and then the object 0
+pub inverts-by : (b : Binding) (o₁ o₂ o₃ o₄ : Object) (t₀ t₁ t₂ t₃ t₄ t : List ℕ)
+    → o₁ ≡ objectOf b (record { 0 = 1 })
+    → o₂ ≡ objectOf b (record { 0 = 2 })
+    → o₃ ≡ objectOf b (record { 0 = 3 })
+    → o₄ ≡ objectOf b (record { 0 = 4 })
+    → t₀ ≡ noShares
+    → t₁ ≡ set t₀ (o₄ .0) 3
+    → t₂ ≡ set t₁ (o₃ .0) 2
+    → t₃ ≡ set t₂ (o₂ .0) 1
+    → t₄ ≡ set t₃ (o₁ .0) 0
+    → t ≡ set t₄ 0 0
+    → Inverts b t
+unfolding gives
+inverts-by b o₁ o₂ o₃ o₄ t₀ t₁ t₂ t₃ t₄ t i₁ i₂ i₃ i₄ e₀ e₁ e₂ e₃ e₄ e =
+    let w₁ = table-put table-none t₁ (o₄ .0) 3 (rw e₀ at e₁) in
+    let w₄ = table-put (table-put (table-put w₁ t₂ (o₃ .0) 2 e₂) t₃ (o₂ .0) 1 e₃) t₄ (o₁ .0) 0 e₄ in
+    let w = table-put w₄ t 0 0 e in
+    record {
+      long = w .long;
+      gives = λ x h. w .has x h ∙ rw (i₁, i₂, i₃, i₄, eqb-flip 0 x) (sym (share-is b (record { 0 = x })));
+    }
+
+-- ---- a fact
+pub place-by : (b : Binding) (f : Fact) (t : List ℕ) (m n : ℕ)
+    → Inverts b t
+    → m ≡ getD t (f .first .0) 0
+    → n ≡ getD t (f .second .0) 0
+    → f .first .0 < 256
+    → f .second .0 < 256
+    → 4 * m + n ≡ placeOf b f
+unfolding placeOf
+place-by b f t m n w d e h k = rw (d, e, w .gives (f .first .0) h, w .gives (f .second .0) k)
+
+module _ (b : Binding) (f : Fact) where
+  -- the places of a bound fact
+  filled : factBound b f ≡ true → placeOf b f ≡ 4 * (paramOf b (f .first) - 1) + (paramOf b (f .second) - 1)
+  unfolding factBound placeOf share
+  filled e = go (placeBound b (f .first)) (placeBound b (f .second)) e
+    where
+      go : (m n : Bool) → (m && n) ≡ true
+          → 4 * cond m (paramOf b (f .first) - 1) 16 + cond n (paramOf b (f .second) - 1) 16 ≡ 4 * (paramOf b (f .first) - 1) + (paramOf b (f .second) - 1)
+      go true true d = refl
+      go true false d = clash false d refl
+      go false n d = clash false d refl
+
+  unfilled : factBound b f ≡ false → 16 ≤ placeOf b f
+  unfolding factBound placeOf share
+  unfilled e = go (placeBound b (f .first)) (placeBound b (f .second)) e
+    where
+      go : (m n : Bool) → (m && n) ≡ false → 16 ≤ 4 * cond m (paramOf b (f .first) - 1) 16 + cond n (paramOf b (f .second) - 1) 16
+      go true true d = clash true refl d
+      go true false d = omega arith
+      go false n d = omega arith
+
+  module _ (x : ℕ) (is : x ≡ placeOf b f) where
+    pub place-bound : x < 16 → factBound b f ≡ true
+    place-bound h = go (factBound b f) refl
+      where
+        go : (t : Bool) → factBound b f ≡ t → t ≡ true
+        go true e = refl
+        go false e = absurd (omega (arith, unfilled e))
+
+    pub place-unbound : 16 ≤ x → factBound b f ≡ false
+    place-unbound h = go (factBound b f) refl
+      where
+        go : (t : Bool) → factBound b f ≡ t → t ≡ false
+        go true e = absurd (omega (arith, filled e, param-most b (f .first), param-most b (f .second)))
+        go false e = refl
+
+    pub place-test : leb 16 x ≡ not (factBound b f)
+    place-test = go (leb 16 x) refl
+      where
+        go : (t : Bool) → leb 16 x ≡ t → t ≡ not (factBound b f)
+        go true e = ap not (sym (place-unbound (leb-true 16 x e)))
+        go false e = ap not (sym (place-bound (leb-false 16 x e)))
+
+    pub mark-unbound : (m : List ℕ) → 16 ≤ x → m ≡ mark b m f
+    unfolding mark
+    mark-unbound m h = rw (place-unbound h)
+
+    pub mark-bound : (m : List ℕ) (n : ℕ) → x < 16 → n ≡ 16 * (f .relation .0 - 1) + x → setBit m n ≡ mark b m f
+    unfolding mark atomOf
+    mark-bound m n h e =
+        let d = place-bound h in
+        let a : n ≡ 16 * (f .relation .0 - 1) + 4 * (paramOf b (f .first) - 1) + (paramOf b (f .second) - 1) = omega (arith, filled d) in
+        rw (d, a)

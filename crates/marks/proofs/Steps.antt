@@ -1,0 +1,155 @@
+-- The facts of a step's two states walked together: each turn leads on to the same sets and the same answer. For `turn` and `mark_step` of
+-- src/lib.rt. Uses Unbound for row 11, Facts for each state.
+use Prim.Native.Nat.{ℕ, _<_, _≤_}
+use mathlib.Core.Path.{_≡_, refl, sym, ap, ap₂, _∙_}
+use mathlib.Core.Bool.{Bool, true, false, _&&_, _||_, or-assoc, or-false}
+use mathlib.Core.List.{List, []}
+use native.Mathlib.Omega.{arith}
+use borrow.Author.Tests.{ltb-true, ltb-false}
+use lib.Dec.{ltb, leb}
+use Rattle.truth.specs.Bools.{clash, and-out}
+use Rattle.mask.specs.Sets.{empty}
+use Rattle.terms.specs.declared.Binding.{Binding}
+use Rattle.terms.specs.declared.Fact.{Fact}
+use Rattle.held.specs.Inverse.{marks, atomsIn, sameFact, sameFacts, unbound, unboundChanged}
+use Rattle.held.proofs.Facts.{same-fact}
+use Rattle.marks.specs.declared.Cursor.{Cursor}
+use Rattle.marks.specs.declared.Walk.{Walk}
+use Rattle.marks.specs.Marks.{placeOf, rest, Ahead, Comes, says, Turned, StepMarked}
+use Rattle.marks.proofs.Atoms.{place-bound, place-unbound, place-test}
+use Rattle.marks.proofs.Unbound.{none-after, both-more, before-more, changed-more}
+use Rattle.marks.proofs.Facts.{rest-none, Passes, passed-by}
+
+-- neither of two counts is 0
+pub both-left : (m n : ℕ) → (ltb 0 m && ltb 0 n) ≡ true → (0 < m) × (0 < n)
+both-left m n e =
+    let d = and-out _ _ e in
+    (ltb-true 0 m (d .0), ltb-true 0 n (d .1))
+
+module _ (s : List ℕ) (b : Binding) where
+  -- ---- one turn: f comes next before
+  module _ (w : Walk) (f : Fact) (m n : List ℕ) (now-f : Comes s (w .pre) f) where
+    -- a bound fact that does not come next after
+    pub turned-before : Ahead s (w .post) → (x : ℕ) → x ≡ placeOf b f → x < 16 → (p : Cursor) (m′ : List ℕ) → Passes b f (w .pre) m p m′
+        → Turned s b w m n (record { pre = p; post = w .post; changed = w .changed }) m′ n
+    unfolding says
+    turned-before a x is u p m′ d =
+        let i = passed-by s b now-f d in
+        record {
+          ahead = i .ahead;
+          aheadAfter = a;
+          before = i .marked;
+          after = refl;
+          same = ap (λ (y : Bool). w .changed || y) (rw (i .first) (sym (before-more b f (rest s p) (rest s (w .post)) (place-bound b f x is u))));
+          less = omega (arith, i .less);
+        }
+
+    -- g comes next after
+    module _ (g : Fact) (now-g : Comes s (w .post) g) (t : Bool) (is-t : t ≡ sameFact f g) where
+      pub turned-both : t ≡ true
+          → (p q : Cursor) (m′ n′ : List ℕ)
+          → Passes b f (w .pre) m p m′
+          → Passes b f (w .post) n q n′
+          → Turned s b w m n (record { pre = p; post = q; changed = w .changed }) m′ n′
+      unfolding says
+      turned-both u p q m′ n′ d e =
+          let h : f ≡ g = same-fact f g (sym is-t ∙ u) in
+          let k : sameFact f f ≡ true = ap (sameFact f) h ∙ sym is-t ∙ u in
+          let i = passed-by s b now-f d in
+          let j = passed-by s b (rw h now-g) e in
+          record {
+            ahead = i .ahead;
+            aheadAfter = j .ahead;
+            before = i .marked;
+            after = j .marked;
+            same = ap (λ (y : Bool). w .changed || y) (rw (i .first, j .first) (sym (both-more b f (rest s p) (rest s q) k)));
+            less = omega (arith, i .less, j .less);
+          }
+
+      -- f is no bound fact and differs, so g is a bound fact or a change
+      pub turned-after : Ahead s (w .pre) → t ≡ false
+          → (x y : ℕ)
+          → x ≡ placeOf b f
+          → 16 ≤ x
+          → y ≡ placeOf b g
+          → (q : Cursor) (n′ : List ℕ)
+          → Passes b g (w .post) n q n′
+          → Turned s b w m n (record { pre = w .pre; post = q; changed = w .changed || leb 16 y }) m n′
+      unfolding says
+      turned-after a u x y is v is′ q n′ e =
+          let j = passed-by s b now-g e in
+          let h = place-unbound b f x is v in
+          record {
+            ahead = a;
+            aheadAfter = j .ahead;
+            before = refl;
+            after = j .marked;
+            same =
+                or-assoc (w .changed) (leb 16 y) (unboundChanged b (rest s (w .pre)) (rest s q))
+                ∙ ap (λ (z : Bool). w .changed || z)
+                (rw (now-f .first, j .first) (changed-more b f _ g (rest s q) (leb 16 y) (sym is-t ∙ u) h (place-test b g y is′)));
+            less = omega (arith, j .less);
+          }
+
+  -- ---- all turns
+
+  -- at the end of one state, what is left of the other decides
+  end-says : (p q : Cursor) → (ltb 0 (p .left) && ltb 0 (q .left)) ≡ false
+      → (unboundChanged b [] (rest s p) || unboundChanged b [] (rest s q)) ≡ unboundChanged b (rest s p) (rest s q)
+  unfolding unboundChanged unbound sameFacts
+  end-says p q u = go (ltb 0 (p .left)) (ltb 0 (q .left)) refl refl u
+    where
+      go : (x y : Bool) → ltb 0 (p .left) ≡ x → ltb 0 (q .left) ≡ y → (x && y) ≡ false
+          → (unboundChanged b [] (rest s p) || unboundChanged b [] (rest s q)) ≡ unboundChanged b (rest s p) (rest s q)
+      go true true d e v = clash true refl v
+      go true false d e v =
+          let k : q .left ≡ 0 = omega (arith, ltb-false 0 (q .left) e) in
+          rw (rest-none s q k) (or-false (unboundChanged b [] (rest s p)) ∙ none-after b (rest s p))
+      go false y d e v =
+          let k : p .left ≡ 0 = omega (arith, ltb-false 0 (p .left) d) in
+          rw (rest-none s p k)
+
+  -- Where the walk stands: what is yet to come leads to the sets and the answer of the two states.
+  pub record Stands (pre post : List Fact) (w : Walk) (m n : List ℕ) : Type 0 where
+    pub ahead : Ahead s (w .pre)
+    pub aheadAfter : Ahead s (w .post)
+    pub before : marks b m (rest s (w .pre)) ≡ atomsIn b pre
+    pub after : marks b n (rest s (w .post)) ≡ atomsIn b post
+    pub same : says s b w ≡ unboundChanged b pre post
+
+  pub stands-first : (pre post : List Fact) (p q : Cursor) (m n : List ℕ)
+      → (rest s p ≡ pre) × Ahead s p
+      → (rest s q ≡ post) × Ahead s q
+      → m ≡ empty 32
+      → n ≡ empty 32
+      → Stands pre post (record { pre = p; post = q; changed = false }) m n
+  unfolding atomsIn says
+  stands-first pre post p q m n d e i j =
+      record { ahead = d .1; aheadAfter = e .1; before = rw (i, d .0); after = rw (j, e .0); same = rw (d .0, e .0) }
+
+  module _ {pre post : List Fact} {w : Walk} {m n : List ℕ} (i : Stands pre post w m n) where
+    pub stands-next : {v : Walk} {m′ n′ : List ℕ} → Turned s b w m n v m′ n′ → Stands pre post v m′ n′
+    stands-next t =
+        record {
+          ahead = t .ahead;
+          aheadAfter = t .aheadAfter;
+          before = t .before ∙ i .before;
+          after = t .after ∙ i .after;
+          same = t .same ∙ i .same;
+        }
+
+    pub stands-end : (ltb 0 (w .pre .left) && ltb 0 (w .post .left)) ≡ false
+        → (m′ n′ : List ℕ) (only-before only-after : Bool)
+        → (m′ ≡ marks b m (rest s (w .pre))) × (only-before ≡ unboundChanged b [] (rest s (w .pre)))
+        → (n′ ≡ marks b n (rest s (w .post))) × (only-after ≡ unboundChanged b [] (rest s (w .post)))
+        → StepMarked b pre post m′ n′ (w .changed || only-before || only-after)
+    unfolding says
+    stands-end u m′ n′ only-before only-after d e =
+        record {
+          before = d .0 ∙ i .before;
+          after = e .0 ∙ i .after;
+          unbound =
+              or-assoc (w .changed) only-before only-after
+              ∙ ap (λ (y : Bool). w .changed || y) (ap₂ (λ (x y : Bool). x || y) (d .1) (e .1) ∙ end-says (w .pre) (w .post) u)
+              ∙ i .same;
+        }

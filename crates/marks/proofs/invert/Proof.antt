@@ -1,0 +1,65 @@
+-- `marks::invert` meets its contract: five entries put into an empty table.
+use Rattle.marks.proofs.Atoms.{inverts-by}
+use borrow.Author.Needs.{needs}
+use Rattle.marks.proofs.invert.Statement.{statement}
+use Rattle.marks.proofs.invert.Tie as tie
+
+object-requires : tie.Need-object-requires
+object-requires c κs = search needs
+
+give-requires : tie.Need-give-requires
+give-requires c κs = search needs
+
+object-requires-2 : tie.Need-object-requires-2
+object-requires-2 c κs = search needs
+
+give-requires-2 : tie.Need-give-requires-2
+give-requires-2 c κs = search needs
+
+object-requires-3 : tie.Need-object-requires-3
+object-requires-3 c κs = search needs
+
+give-requires-3 : tie.Need-give-requires-3
+give-requires-3 c κs = search needs
+
+object-requires-4 : tie.Need-object-requires-4
+object-requires-4 c κs = search needs
+
+give-requires-4 : tie.Need-give-requires-4
+give-requires-4 c κs = search needs
+
+give-requires-5 : tie.Need-give-requires-5
+give-requires-5 c κs = search needs
+
+same-length : tie.Need-same-length
+same-length c = search needs
+
+returns : tie.Need-returns
+returns c =
+    let g₅ = c .before .before in
+    let g₄ = g₅ .before .before .before .before in
+    let o₁ = g₄ .before in
+    let g₃ = o₁ .before .before .before .before in
+    let o₂ = g₃ .before in
+    let g₂ = o₂ .before .before .before .before in
+    let o₃ = g₂ .before in
+    let g₁ = o₃ .before .before .before .before in
+    let o₄ = g₁ .before in
+    inverts-by _ _ _ _ _ _ _ _ _ _ _ (o₁ .object4 .ensures) (o₂ .object3 .ensures) (o₃ .object2 .ensures) (o₄ .object .ensures)
+    (o₄ .before .before .before .pre) (g₁ .give .ensures) (g₂ .give2 .ensures) (g₃ .give3 .ensures) (g₄ .give4 .ensures) (g₅ .give5 .ensures)
+
+pub invert-spec : {M : Type 1} → statement M
+invert-spec =
+    tie.close
+    (tie.spec
+    object-requires
+    give-requires
+    object-requires-2
+    give-requires-2
+    object-requires-3
+    give-requires-3
+    object-requires-4
+    give-requires-4
+    give-requires-5
+    same-length
+    returns)

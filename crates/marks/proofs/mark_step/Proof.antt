@@ -1,0 +1,111 @@
+-- `marks::mark_step` meets its contract: a loop of turns, then what is left of either state.
+use mathlib.Core.Path.{_≡_, refl, _∙_}
+use lib.ListN.{length}
+use borrow.Author.Needs.{needs}
+use Rattle.format.specs.Decode.{stateAt}
+use Rattle.marks.specs.Marks.{Inverts, toCome}
+use Rattle.marks.proofs.Steps.{both-left, Stands, stands-first, stands-next, stands-end}
+use Rattle.marks.proofs.mark_step.Statement.{statement}
+use Rattle.marks.proofs.mark_step.Tie as tie
+
+abbrev Inv-loop : tie.InvT-loop
+Inv-loop s b pre post before₀ after₀ t w₀ before after w =
+    Stands s b (stateAt s pre) (stateAt s post) w before after × Inverts b t × (length before ≡ length before₀) × (length after ≡ length after₀)
+
+abbrev μ-loop : tie.MeasureT-loop
+μ-loop s b pre post before₀ after₀ t w₀ before after w = toCome w
+
+no-shares-requires : tie.Need-no-shares-requires Inv-loop μ-loop
+no-shares-requires c κs = search needs
+
+slice-aggregate-invert : tie.Need-slice-aggregate-invert Inv-loop μ-loop
+slice-aggregate-invert c = search needs
+
+invert-requires : tie.Need-invert-requires Inv-loop μ-loop
+invert-requires c κs = search needs
+
+of-state-requires : tie.Need-of-state-requires Inv-loop μ-loop
+of-state-requires c κs = search needs
+
+of-state-requires-2 : tie.Need-of-state-requires-2 Inv-loop μ-loop
+of-state-requires-2 c κs = search needs
+
+loop-holds : tie.Need-loop-holds Inv-loop μ-loop
+loop-holds c =
+    let o = c .before in
+    let i = o .before .before in
+    let p = i .before .before .before .before .before .before .pre in
+    (stands-first _ _ _ _ _ _ _ _ (o .of-state .ensures) (c .of-state2 .ensures) (p .1 .0) (p .1 .1), i .invert .ensures, refl, refl)
+
+slice-aggregate-turn : tie.Need-slice-aggregate-turn Inv-loop μ-loop
+slice-aggregate-turn c = search needs
+
+turn-requires : tie.Need-turn-requires Inv-loop μ-loop
+turn-requires c κs =
+    let u = c .before .before .before in
+    let l = u .before .before .before in
+    let i = l .loop .inv in
+    let h = both-left _ _ (u .if1 .taken) in
+    (i .1, i .0 .ahead, i .0 .aheadAfter, h .0, h .1)
+
+loop-less : tie.Need-loop-less Inv-loop μ-loop
+loop-less c = c .before .before .before .before .turn .ensures .less
+
+loop-again : tie.Need-loop-again Inv-loop μ-loop
+loop-again c =
+    let t = c .before .before .before .before in
+    let i = t .before .before .before .before .before .before .before .loop .inv in
+    (stands-next _ _ (i .0) (t .turn .ensures), i .1, t .turn .kept .0 ∙ i .2, t .turn .kept .1 .0 ∙ i .3)
+
+slice-aggregate-mark-rest : tie.Need-slice-aggregate-mark-rest Inv-loop μ-loop
+slice-aggregate-mark-rest c = search needs
+
+mark-rest-requires : tie.Need-mark-rest-requires Inv-loop μ-loop
+mark-rest-requires c κs =
+    let i = c .before .before .before .before .before .before .before .loop .inv in
+    (i .1, i .0 .ahead)
+
+slice-aggregate-mark-rest-2 : tie.Need-slice-aggregate-mark-rest-2 Inv-loop μ-loop
+slice-aggregate-mark-rest-2 c = search needs
+
+mark-rest-requires-2 : tie.Need-mark-rest-requires-2 Inv-loop μ-loop
+mark-rest-requires-2 c κs =
+    let i = c .before .before .before .before .before .before .before .before .before .before .before .before .loop .inv in
+    (i .1, i .0 .aheadAfter)
+
+same-length : tie.Need-same-length Inv-loop μ-loop
+same-length c = search needs
+
+same-length-2 : tie.Need-same-length-2 Inv-loop μ-loop
+same-length-2 c = search needs
+
+returns : tie.Need-returns Inv-loop μ-loop
+returns c =
+    let n = c .before .before .before in
+    let m = n .before .before .before .before .before in
+    let u = m .before .before .before .before .before in
+    stands-end _ _ (u .before .before .before .loop .inv .0) (u .if1 .left) _ _ _ _ (m .mark-rest .ensures) (n .mark-rest2 .ensures)
+
+pub mark-step-spec : {M : Type 1} → statement M
+mark-step-spec =
+    tie.close
+    (tie.spec
+    Inv-loop
+    μ-loop
+    no-shares-requires
+    slice-aggregate-invert
+    invert-requires
+    of-state-requires
+    of-state-requires-2
+    loop-holds
+    slice-aggregate-turn
+    turn-requires
+    loop-less
+    loop-again
+    slice-aggregate-mark-rest
+    mark-rest-requires
+    slice-aggregate-mark-rest-2
+    mark-rest-requires-2
+    same-length
+    same-length-2
+    returns)

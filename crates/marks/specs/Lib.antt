@@ -1,0 +1,2 @@
+-- Names for what the functions of marks compute on the way to the definitions of held.
+pub mod Marks

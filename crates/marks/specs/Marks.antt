@@ -1,0 +1,79 @@
+-- A step's bound facts and row 11, in the parts that the functions compute: a table of a binding, the facts of a state that are yet to come,
+-- and two states walked together. `StepMarked` is for callers. Uses the definitions of held and format.
+use Prim.Native.Nat.{ℕ, _+_, _-_, _*_, _<_, _≤_}
+use mathlib.Core.Path.{_≡_}
+use mathlib.Core.Bool.{Bool, cond, _||_}
+use mathlib.Core.List.{List, _∷_}
+use lib.ListN.{length, getD, replicate}
+use Rattle.terms.specs.declared.Object.{Object}
+use Rattle.terms.specs.declared.Binding.{Binding}
+use Rattle.terms.specs.declared.Fact.{Fact}
+use Rattle.limits.specs.Limits.{factSize}
+use Rattle.format.specs.Decode.{factsAt}
+use Rattle.held.specs.Inverse.{paramOf, placeBound, marks, atomsIn, unboundChanged}
+use Rattle.marks.specs.declared.Cursor.{Cursor}
+use Rattle.marks.specs.declared.Walk.{Walk}
+
+-- ---- from a fact to its bound fact
+
+-- What an object adds to a bound fact's number in the second place: the object's parameter, counted from 0, and nothing in an unused place.
+-- 16, the number of pairs of parameters, where no parameter has the object.
+unfoldable pub share : Binding → Object → ℕ
+share b x = cond (placeBound b x) (paramOf b x - 1) 16
+
+-- what both places add: below 16 for a bound fact alone
+unfoldable pub placeOf : Binding → Fact → ℕ
+placeOf b f = 4 * share b (f .first) + share b (f .second)
+
+unfoldable pub noShares : List ℕ
+noShares = replicate 256 16
+
+-- a table of the shares, by the number of the object
+pub record Inverts (b : Binding) (t : List ℕ) : Type 0 where
+  pub long : length t ≡ 256
+  pub gives : (x : ℕ) → x < 256 → getD t x 0 ≡ share b (record { 0 = x })
+
+-- ---- the facts of a state
+
+-- the facts that are yet to come
+unfoldable pub rest : List ℕ → Cursor → List Fact
+rest s c = factsAt s (c .left) (c .at)
+
+-- they lie within the bytes
+pub record Ahead (s : List ℕ) (c : Cursor) : Type 0 where
+  pub within : c .at + factSize * c .left ≤ length s
+  pub near : c .at + factSize * c .left ≤ 500000
+
+-- behind the next fact
+unfoldable pub next : Cursor → Cursor
+next c = record { at = c .at + factSize; left = c .left - 1 }
+
+-- the fact f comes next
+pub record Comes (s : List ℕ) (c : Cursor) (f : Fact) : Type 0 where
+  pub first : rest s c ≡ f ∷ rest s (next c)
+  pub ahead : Ahead s (next c)
+  pub less : next c .left < c .left
+
+-- ---- the facts of two states
+
+abbrev pub toCome : Walk → ℕ
+toCome w = w .pre .left + w .post .left
+
+-- row 11 of two states, by what was seen and what is yet to come
+unfoldable pub says : List ℕ → Binding → Walk → Bool
+says s b w = w .changed || unboundChanged b (rest s (w .pre)) (rest s (w .post))
+
+-- From v with the sets m and n to w with m′ and n′: nearer to the end, and what is yet to come leads to the same.
+pub record Turned (s : List ℕ) (b : Binding) (v : Walk) (m n : List ℕ) (w : Walk) (m′ n′ : List ℕ) : Type 0 where
+  pub ahead : Ahead s (w .pre)
+  pub aheadAfter : Ahead s (w .post)
+  pub before : marks b m′ (rest s (w .pre)) ≡ marks b m (rest s (v .pre))
+  pub after : marks b n′ (rest s (w .post)) ≡ marks b n (rest s (v .post))
+  pub same : says s b w ≡ says s b v
+  pub less : toCome w < toCome v
+
+-- the bound facts of two states, and row 11 of them
+pub record StepMarked (b : Binding) (pre post : List Fact) (m n : List ℕ) (r : Bool) : Type 0 where
+  pub before : m ≡ atomsIn b pre
+  pub after : n ≡ atomsIn b post
+  pub unbound : r ≡ unboundChanged b pre post

@@ -1,0 +1,215 @@
+// Which bound facts (lifted atoms) of a step hold before and after it, and row 11: whether any other fact changed.
+// Uses terms for facts and bindings, mask for the sets; the contracts cite held and format, and specs/Marks.antt for the parts.
+ghost use mathlib.Core.Path.{_≡_};
+ghost use Prim.Native.Nat.{_+_, _*_, _≤_, _<_};
+ghost use mathlib.Core.List.{[]};
+ghost use lib.ListN.{length, set};
+ghost use Rattle.limits.specs.Limits.{setSize};
+ghost use Rattle.mask.specs.Sets.{empty};
+ghost use Rattle.format.specs.Decode.{stateAt, stateEnd};
+ghost use Rattle.held.specs.Inverse.{mark, marks, sameFact, unboundChanged};
+ghost use Rattle.marks.specs.Marks.{noShares, Inverts, placeOf, rest, next, Ahead, Comes, Turned, StepMarked};
+use terms::Binding;
+use terms::Fact;
+use terms::Object;
+use terms::Param;
+use terms::Relation;
+
+// What the table has for an object of no parameter: the two places of a bound fact add less. A relation has so many bound facts, one
+// for each pair of parameters.
+const UNBOUND: usize = 16;
+
+// ---- from a fact to its bound fact
+
+// A table with no parameter's object in it.
+fn no_shares() -> [u8; 256]
+    ensures { λ r. ⌜ r ≡ noShares ⌝ }
+{
+    [16u8; 256]
+}
+
+fn give(t: &mut [u8], x: Object, share: u8)
+    ensures { λ _. ⌜ now (t .exit) ≡ set (now (t .entry)) (x .0) share ⌝ }
+{
+    let i = x.0 as usize;
+    if t.len() <= i {
+        return;
+    }
+    t[i] = share;
+}
+
+// What each object adds to a bound fact's number in the second place, by the object's number. A parameter of a lower number is put in
+// later, and so counts; an unused place, object 0, adds nothing.
+fn invert(t: &mut [u8], b: Binding)
+    requires { ⌜ now t ≡ noShares ⌝ }
+    ensures { λ _. ⌜ Inverts b (now (t .exit)) ⌝ }
+{
+    give(t, b.object(Param(4)), 3);
+    give(t, b.object(Param(3)), 2);
+    give(t, b.object(Param(2)), 1);
+    give(t, b.object(Param(1)), 0);
+    give(t, Object(0), 0);
+}
+
+fn wide(n: u8) -> usize
+    ensures { λ r. ⌜ (r ≡ n) × (r < 256) ⌝ }
+{
+    n as usize
+}
+
+// What both places add, UNBOUND or more for a fact that is no bound fact. The table `t` is that of the binding `b`, here and below.
+fn place(t: &[u8], b: Binding, f: Fact) -> usize
+    requires { ⌜ Inverts b (now t) ⌝ }
+    ensures { λ r. ⌜ r ≡ placeOf b f ⌝ }
+{
+    4 * wide(t[f.first.0 as usize]) + wide(t[f.second.0 as usize])
+}
+
+fn mark(m: &mut [u8], b: Binding, f: Fact, place: usize)
+    requires { ⌜ place ≡ placeOf b f ⌝ }
+    ensures { λ _. ⌜ now (m .exit) ≡ mark b (now (m .entry)) f ⌝ }
+{
+    if UNBOUND <= place {
+        return;
+    }
+    mask::set_bit(m, UNBOUND * terms::index(f.relation.0) + place);
+}
+
+fn same_fact(f: Fact, g: Fact) -> bool
+    ensures { λ r. ⌜ r ≡ sameFact f g ⌝ }
+{
+    (f.relation.0 == g.relation.0) & (f.first.0 == g.first.0) & (f.second.0 == g.second.0)
+}
+
+// ---- the facts of a state
+
+// The facts of a state that are yet to come: how many, from which offset.
+struct Cursor {
+    at: usize,
+    left: u16,
+}
+
+impl Cursor {
+    fn of_state(s: &[u8], at: usize) -> Cursor
+        requires { ⌜ (at ≤ 200000) × (stateEnd (now s) at ≤ length (now s)) ⌝ }
+        ensures { λ r. ⌜ (rest (now (s .entry)) r ≡ stateAt (now (s .entry)) at) × Ahead (now (s .entry)) r ⌝ }
+    {
+        Cursor {
+            at: at + limits::COUNT_SIZE,
+            left: input::two_at(s, at),
+        }
+    }
+
+    fn fact(self, s: &[u8]) -> Fact
+        requires { ⌜ (0 < self .left) × Ahead (now s) self ⌝ }
+        ensures { λ r. ⌜ Comes (now (s .entry)) self r ⌝ }
+    {
+        let at = self.at;
+        Fact {
+            relation: Relation(s[at]),
+            first: Object(s[at + 1]),
+            second: Object(s[at + 2]),
+        }
+    }
+
+    // Past the next fact `f`, which is marked.
+    fn pass(self, m: &mut [u8], b: Binding, f: Fact, place: usize) -> Cursor
+        requires { ⌜ (place ≡ placeOf b f) × (0 < self .left) × (self .at ≤ 500000) ⌝ }
+        ensures { λ r. ⌜ (now (m .exit) ≡ mark b (now (m .entry)) f) × (r ≡ next self) ⌝ }
+    {
+        mark(m, b, f, place);
+        Cursor {
+            at: self.at + limits::FACT_SIZE,
+            left: self.left - 1,
+        }
+    }
+}
+
+// Marks the facts to come, and says whether any is no bound fact: row 11 of them and no facts.
+fn mark_rest(m: &mut [u8], s: &[u8], t: &[u8], b: Binding, from: Cursor) -> bool
+    requires { ⌜ Inverts b (now t) × Ahead (now s) from ⌝ }
+    ensures { λ r. ⌜ (now (m .exit) ≡ marks b (now (m .entry)) (rest (now (s .entry)) from)) × (r ≡ unboundChanged b [] (rest (now (s .entry)) from)) ⌝ }
+{
+    let mut c = from;
+    let mut changed = false;
+    while 0 < c.left {
+        let f = c.fact(s);
+        let x = place(t, b, f);
+        c = c.pass(m, b, f, x);
+        changed = changed | (UNBOUND <= x);
+    }
+    changed
+}
+
+// ---- the facts of two states
+
+// The facts to come of a step's two states, and whether a fact that is no bound fact was seen to change.
+struct Walk {
+    pre: Cursor,
+    post: Cursor,
+    changed: bool,
+}
+
+// One fact more of a state, or of both. Facts stand in order, so what is no bound fact stayed as it was if it comes in the same order in
+// both states: where the next ones differ and neither is a bound fact, a fact changed, whatever follows. A fact that comes next in both is
+// looked up once.
+fn turn(before: &mut [u8], after: &mut [u8], s: &[u8], t: &[u8], b: Binding, w: Walk) -> Walk
+    requires { ⌜ Inverts b (now t) × Ahead (now s) (w .pre) × Ahead (now s) (w .post) × (0 < w .pre .left) × (0 < w .post .left) ⌝ }
+    ensures { λ r. ⌜ Turned (now (s .entry)) b w (now (before .entry)) (now (after .entry)) r (now (before .exit)) (now (after .exit)) ⌝ }
+{
+    let p = w.pre;
+    let q = w.post;
+    let f = p.fact(s);
+    let g = q.fact(s);
+    let x = place(t, b, f);
+    if same_fact(f, g) {
+        return Walk {
+            pre: p.pass(before, b, f, x),
+            post: q.pass(after, b, f, x),
+            changed: w.changed,
+        };
+    }
+    if x < UNBOUND {
+        return Walk {
+            pre: p.pass(before, b, f, x),
+            post: q,
+            changed: w.changed,
+        };
+    }
+    let y = place(t, b, g);
+    Walk {
+        pre: p,
+        post: q.pass(after, b, g, y),
+        changed: w.changed | (UNBOUND <= y),
+    }
+}
+
+// Row 11 of the step with the binding `b`, and its bound facts in the states at `pre` and `post`.
+pub fn mark_step(
+    s: &[u8],
+    b: Binding,
+    pre: usize,
+    post: usize,
+    before: &mut [u8],
+    after: &mut [u8],
+) -> bool
+    requires { ⌜ (pre ≤ 200000) × (post ≤ 200000) × (stateEnd (now s) pre ≤ length (now s)) × (stateEnd (now s) post ≤ length (now s)) ⌝ }
+    requires { ⌜ (now before ≡ empty setSize) × (now after ≡ empty setSize) ⌝ }
+    ensures { λ r. ⌜ StepMarked b (stateAt (now (s .entry)) pre) (stateAt (now (s .entry)) post) (now (before .exit)) (now (after .exit)) r ⌝ }
+{
+    let mut t = no_shares();
+    invert(&mut t, b);
+    let mut w = Walk {
+        pre: Cursor::of_state(s, pre),
+        post: Cursor::of_state(s, post),
+        changed: false,
+    };
+    while (0 < w.pre.left) & (0 < w.post.left) {
+        w = turn(before, after, s, &t, b, w);
+    }
+    let p = w.pre;
+    let q = w.post;
+    let only_before = mark_rest(before, s, &t, b, p);
+    let only_after = mark_rest(after, s, &t, b, q);
+    w.changed | only_before | only_after
+}

@@ -1,0 +1,15 @@
+-- `start_count` meets its contract: it reads the header.
+use Rattle.format.specs.Order.{startCount}
+use borrow.Author.Needs.{needs}
+use Rattle.orderhead.proofs.start_count.Statement.{statement}
+use Rattle.orderhead.proofs.start_count.Tie as tie
+
+two-at-requires : tie.Need-two-at-requires
+two-at-requires c κs = search needs
+
+returns : tie.Need-returns
+unfolding startCount
+returns c = search needs
+
+pub start-count-spec : {M : Type 1} → statement M
+start-count-spec = tie.close (tie.spec two-at-requires returns)

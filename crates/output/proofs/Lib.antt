@@ -1,0 +1,3 @@
+-- Laws of bytes written (Written), and of two-byte numbers written and read (Two).
+pub mod Written
+pub mod Two

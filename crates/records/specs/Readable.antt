@@ -1,0 +1,14 @@
+-- What the functions over one record ask of it.
+use Prim.Native.Nat.{ℕ, _≤_}
+use mathlib.Core.List.{List}
+use lib.ListN.{length}
+use Rattle.terms.specs.Schema.{schema, hall}
+use Rattle.tables.specs.Tables.{Kinds, Tabled}
+use Rattle.records.specs.declared.Scope.{Scope}
+
+-- the record ends within the book, at an offset that can be added to, and the tables are right for its objects
+pub record Readable (s : List ℕ) (c : Scope) (ks t : List ℕ) : Type 0 where
+  pub within : c .end ≤ length s
+  pub short : c .end ≤ 90000
+  pub kinds : Kinds (hall (c .objects) s) ks
+  pub table : Tabled (schema (c .h) s) (hall (c .objects) s) t

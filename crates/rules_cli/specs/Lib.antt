@@ -1,2 +1,0 @@
--- What the contracts of the program's lines cite.
-pub mod Shown

@@ -1,3 +1,0 @@
-fn main() {
-    rules_cli::run();
-}
