@@ -19,7 +19,7 @@ pub record Held : Type 0 where
 unfoldable pub setAt : ℕ → ℕ → ℕ
 setAt a k = heldPerMove * (a - 1) + setSize * k
 
--- the set at an offset replaced by what is made of them
+-- the set at an offset replaced by what is made of it
 unfoldable pub onSet : ℕ → (List ℕ → List ℕ) → List ℕ → List ℕ
 onSet at f l = take at l ++ f (take setSize (drop at l)) ++ drop (at + setSize) l
 

@@ -1,3 +1,4 @@
+-- `answer::is_refused` meets its contract: case by case.
 use borrow.Author.Needs.{needs}
 use Rattle.answer.specs.Answer.{isRefused}
 use Rattle.answer.proofs.is_refused.Statement.{statement}

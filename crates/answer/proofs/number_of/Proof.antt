@@ -1,3 +1,4 @@
+-- `answer::number_of` meets its contract: case by case.
 use borrow.Author.Needs.{needs}
 use Rattle.answer.specs.Answer.{number}
 use Rattle.answer.proofs.number_of.Statement.{statement}

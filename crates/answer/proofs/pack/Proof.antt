@@ -1,3 +1,4 @@
+-- `answer::pack` meets its contract: the sum fits under the bounds asked.
 use borrow.Author.Needs.{needs}
 use Rattle.answer.specs.Answer.{packed}
 use Rattle.answer.proofs.pack.Statement.{statement}

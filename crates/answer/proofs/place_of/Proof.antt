@@ -1,3 +1,4 @@
+-- `answer::place_of` meets its contract: case by case.
 use borrow.Author.Needs.{needs}
 use Rattle.answer.specs.Answer.{place}
 use Rattle.answer.proofs.place_of.Statement.{statement}

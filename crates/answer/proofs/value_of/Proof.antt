@@ -1,3 +1,4 @@
+-- `answer::value_of` meets its contract: case by case.
 use borrow.Author.Needs.{needs}
 use Rattle.answer.specs.Answer.{valueOf}
 use Rattle.answer.proofs.value_of.Statement.{statement}

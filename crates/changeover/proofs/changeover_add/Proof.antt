@@ -1,3 +1,4 @@
+-- `changeover::changeover_add` meets its contract: the job's answer, packed, and the lent output as the job left it.
 use Rattle.changeover.proofs.Bounds.{add-fits}
 use Rattle.changeover.proofs.Laws.{says-by}
 use borrow.Author.Needs.{needs}

@@ -1,3 +1,4 @@
+-- `changeover::changeover_look_over` meets its contract: the job's answer, packed.
 use Rattle.changeover.proofs.Bounds.{look-over-fits}
 use Rattle.changeover.proofs.Laws.{says-by}
 use borrow.Author.Needs.{needs}

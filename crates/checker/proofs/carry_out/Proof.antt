@@ -1,3 +1,4 @@
+-- `checker::carry_out` meets its contract: rows 19 and 20, by what the plan and the goal came to.
 use Rattle.checker.proofs.Out.{out-stop, out-miss, out-pass}
 use borrow.Author.Needs.{needs}
 use Rattle.checker.proofs.carry_out.Statement.{statement}

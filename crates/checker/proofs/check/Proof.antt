@@ -1,3 +1,4 @@
+-- `checker::check` meets its contract: row by row.
 use mathlib.Core.Path.{sym, _∙_}
 use Rattle.answer.specs.Turns.{is-good}
 use Rattle.learner.proofs.Book.{schema-own, form-good}

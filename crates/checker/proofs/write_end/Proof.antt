@@ -1,3 +1,4 @@
+-- `checker::write_end` meets its contract: the state has the length of the sheet, so nothing of the old sheet is left.
 use mathlib.Core.Path.{_≡_, _∙_}
 use native.Mathlib.Omega.{arith}
 use denote.Ref.{now}

@@ -1,3 +1,4 @@
+-- `input::byte_at` meets its contract: within the input and past its end.
 use borrow.Author.Needs.{needs}
 use mathlib.Core.Path.{sym}
 use denote.Ref.{now}

@@ -1,3 +1,4 @@
+-- `input::two_at` meets its contract: the sum of two bytes fits.
 use borrow.Author.Needs.{needs}
 use Rattle.input.specs.Bytes.{two}
 use Rattle.input.proofs.two_at.Statement.{statement}

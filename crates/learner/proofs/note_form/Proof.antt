@@ -1,3 +1,4 @@
+-- `learner::note_form` meets its contract: rows 1 to 5, then the records from an empty start.
 use mathlib.Core.Path.{sym, _∙_}
 use native.Mathlib.Omega.{arith}
 use Rattle.answer.specs.Turns.{is-good}

@@ -1,3 +1,4 @@
+-- `learner::note_record` meets its contract: its steps stand behind its objects.
 use Rattle.learner.proofs.Records.{record-ready, record-held}
 use borrow.Author.Needs.{needs}
 use Rattle.learner.proofs.note_record.Statement.{statement}

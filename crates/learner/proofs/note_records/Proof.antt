@@ -1,3 +1,4 @@
+-- `learner::note_records` meets its contract: the records that are left, noted after those before, come to the whole.
 use Prim.Native.Nat.{_+_, _*_, _≤_}
 use mathlib.Core.Path.{_≡_, refl, sym, _∙_}
 use native.Mathlib.Omega.{arith}

@@ -1,3 +1,4 @@
+-- `learner::state_end` meets its contract: the sum fits.
 use Rattle.format.specs.Decode.{stateEnd}
 use borrow.Author.Needs.{needs}
 use Rattle.learner.proofs.state_end.Statement.{statement}

@@ -1,3 +1,4 @@
+-- `sections::counts_bad` meets its contract: the test of the definition, read by read.
 use mathlib.Core.Path.{refl}
 use Rattle.format.specs.Header.{countsBad}
 use Rattle.sections.proofs.counts_bad.Statement.{statement}

@@ -1,3 +1,4 @@
+-- `sections::kind_bad` meets its contract: the test of the definition, read by read.
 use borrow.Author.Needs.{needs}
 use Rattle.format.specs.Header.{kindBad}
 use Rattle.sections.proofs.kind_bad.Statement.{statement}

@@ -1,3 +1,4 @@
+-- `sections::length_bad` meets its contract: the test of the definition, read by read.
 use mathlib.Core.Path.{refl}
 use Rattle.format.specs.Header.{lengthBad}
 use Rattle.sections.proofs.length_bad.Statement.{statement}

@@ -1,3 +1,4 @@
+-- `sections::move_bad` meets its contract: the test of the definition, read by read.
 use borrow.Author.Needs.{needs}
 use Rattle.sections.proofs.Tests.{move-bad-by}
 use Rattle.sections.proofs.move_bad.Statement.{statement}

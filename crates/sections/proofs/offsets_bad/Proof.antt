@@ -1,3 +1,4 @@
+-- `sections::offsets_bad` meets its contract: the test of the definition, read by read.
 use Rattle.format.specs.Header.{offsetsBad}
 use mathlib.Core.Path.{refl}
 use borrow.Author.Needs.{needs}

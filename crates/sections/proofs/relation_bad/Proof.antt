@@ -1,3 +1,4 @@
+-- `sections::relation_bad` meets its contract: the test of the definition, read by read.
 use borrow.Author.Needs.{needs}
 use Rattle.sections.proofs.Tests.{relation-bad-by}
 use Rattle.sections.proofs.relation_bad.Statement.{statement}

@@ -1,3 +1,4 @@
+-- `terms::kind_suits` meets its contract: the expression of the definition.
 use borrow.Author.Needs.{needs}
 use Rattle.terms.specs.Schema.{kindSuits}
 use Rattle.terms.proofs.kind_suits.Statement.{statement}

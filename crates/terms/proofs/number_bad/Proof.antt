@@ -1,3 +1,4 @@
+-- `terms::number_bad` meets its contract: the expression of the definition.
 use borrow.Author.Needs.{needs}
 use Rattle.terms.specs.Schema.{numberBad}
 use Rattle.terms.proofs.number_bad.Statement.{statement}

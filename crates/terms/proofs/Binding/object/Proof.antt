@@ -1,3 +1,4 @@
+-- `terms::Binding::object` meets its contract: the expression of the definition.
 use borrow.Author.Needs.{needs}
 use Rattle.terms.specs.Steps.{objectOf}
 use Rattle.terms.proofs.Binding.object.Statement.{statement}

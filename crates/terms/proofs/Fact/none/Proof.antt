@@ -1,3 +1,4 @@
+-- `terms::Fact::none` meets its contract: field by field.
 use borrow.Author.Needs.{needs}
 use Rattle.terms.specs.Facts.{noFact}
 use Rattle.terms.proofs.Fact.none.Statement.{statement}

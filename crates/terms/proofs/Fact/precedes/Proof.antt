@@ -1,3 +1,4 @@
+-- `terms::Fact::precedes` meets its contract: the expression of the definition.
 use borrow.Author.Needs.{needs}
 use Rattle.terms.specs.Facts.{precedes}
 use Rattle.terms.proofs.Fact.precedes.Statement.{statement}

@@ -1,3 +1,4 @@
+-- `terms::Fact::read` meets its contract: field by field.
 use borrow.Author.Needs.{needs}
 use Rattle.terms.specs.Facts.{factAt}
 use Rattle.terms.proofs.Fact.read.Statement.{statement}

@@ -1,3 +1,4 @@
+-- `terms::Sections::move_at` meets its contract: the expression of the definition.
 use borrow.Author.Needs.{needs}
 use Rattle.terms.specs.Schema.{moveAt}
 use Rattle.terms.proofs.Sections.move_at.Statement.{statement}

@@ -1,3 +1,4 @@
+-- `terms::Sections::read` meets its contract: field by field.
 use borrow.Author.Needs.{needs}
 use Rattle.terms.specs.Sections.{sectionsOf}
 use Rattle.terms.proofs.Sections.read.Statement.{statement}

@@ -1,3 +1,4 @@
+-- `terms::Sections::relation_at` meets its contract: the expression of the definition.
 use borrow.Author.Needs.{needs}
 use Rattle.terms.specs.Schema.{relationAt}
 use Rattle.terms.proofs.Sections.relation_at.Statement.{statement}

@@ -1,3 +1,4 @@
+-- `terms::Step::read` meets its contract: field by field.
 use borrow.Author.Needs.{needs}
 use Rattle.terms.specs.Steps.{stepAt}
 use Rattle.terms.proofs.Step.read.Statement.{statement}

@@ -1,3 +1,4 @@
+-- `terms::Step::repeats` meets its contract: the expression of the definition.
 use borrow.Author.Needs.{needs}
 use Rattle.terms.specs.Steps.{repeats}
 use Rattle.terms.proofs.Step.repeats.Statement.{statement}

@@ -1,3 +1,4 @@
+-- `terms::Step::same_pair` meets its contract: the expression of the definition.
 use borrow.Author.Needs.{needs}
 use Rattle.terms.specs.Steps.{samePair}
 use Rattle.terms.proofs.Step.same_pair.Statement.{statement}
