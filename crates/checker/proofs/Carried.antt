@@ -100,7 +100,7 @@ module _ (s o : List ℕ) (n m k : ℕ) (good : lookOver s ≡ Good n) (learns :
         few = omega arith;
         valid = learned-consistent (domain sch) (transitionsOf s) (formed s n good) (clean s n m good learns) .valid;
         ruled = λ st i. let (a, b) = moves-known st i in ruled sch (transitionsOf s) _ seen (st .action .0) a b;
-        fitting =
+        inMask =
             λ st i.
             record {
               ranged = λ j atom. atom-below sch (st .action .0) j atom;

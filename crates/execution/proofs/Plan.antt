@@ -1,4 +1,4 @@
--- The plan's loop, one turn at a time: a step that is stuck, one that is not, none left. Rules in memory are those that statemask cites.
+-- The plan's loop, one turn at a time: a step that is inapplicable, one that is not, none left. Rules in memory are those that statemask cites.
 use Prim.Native.Nat.{ℕ, zero, suc, _+_, _-_, _*_, _≤_, _<_}
 use native.Mathlib.Numerals.{add-one, sub-one}
 use native.Mathlib.Omega.{arith}
@@ -13,7 +13,7 @@ use Rattle.limits.specs.Limits.{maxMoves, stepSize, heldSize}
 use Rattle.format.specs.Order.{planFrom}
 use Rattle.model.proofs.Quantify.{below-same}
 use Rattle.rulesheet.specs.Sheet.{ruleSets}
-use Rattle.statemask.specs.Statemask.{unmet, stuckIn, nextIn, stepStuck, stepNext, Carried, carry}
+use Rattle.statemask.specs.Statemask.{unmet, inapplicableIn, nextIn, stepInapplicable, stepNext, Carried, carry}
 use Rattle.statemask.proofs.Plan.{carry-stop, carry-go}
 use Rattle.stepping.specs.Stepping.{ruleAt}
 use Rattle.execution.specs.Execution.{Carriable, Carries}
@@ -40,9 +40,9 @@ module _ (l o : List ℕ) (n at : ℕ) (c : Carriable l o n at) (some : 0 < n) w
 
 -- ---- rules in memory
 module _ (sch : Schema) (l : List ℕ) (st : Step) (rules : List (List ℕ)) (read : rules ≡ ruleSets sch l (st .action .0)) (m : List ℕ) where
-  stuck-same : stuckIn (ruleAt rules) (ground sch (st .binding)) m ≡ stepStuck sch l st m
-  unfolding stuckIn stepStuck unmet ruleAt ruleSets
-  stuck-same = rw read (below-same 256 _ _ (λ n. refl))
+  inapplicable-same : inapplicableIn (ruleAt rules) (ground sch (st .binding)) m ≡ stepInapplicable sch l st m
+  unfolding inapplicableIn stepInapplicable unmet ruleAt ruleSets
+  inapplicable-same = rw read (below-same 256 _ _ (λ n. refl))
 
   next-same : nextIn (ruleAt rules) (ground sch (st .binding)) m ≡ stepNext sch l st m
   unfolding nextIn stepNext ruleAt ruleSets
@@ -59,22 +59,22 @@ module _ (sch : Schema) (l o : List ℕ) (n at k : ℕ) (m : List ℕ) where
   unfolding carry planFrom
   carry-none e = rw e
 
-  module _ (some : 0 < n) (st : Step) (step : st ≡ stepAt o at) (rules : List (List ℕ)) (read : rules ≡ ruleSets sch l (st .action .0)) (b : Bool) (tested : b ≡ stuckIn (ruleAt rules) (ground sch (st .binding)) m) where
+  module _ (some : 0 < n) (st : Step) (step : st ≡ stepAt o at) (rules : List (List ℕ)) (read : rules ≡ ruleSets sch l (st .action .0)) (b : Bool) (tested : b ≡ inapplicableIn (ruleAt rules) (ground sch (st .binding)) m) where
     whole : carry sch l (planFrom o n at) m k ≡ carry sch l (st ∷ planFrom o (n - 1) (at + stepSize)) m k
     whole = ap (λ (p : List Step). carry sch l p m k) (plan-more o n at some ∙ ap (λ (s : Step). s ∷ planFrom o (n - 1) (at + stepSize)) (sym step))
 
-    stuck-test : stepStuck sch l st m ≡ b
-    stuck-test = sym (tested ∙ stuck-same sch l st rules read m)
+    inapplicable-test : stepInapplicable sch l st m ≡ b
+    inapplicable-test = sym (tested ∙ inapplicable-same sch l st rules read m)
 
     pub carry-here : b ≡ true → carry sch l (planFrom o n at) m k ≡ record { stop = k; mask = m }
-    carry-here e = whole ∙ carry-stop sch l st (planFrom o (n - 1) (at + stepSize)) m k (stuck-test ∙ e)
+    carry-here e = whole ∙ carry-stop sch l st (planFrom o (n - 1) (at + stepSize)) m k (inapplicable-test ∙ e)
 
     pub carry-more : (m′ : List ℕ) → b ≡ false → m′ ≡ nextIn (ruleAt rules) (ground sch (st .binding)) m
         → carry sch l (planFrom o (n - 1) (at + stepSize)) m′ (k + 1) ≡ carry sch l (planFrom o n at) m k
     carry-more m′ e moved =
         sym
         (whole
-        ∙ carry-go sch l st (planFrom o (n - 1) (at + stepSize)) m k (stuck-test ∙ e)
+        ∙ carry-go sch l st (planFrom o (n - 1) (at + stepSize)) m k (inapplicable-test ∙ e)
         ∙ rw (add-one k, moved, next-same sch l st rules read m))
 
 pub carries : (sch : Schema) (l : List ℕ) (plan : List Step) (old : List ℕ) (number : ℕ) (new : List ℕ)

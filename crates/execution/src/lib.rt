@@ -40,7 +40,7 @@ pub fn start_mask(o: &[u8], n: usize, from: usize) -> [u8; 512]
 
 // ---- the plan
 
-// Row 19: the number, from 1, of the first step that is stuck, 0 where none is. The state is the one in which the plan stopped or ended.
+// Row 19: the number, from 1, of the first step that is inapplicable, 0 where none is. The state is the one in which the plan stopped or ended.
 pub fn carry(
     book: &[u8],
     h: Sections,
@@ -60,7 +60,7 @@ pub fn carry(
         let step = Step::read(o, at);
         let b = step.binding;
         let rules = rulesheet::rules_of(book, h, held, step.action);
-        if stepping::is_stuck(book, h, b, rules, state) {
+        if stepping::is_inapplicable(book, h, b, rules, state) {
             return k;
         }
         stepping::advance(book, h, b, rules, state);

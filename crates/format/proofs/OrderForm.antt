@@ -1,10 +1,8 @@
 -- Rows 14 to 18 together: what an order that passes them has, and where they refuse one that does not.
 use Prim.Native.Nat.{ℕ, _≤_}
 use mathlib.Core.Path.{_≡_, sym, _∙_}
-use mathlib.Core.Bool.{_||_}
 use mathlib.Core.List.{List}
 use native.Mathlib.Omega.{arith}
-use lib.Dec.{ltb}
 use lib.ListN.{length}
 use Rattle.answer.specs.declared.Answer.{Answer}
 use Rattle.answer.specs.declared.Answer.the-variants.{Good, Refused}
@@ -17,7 +15,7 @@ use Rattle.terms.specs.Schema.{Schema, hall}
 use Rattle.terms.specs.Facts.{noFact}
 use Rattle.limits.specs.Limits.{headerSize, stepSize}
 use Rattle.format.specs.States.{facts}
-use Rattle.format.specs.Order.{objectCount, startCount, goalCount, stepCount, startAt, goalAt, stepsAt, orderCountsBad, orderOffsetsBad, fromStart, fromGoal}
+use Rattle.format.specs.Order.{objectCount, startCount, goalCount, stepCount, startAt, goalAt, stepsAt, fromStart, fromGoal, orderHeaderBad}
 use Rattle.format.specs.Order.{orderObjects, orderObject, entries, planStep, orderForm}
 use Rattle.format.proofs.Chains.{chain-end, chain-place}
 use Rattle.format.proofs.States.{facts-chain}
@@ -41,7 +39,7 @@ pub order-good : (sch : Schema) (o : List ℕ) (n : ℕ) → orderForm sch o ≡
 unfolding orderForm fromStart fromGoal
 order-good sch o n e =
     let hl = hall (orderObjects o) o in
-    let a = passed (ltb (length o) headerSize || orderCountsBad o || orderOffsetsBad o) 14 0 n _ e in
+    let a = passed (orderHeaderBad o) 14 0 n _ e in
     let b = parted (walk (orderObject (sch .kinds) o) (objectCount o) headerSize) n _ (a .1) in
     let c = parted (facts 16 sch hl o (length o) (startCount o) noFact (startAt o)) n _ (b .2) in
     let d = parted (entries sch hl o (goalCount o) noFact (goalAt o)) n _ (c .2) in
@@ -61,7 +59,7 @@ pub order-place : (sch : Schema) (o : List ℕ) (k p : ℕ) → orderForm sch o 
 unfolding orderForm fromStart fromGoal
 order-place sch o k p e =
     let hl = hall (orderObjects o) o in
-    row-cases (ltb (length o) headerSize || orderCountsBad o || orderOffsetsBad o) 14 0 _ k p e (λ x y. (omega arith, omega arith, omega arith))
+    row-cases (orderHeaderBad o) 14 0 _ k p e (λ x y. (omega arith, omega arith, omega arith))
     (λ unmet e₁.
     let ends = section-ends o (order-header-good o unmet .counts) in
     refused-cases (walk (orderObject (sch .kinds) o) (objectCount o) headerSize) _ k p e₁

@@ -14,9 +14,8 @@ use Rattle.input.specs.Bytes.{byteAt, two}
 use Rattle.terms.specs.declared.Fact.{Fact}
 use Rattle.terms.specs.Schema.{Schema, Hall, numberBad}
 use Rattle.terms.specs.Facts.{factAt, factBad, precedes}
-use Rattle.terms.specs.Steps.{stepAt, stepBad, repeats}
 use Rattle.limits.specs.Limits.{headerSize, maxObjects, maxFacts, maxEntries, maxSteps, factSize, entrySize, stepSize}
-use Rattle.format.specs.Order.{objectCount, startCount, goalCount, stepCount, startAt, goalAt, stepsAt, orderCountsBad, orderOffsetsBad, orderObject, entryBad, entries, planStep}
+use Rattle.format.specs.Order.{objectCount, startCount, goalCount, stepCount, startAt, goalAt, stepsAt, orderCountsBad, orderOffsetsBad, orderObject, entryBad, entries, planStep, orderHeaderBad, planStepBad}
 use Rattle.format.proofs.Chains.{Chain}
 
 -- the longest order: all counts at their limits
@@ -63,7 +62,8 @@ pub section-ends : (o : List ℕ)
 unfolding stepsAt goalAt startAt
 section-ends o c = (omega arith, omega arith, omega arith, omega arith)
 
-pub order-header-good : (o : List ℕ) → (ltb (length o) headerSize || orderCountsBad o || orderOffsetsBad o) ≡ false → OrderHeaderGood o
+pub order-header-good : (o : List ℕ) → orderHeaderBad o ≡ false → OrderHeaderGood o
+unfolding orderHeaderBad
 order-header-good o e =
     let a = neither _ _ e in
     let b = neither _ _ (a .0) in
@@ -91,7 +91,7 @@ unfolding orderObject
 order-object-entry kinds o at = refl
 
 module _ (sch : Schema) (hl : Hall) (o : List ℕ) where
-  pub plan-step-entry : Entry (planStep sch hl o) (λ at. stepBad sch hl (stepAt o at) || repeats (stepAt o at)) 18 stepSize
+  pub plan-step-entry : Entry (planStep sch hl o) (planStepBad sch hl o) 18 stepSize
   unfolding planStep
   plan-step-entry at = refl
 

@@ -53,6 +53,10 @@ orderOffsetsBad o =
     || not (eqb (two o 14) (stepsAt o))
     || not (eqb (length o) (stepsAt o + stepSize * stepCount o))
 
+-- row 14
+unfoldable pub orderHeaderBad : List ℕ → Bool
+orderHeaderBad o = ltb (length o) headerSize || orderCountsBad o || orderOffsetsBad o
+
 unfoldable pub orderObjects : List ℕ → Objects
 orderObjects o = record { count = objectCount o; at = headerSize }
 
@@ -73,9 +77,12 @@ entries sch hl o (suc n) last at = do
   entries sch hl o n (factAt o (at + 1)) (at + entrySize)
 
 -- row 18
+unfoldable pub planStepBad : Schema → Hall → List ℕ → ℕ → Bool
+planStepBad sch hl o at = stepBad sch hl (stepAt o at) || repeats (stepAt o at)
+
 unfoldable pub planStep : Schema → Hall → List ℕ → ℕ → Answer
 planStep sch hl o at = do
-  _ ← refuse (stepBad sch hl (stepAt o at) || repeats (stepAt o at)) 18 at
+  _ ← refuse (planStepBad sch hl o at) 18 at
   Good (at + stepSize)
 
 -- rows 17 and 18
@@ -93,7 +100,7 @@ fromStart sch hl o = do
 -- rows 14 to 18; the end of the order is good
 unfoldable pub orderForm : Schema → List ℕ → Answer
 orderForm sch o = do
-  _ ← refuse (ltb (length o) headerSize || orderCountsBad o || orderOffsetsBad o) 14 0
+  _ ← refuse (orderHeaderBad o) 14 0
   _ ← walk (orderObject (sch .kinds) o) (objectCount o) headerSize
   fromStart sch (hall (orderObjects o) o) o
 

@@ -17,7 +17,7 @@ use Rattle.terms.specs.declared.Fact.{Fact}
 use Rattle.terms.specs.Steps.{objectOf}
 use Rattle.held.specs.Inverse.{gives, paramOf, placeBound, factBound, atomOf, mark}
 use Rattle.held.proofs.Params.{param-most}
-use Rattle.marks.specs.Marks.{share, placeOf, noShares, Inverts}
+use Rattle.marks.specs.Marks.{share, pairOf, noShares, Inverts}
 
 -- ---- the table
 
@@ -94,20 +94,20 @@ inverts-by b o₁ o₂ o₃ o₄ t₀ t₁ t₂ t₃ t₄ t i₁ i₂ i₃ i₄ 
     }
 
 -- ---- a fact
-pub place-by : (b : Binding) (f : Fact) (t : List ℕ) (m n : ℕ)
+pub pair-by : (b : Binding) (f : Fact) (t : List ℕ) (m n : ℕ)
     → Inverts b t
     → m ≡ getD t (f .first .0) 0
     → n ≡ getD t (f .second .0) 0
     → f .first .0 < 256
     → f .second .0 < 256
-    → 4 * m + n ≡ placeOf b f
-unfolding placeOf
-place-by b f t m n w d e h k = rw (d, e, w .gives (f .first .0) h, w .gives (f .second .0) k)
+    → 4 * m + n ≡ pairOf b f
+unfolding pairOf
+pair-by b f t m n w d e h k = rw (d, e, w .gives (f .first .0) h, w .gives (f .second .0) k)
 
 module _ (b : Binding) (f : Fact) where
   -- the places of a bound fact
-  filled : factBound b f ≡ true → placeOf b f ≡ 4 * (paramOf b (f .first) - 1) + (paramOf b (f .second) - 1)
-  unfolding factBound placeOf share
+  filled : factBound b f ≡ true → pairOf b f ≡ 4 * (paramOf b (f .first) - 1) + (paramOf b (f .second) - 1)
+  unfolding factBound pairOf share
   filled e = go (placeBound b (f .first)) (placeBound b (f .second)) e
     where
       go : (m n : Bool) → (m && n) ≡ true
@@ -116,8 +116,8 @@ module _ (b : Binding) (f : Fact) where
       go true false d = clash false d refl
       go false n d = clash false d refl
 
-  unfilled : factBound b f ≡ false → 16 ≤ placeOf b f
-  unfolding factBound placeOf share
+  unfilled : factBound b f ≡ false → 16 ≤ pairOf b f
+  unfolding factBound pairOf share
   unfilled e = go (placeBound b (f .first)) (placeBound b (f .second)) e
     where
       go : (m n : Bool) → (m && n) ≡ false → 16 ≤ 4 * cond m (paramOf b (f .first) - 1) 16 + cond n (paramOf b (f .second) - 1) 16
@@ -125,7 +125,7 @@ module _ (b : Binding) (f : Fact) where
       go true false d = omega arith
       go false n d = omega arith
 
-  module _ (x : ℕ) (is : x ≡ placeOf b f) where
+  module _ (x : ℕ) (is : x ≡ pairOf b f) where
     pub place-bound : x < 16 → factBound b f ≡ true
     place-bound h = go (factBound b f) refl
       where
@@ -140,8 +140,8 @@ module _ (b : Binding) (f : Fact) where
         go true e = absurd (omega (arith, filled e, param-most b (f .first), param-most b (f .second)))
         go false e = refl
 
-    pub place-test : leb 16 x ≡ not (factBound b f)
-    place-test = go (leb 16 x) refl
+    pub pair-test : leb 16 x ≡ not (factBound b f)
+    pair-test = go (leb 16 x) refl
       where
         go : (t : Bool) → leb 16 x ≡ t → t ≡ not (factBound b f)
         go true e = ap not (sym (place-unbound (leb-true 16 x e)))

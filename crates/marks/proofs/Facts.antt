@@ -16,8 +16,8 @@ use Rattle.limits.specs.Limits.{factSize}
 use Rattle.format.specs.Decode.{factsAt, stateAt, stateEnd}
 use Rattle.held.specs.Inverse.{mark, marks, unbound, sameFacts, unboundChanged}
 use Rattle.marks.specs.declared.Cursor.{Cursor}
-use Rattle.marks.specs.Marks.{placeOf, rest, Ahead, next, Comes}
-use Rattle.marks.proofs.Atoms.{place-test}
+use Rattle.marks.specs.Marks.{pairOf, rest, Ahead, next, Comes}
+use Rattle.marks.proofs.Atoms.{pair-test}
 use Rattle.marks.proofs.Unbound.{none-more}
 
 module _ (s : List ℕ) where
@@ -79,7 +79,7 @@ module _ (s : List ℕ) (b : Binding) where
   module _ {m₀ : List ℕ} {c₀ : Cursor} {m : List ℕ} {c : Cursor} {changed : Bool} (w : Marked m₀ c₀ m c changed) where
     pub marked-next : (f : Fact) (x : ℕ) (m′ : List ℕ) (c′ : Cursor)
         → Comes s c f
-        → x ≡ placeOf b f
+        → x ≡ pairOf b f
         → Passes b f c m c′ m′
         → length m′ ≡ length m
         → Marked m₀ c₀ m′ c′ (changed || leb 16 x)
@@ -91,7 +91,7 @@ module _ (s : List ℕ) (b : Binding) where
           marked = t .marked ∙ w .marked;
           met =
               or-assoc changed (leb 16 x) (unboundChanged b [] (rest s c′))
-              ∙ ap (λ (y : Bool). changed || y) (none-more b f (rest s c′) (leb 16 x) (place-test b f x d) ∙ ap (unboundChanged b []) (sym (t .first)))
+              ∙ ap (λ (y : Bool). changed || y) (none-more b f (rest s c′) (leb 16 x) (pair-test b f x d) ∙ ap (unboundChanged b []) (sym (t .first)))
               ∙ w .met;
         }
 

@@ -15,8 +15,8 @@ use Rattle.held.specs.Inverse.{marks, atomsIn, sameFact, sameFacts, unbound, un
 use Rattle.held.proofs.Facts.{same-fact}
 use Rattle.marks.specs.declared.Cursor.{Cursor}
 use Rattle.marks.specs.declared.Walk.{Walk}
-use Rattle.marks.specs.Marks.{placeOf, rest, Ahead, Comes, says, Turned, StepMarked}
-use Rattle.marks.proofs.Atoms.{place-bound, place-unbound, place-test}
+use Rattle.marks.specs.Marks.{pairOf, rest, Ahead, Comes, says, Turned, StepMarked}
+use Rattle.marks.proofs.Atoms.{place-bound, place-unbound, pair-test}
 use Rattle.marks.proofs.Unbound.{none-after, both-more, before-more, changed-more}
 use Rattle.marks.proofs.Facts.{rest-none, Passes, passed-by}
 
@@ -30,7 +30,7 @@ module _ (s : List ℕ) (b : Binding) where
   -- ---- one turn: f comes next before
   module _ (w : Walk) (f : Fact) (m n : List ℕ) (now-f : Comes s (w .pre) f) where
     -- a bound fact that does not come next after
-    pub turned-before : Ahead s (w .post) → (x : ℕ) → x ≡ placeOf b f → x < 16 → (p : Cursor) (m′ : List ℕ) → Passes b f (w .pre) m p m′
+    pub turned-before : Ahead s (w .post) → (x : ℕ) → x ≡ pairOf b f → x < 16 → (p : Cursor) (m′ : List ℕ) → Passes b f (w .pre) m p m′
         → Turned s b w m n (record { pre = p; post = w .post; changed = w .changed }) m′ n
     unfolding says
     turned-before a x is u p m′ d =
@@ -69,9 +69,9 @@ module _ (s : List ℕ) (b : Binding) where
       -- f is no bound fact and differs, so g is a bound fact or a change
       pub turned-after : Ahead s (w .pre) → t ≡ false
           → (x y : ℕ)
-          → x ≡ placeOf b f
+          → x ≡ pairOf b f
           → 16 ≤ x
-          → y ≡ placeOf b g
+          → y ≡ pairOf b g
           → (q : Cursor) (n′ : List ℕ)
           → Passes b g (w .post) n q n′
           → Turned s b w m n (record { pre = w .pre; post = q; changed = w .changed || leb 16 y }) m n′
@@ -87,7 +87,7 @@ module _ (s : List ℕ) (b : Binding) where
             same =
                 or-assoc (w .changed) (leb 16 y) (unboundChanged b (rest s (w .pre)) (rest s q))
                 ∙ ap (λ (z : Bool). w .changed || z)
-                (rw (now-f .first, j .first) (changed-more b f _ g (rest s q) (leb 16 y) (sym is-t ∙ u) h (place-test b g y is′)));
+                (rw (now-f .first, j .first) (changed-more b f _ g (rest s q) (leb 16 y) (sym is-t ∙ u) h (pair-test b g y is′)));
             less = omega (arith, j .less);
           }
 

@@ -8,7 +8,7 @@ use lib.ListN.{length, getD, replicate}
 use Rattle.terms.specs.declared.Object.{Object}
 use Rattle.terms.specs.declared.Binding.{Binding}
 use Rattle.terms.specs.declared.Fact.{Fact}
-use Rattle.limits.specs.Limits.{factSize}
+use Rattle.limits.specs.Limits.{factSize, atomsPerRelation}
 use Rattle.format.specs.Decode.{factsAt}
 use Rattle.held.specs.Inverse.{paramOf, placeBound, marks, atomsIn, unboundChanged}
 use Rattle.marks.specs.declared.Cursor.{Cursor}
@@ -17,16 +17,16 @@ use Rattle.marks.specs.declared.Walk.{Walk}
 -- ---- from a fact to its bound fact
 
 -- What an object adds to a bound fact's number in the second place: the object's parameter, counted from 0, and nothing in an unused place.
--- 16, the number of pairs of parameters, where no parameter has the object.
+-- The number of pairs of parameters where no parameter has the object.
 unfoldable pub share : Binding → Object → ℕ
-share b x = cond (placeBound b x) (paramOf b x - 1) 16
+share b x = cond (placeBound b x) (paramOf b x - 1) atomsPerRelation
 
--- what both places add: below 16 for a bound fact alone
-unfoldable pub placeOf : Binding → Fact → ℕ
-placeOf b f = 4 * share b (f .first) + share b (f .second)
+-- the number of the pair of parameters in both places, below that number for a bound fact alone
+unfoldable pub pairOf : Binding → Fact → ℕ
+pairOf b f = 4 * share b (f .first) + share b (f .second)
 
 unfoldable pub noShares : List ℕ
-noShares = replicate 256 16
+noShares = replicate 256 atomsPerRelation
 
 -- a table of the shares, by the number of the object
 pub record Inverts (b : Binding) (t : List ℕ) : Type 0 where

@@ -8,7 +8,7 @@ ghost use Rattle.limits.specs.Limits.{setSize};
 ghost use Rattle.mask.specs.Sets.{empty};
 ghost use Rattle.format.specs.Decode.{stateAt, stateEnd};
 ghost use Rattle.held.specs.Inverse.{mark, marks, sameFact, unboundChanged};
-ghost use Rattle.marks.specs.Marks.{noShares, Inverts, placeOf, rest, next, Ahead, Comes, Turned, StepMarked};
+ghost use Rattle.marks.specs.Marks.{noShares, Inverts, pairOf, rest, next, Ahead, Comes, Turned, StepMarked};
 use terms::Binding;
 use terms::Fact;
 use terms::Object;
@@ -17,7 +17,7 @@ use terms::Relation;
 
 // What the table has for an object of no parameter: the two places of a bound fact add less. A relation has so many bound facts, one
 // for each pair of parameters.
-const UNBOUND: usize = 16;
+const UNBOUND: usize = limits::ATOMS_PER_RELATION;
 
 // ---- from a fact to its bound fact
 
@@ -58,21 +58,21 @@ fn wide(n: u8) -> usize
 }
 
 // What both places add, UNBOUND or more for a fact that is no bound fact. The table `t` is that of the binding `b`, here and below.
-fn place(t: &[u8], b: Binding, f: Fact) -> usize
+fn pair(t: &[u8], b: Binding, f: Fact) -> usize
     requires { ⌜ Inverts b (now t) ⌝ }
-    ensures { λ r. ⌜ r ≡ placeOf b f ⌝ }
+    ensures { λ r. ⌜ r ≡ pairOf b f ⌝ }
 {
     4 * wide(t[f.first.0 as usize]) + wide(t[f.second.0 as usize])
 }
 
-fn mark(m: &mut [u8], b: Binding, f: Fact, place: usize)
-    requires { ⌜ place ≡ placeOf b f ⌝ }
+fn mark(m: &mut [u8], b: Binding, f: Fact, pair: usize)
+    requires { ⌜ pair ≡ pairOf b f ⌝ }
     ensures { λ _. ⌜ now (m .exit) ≡ mark b (now (m .entry)) f ⌝ }
 {
-    if UNBOUND <= place {
+    if UNBOUND <= pair {
         return;
     }
-    mask::set_bit(m, UNBOUND * terms::index(f.relation.0) + place);
+    mask::set_bit(m, UNBOUND * terms::index(f.relation.0) + pair);
 }
 
 fn same_fact(f: Fact, g: Fact) -> bool
@@ -113,11 +113,11 @@ impl Cursor {
     }
 
     // Past the next fact `f`, which is marked.
-    fn pass(self, m: &mut [u8], b: Binding, f: Fact, place: usize) -> Cursor
-        requires { ⌜ (place ≡ placeOf b f) × (0 < self .left) × (self .at ≤ 500000) ⌝ }
+    fn pass(self, m: &mut [u8], b: Binding, f: Fact, pair: usize) -> Cursor
+        requires { ⌜ (pair ≡ pairOf b f) × (0 < self .left) × (self .at ≤ 500000) ⌝ }
         ensures { λ r. ⌜ (now (m .exit) ≡ mark b (now (m .entry)) f) × (r ≡ next self) ⌝ }
     {
-        mark(m, b, f, place);
+        mark(m, b, f, pair);
         Cursor {
             at: self.at + limits::FACT_SIZE,
             left: self.left - 1,
@@ -134,7 +134,7 @@ fn mark_rest(m: &mut [u8], s: &[u8], t: &[u8], b: Binding, from: Cursor) -> bool
     let mut changed = false;
     while 0 < c.left {
         let f = c.fact(s);
-        let x = place(t, b, f);
+        let x = pair(t, b, f);
         c = c.pass(m, b, f, x);
         changed = changed | (UNBOUND <= x);
     }
@@ -161,7 +161,7 @@ fn turn(before: &mut [u8], after: &mut [u8], s: &[u8], t: &[u8], b: Binding, w: 
     let q = w.post;
     let f = p.fact(s);
     let g = q.fact(s);
-    let x = place(t, b, f);
+    let x = pair(t, b, f);
     if same_fact(f, g) {
         return Walk {
             pre: p.pass(before, b, f, x),
@@ -176,7 +176,7 @@ fn turn(before: &mut [u8], after: &mut [u8], s: &[u8], t: &[u8], b: Binding, w: 
             changed: w.changed,
         };
     }
-    let y = place(t, b, g);
+    let y = pair(t, b, g);
     Walk {
         pre: p,
         post: q.pass(after, b, g, y),

@@ -9,7 +9,7 @@ use lib.Dec.{eqb, ltb}
 use lib.ListN.{getD}
 use Rattle.model.specs.Quantify.{same, below, any, later, first}
 use Rattle.model.specs.Domain.{Domain, State, Step, Transition, Entry}
-use Rattle.model.specs.Model.{image, stuck, next, run}
+use Rattle.model.specs.Model.{image, inapplicable, next, run}
 use Rattle.model.specs.Judge.{Verdict, impossible, stops, misses, passes, wrong}
 use Rattle.model.specs.Learned.{saw, before, after, turned, learned, unboundEffect, conflicting}
 use Rattle.model.specs.Check.{reached, judgedRun, planVerdict, inconsistent, checked}
@@ -61,5 +61,5 @@ small-hall-right :
     × (tried (filed ∷ seen (0 ∷ 4 ∷ []) (0 ∷ 1 ∷ 3 ∷ []) ∷ []) [] [] ≡ impossible)
     × (tried (seen (0 ∷ 4 ∷ []) (1 ∷ 3 ∷ 5 ∷ []) ∷ []) [] [] ≡ impossible)
     × (learned hall (seen (0 ∷ 3 ∷ 4 ∷ []) (1 ∷ 3 ∷ []) ∷ []) .effect true 1 2 ≡ false)
-unfolding tried same below any later first image stuck next run wrong saw before after turned learned unboundEffect conflicting reached judgedRun planVerdict inconsistent checked
+unfolding tried same below any later first image inapplicable next run wrong saw before after turned learned unboundEffect conflicting reached judgedRun planVerdict inconsistent checked
 small-hall-right = (refl, refl, refl, refl, refl, refl, refl, refl, refl, refl)

@@ -9,24 +9,24 @@ use borrow.Author.Tests.{leb-true, leb-false}
 use Rattle.truth.specs.Bools.{clash, decide, is-false, is-true}
 use Rattle.model.specs.Quantify.{Mem}
 use Rattle.model.specs.Domain.{Domain, Transition}
-use Rattle.model.specs.Model.{Model, Valid, Fits, Consistent, image, stuck, next}
+use Rattle.model.specs.Model.{Model, Valid, Fits, Consistent, image, inapplicable, next}
 use Rattle.model.specs.Learned.{learned, unboundEffect, conflicting}
 use Rattle.model.specs.Check.{inconsistent}
 use Rattle.model.specs.Formed.{Formed}
 use Rattle.model.specs.Stricter.{value}
 use Rattle.model.proofs.Truth.{same-in, same-out}
-use Rattle.model.proofs.Next.{each-fact, next-at, next-off, stuck-out}
+use Rattle.model.proofs.Next.{each-fact, next-at, next-off, inapplicable-out}
 use Rattle.model.proofs.Seen.{sight, before-in, after-in, turned-out, need-out, effect-out}
 use Rattle.model.proofs.Stricter.{Unconflicted, learned-makes, model-unconflicted}
 use Rattle.model.proofs.Rows.{unbound-in, unbound-out, conflicting-in, conflicting-out, inconsistent-out, no-unbound, no-conflicting}
 
 -- the learned model stops at no transition that it was learned from
-pub learned-goes : (D : Domain) (ts : List Transition) (t : Transition) → Mem t ts → stuck D (learned D ts) (t .step) (t .pre) ≡ false
+pub learned-goes : (D : Domain) (ts : List Transition) (t : Transition) → Mem t ts → inapplicable D (learned D ts) (t .step) (t .pre) ≡ false
 learned-goes D ts t m =
     is-false
     _
     (λ e.
-    let (n, h, p) = stuck-out D (t .step) (learned D ts) (t .pre) e in
+    let (n, h, p) = inapplicable-out D (t .step) (learned D ts) (t .pre) e in
     clash _ (before-in ts _ n _ _ (sight ts t n m)) (rw Bool·not-not at (need-out D ts _ _ n p .1)))
 
 module _ (D : Domain) (ts : List Transition) (formed : Formed D ts) where
@@ -54,7 +54,7 @@ module _ (D : Domain) (ts : List Transition) (formed : Formed D ts) where
             (is-true _ (λ e. clash _ (unbound-in D t f (leb-false (D .facts) f h) (λ q. clash _ (same-in _ _ q) e) off) (no-unbound D ts clean t m)))
 
     -- A valid model fits a transition that it does not stop at, if it makes of the value at each atom what is there after.
-    pub fits-from : (M : Model) → Valid D M → (t : Transition) → Mem t ts → stuck D M (t .step) (t .pre) ≡ false
+    pub fits-from : (M : Model) → Valid D M → (t : Transition) → Mem t ts → inapplicable D M (t .step) (t .pre) ≡ false
         → ((n : ℕ) → D .atom (t .step .action) n ≡ true → value M (t .step .action) n (t .pre (t .step .ground n)) ≡ t .post (t .step .ground n)) → Fits D M t
     fits-from M valid t m goes makes =
         record {

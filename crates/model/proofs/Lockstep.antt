@@ -10,17 +10,17 @@ use lib.ListN.{length}
 use Rattle.truth.specs.Bools.{clash, decide, is-false}
 use Rattle.model.specs.Quantify.{here, there}
 use Rattle.model.specs.Domain.{Domain, State, Step}
-use Rattle.model.specs.Model.{Model, Valid, Run, stopped, ended, image, stuck, next, run}
+use Rattle.model.specs.Model.{Model, Valid, Run, stopped, ended, image, inapplicable, next, run}
 use Rattle.model.specs.Formed.{Proper, Grounded}
 use Rattle.model.specs.Stricter.{Stricter}
-use Rattle.model.proofs.Next.{each-fact, next-at, next-off, stuck-in, stuck-out}
+use Rattle.model.proofs.Next.{each-fact, next-at, next-off, inapplicable-in, inapplicable-out}
 
 module _ (D : Domain) (M : Model) (s : Step) (plan : List Step) (st : State) (k : ℕ) where
-  pub run-stop : stuck D M s st ≡ true → run D M (s ∷ plan) st k ≡ stopped k
+  pub run-stop : inapplicable D M s st ≡ true → run D M (s ∷ plan) st k ≡ stopped k
   unfolding run
   run-stop e = rw (e, run)
 
-  pub run-go : stuck D M s st ≡ false → run D M (s ∷ plan) st k ≡ run D M plan (next D M s st) (suc k)
+  pub run-go : inapplicable D M s st ≡ false → run D M (s ∷ plan) st k ≡ run D M plan (next D M s st) (suc k)
   unfolding run
   run-go e = rw (e, run)
 
@@ -29,9 +29,9 @@ pub run-within : (D : Domain) (M : Model) (plan : List Step) (st : State) (k j :
     → (k ≤ j) × (j < k + length plan)
 unfolding run
 run-within D M [] st k j e = absurd (let z : _≡_ {A = ℕ} 0 1 = cc in omega arith)
-run-within D M (s ∷ plan) st k j e = go (decide (stuck D M s st)) (run-within D M plan (next D M s st) (suc k) j)
+run-within D M (s ∷ plan) st k j e = go (decide (inapplicable D M s st)) (run-within D M plan (next D M s st) (suc k) j)
   where
-    go : (stuck D M s st ≡ true) ⊎ (stuck D M s st ≡ false)
+    go : (inapplicable D M s st ≡ true) ⊎ (inapplicable D M s st ≡ false)
         → (run D M plan (next D M s st) (suc k) ≡ stopped j → (suc k ≤ j) × (j < suc k + length plan))
         → (k ≤ j) × (j < k + length (s ∷ plan))
     go (inl h) rest = let z : k ≡ j = cc (run-stop D M s plan st k h) in (omega arith, omega arith)
@@ -44,19 +44,19 @@ Ahead (ended end) r = r ≡ ended end
 
 module _ (D : Domain) (L M : Model) (strict : Stricter D L M) where
   -- A step that is applicable under the stricter model is applicable under the other.
-  pub goes-too : (s : Step) (st : State) → stuck D L s st ≡ false → stuck D M s st ≡ false
+  pub goes-too : (s : Step) (st : State) → inapplicable D L s st ≡ false → inapplicable D M s st ≡ false
   goes-too s st goes =
       is-false
       _
-      (λ e. let (n, h, p) = stuck-out D s M st e in clash _ (stuck-in D s L st n h (strict .needs _ _ n p)) goes)
+      (λ e. let (n, h, p) = inapplicable-out D s M st e in clash _ (inapplicable-in D s L st n h (strict .needs _ _ n p)) goes)
 
   module _ (valid : Valid D L) (valid′ : Valid D M) where
     -- And it yields the same state under both.
-    pub same-next : (s : Step) (st : State) → Proper D s → stuck D L s st ≡ false → next D M s st ≡ next D L s st
+    pub same-next : (s : Step) (st : State) → Proper D s → inapplicable D L s st ≡ false → next D M s st ≡ next D L s st
     same-next s st proper goes = λ i f. each-fact D s (λ g. next D M s st g ≡ next D L s st g) on off f i
       where
         met : (n : ℕ) → D .atom (s .action) n ≡ true → L .precondition (not (st (s .ground n))) (s .action) n ≡ false
-        met n atom = is-false _ (λ e. clash _ (stuck-in D s L st n (proper .ranged n atom) e) goes)
+        met n atom = is-false _ (λ e. clash _ (inapplicable-in D s L st n (proper .ranged n atom) e) goes)
 
         on : (n : ℕ) → D .atom (s .action) n ≡ true → next D M s st (s .ground n) ≡ next D L s st (s .ground n)
         on n atom = next-at D s M valid′ st proper n atom ∙ strict .alike _ _ n atom (met n atom) ∙ sym (next-at D s L valid st proper n atom)
@@ -68,9 +68,9 @@ module _ (D : Domain) (L M : Model) (strict : Stricter D L M) where
     pub lockstep : (plan : List Step) → Grounded D plan → (st : State) (k : ℕ) → Ahead (run D L plan st k) (run D M plan st k)
     unfolding run
     lockstep [] grounded st k = refl
-    lockstep (s ∷ plan) grounded st k = go (decide (stuck D L s st)) (lockstep plan (λ r m. grounded r (there m)) (next D L s st) (suc k))
+    lockstep (s ∷ plan) grounded st k = go (decide (inapplicable D L s st)) (lockstep plan (λ r m. grounded r (there m)) (next D L s st) (suc k))
       where
-        go : (stuck D L s st ≡ true) ⊎ (stuck D L s st ≡ false) → Ahead (run D L plan (next D L s st) (suc k)) (run D M plan (next D L s st) (suc k))
+        go : (inapplicable D L s st ≡ true) ⊎ (inapplicable D L s st ≡ false) → Ahead (run D L plan (next D L s st) (suc k)) (run D M plan (next D L s st) (suc k))
             → Ahead (run D L (s ∷ plan) st k) (run D M (s ∷ plan) st k)
         go (inl e) rest = rw (run-stop D L s plan st k e) (λ j h. run-within D M (s ∷ plan) st k j h .0)
         go (inr e) rest =

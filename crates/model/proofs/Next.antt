@@ -7,7 +7,7 @@ use lib.Dec.{eqb}
 use borrow.Author.Tests.{eqb-true, eq-eqb}
 use Rattle.truth.specs.Bools.{clash, decide, is-false, bool-eq, and-in, and-out}
 use Rattle.model.specs.Domain.{Domain, State, Step}
-use Rattle.model.specs.Model.{Model, Valid, image, stuck, next}
+use Rattle.model.specs.Model.{Model, Valid, image, inapplicable, next}
 use Rattle.model.specs.Formed.{Proper}
 use Rattle.model.specs.Stricter.{value}
 use Rattle.model.proofs.Quantify.{below-in, below-out}
@@ -64,10 +64,10 @@ module _ (D : Domain) (s : Step) where
         (and-true (st f))
 
   module _ (M : Model) (st : State) where
-    pub stuck-in : (n : ℕ) → n < D .atoms → M .precondition (not (st (s .ground n))) (s .action) n ≡ true → stuck D M s st ≡ true
-    unfolding stuck
-    stuck-in n h e = below-in _ _ n h e
+    pub inapplicable-in : (n : ℕ) → n < D .atoms → M .precondition (not (st (s .ground n))) (s .action) n ≡ true → inapplicable D M s st ≡ true
+    unfolding inapplicable
+    inapplicable-in n h e = below-in _ _ n h e
 
-    pub stuck-out : stuck D M s st ≡ true → (n : ℕ) × (n < D .atoms) × (M .precondition (not (st (s .ground n))) (s .action) n ≡ true)
-    unfolding stuck
-    stuck-out e = below-out _ _ e
+    pub inapplicable-out : inapplicable D M s st ≡ true → (n : ℕ) × (n < D .atoms) × (M .precondition (not (st (s .ground n))) (s .action) n ≡ true)
+    unfolding inapplicable
+    inapplicable-out e = below-out _ _ e

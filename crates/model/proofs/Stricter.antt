@@ -9,7 +9,7 @@ use Rattle.model.specs.Model.{Model, Consistent}
 use Rattle.model.specs.Learned.{before, after, turned, learned}
 use Rattle.model.specs.Formed.{Formed}
 use Rattle.model.specs.Stricter.{value, Stricter}
-use Rattle.model.proofs.Next.{next-at, stuck-in}
+use Rattle.model.proofs.Next.{next-at, inapplicable-in}
 use Rattle.model.proofs.Seen.{Sight, before-out, after-in, after-out, turned-in, turned-out, need-in}
 
 -- what an action has made of an atom, it leaves so
@@ -66,7 +66,7 @@ module _ (D : Domain) (ts : List Transition) (formed : Formed D ts) (M : Model) 
       let (y, s) = before-out ts a n (not b) e in
       let t = s .transition in
       let ranged = formed .proper t (s .member) .ranged n (rw (s .action) (consistent .valid .needed-atom b a n h)) in
-      clash _ (stuck-in D (t .step) M (t .pre) n ranged (rw (s .was, Bool·not-not, s .action) h)) (consistent .fits t (s .member) .goes)
+      clash _ (inapplicable-in D (t .step) M (t .pre) n ranged (rw (s .was, Bool·not-not, s .action) h)) (consistent .fits t (s .member) .goes)
 
   -- The learned model is stricter than each consistent one.
   pub stricter : Stricter D (learned D ts) M

@@ -24,8 +24,8 @@ unfoldable pub image : Domain → (ℕ → Bool) → Step → State
 image D q s f = below (D .atoms) (λ n. q n && eqb (s .ground n) f)
 
 -- the step is not applicable: an atom is needed to be what its fact is not
-unfoldable pub stuck : Domain → Model → Step → State → Bool
-stuck D M s st = below (D .atoms) (λ n. M .precondition (not (st (s .ground n))) (s .action) n)
+unfoldable pub inapplicable : Domain → Model → Step → State → Bool
+inapplicable D M s st = below (D .atoms) (λ n. M .precondition (not (st (s .ground n))) (s .action) n)
 
 -- the state after an applicable step: added facts hold, deleted ones do not, all others stay
 unfoldable pub next : Domain → Model → Step → State → State
@@ -33,7 +33,7 @@ next D M s st f = image D (M .effect true (s .action)) s f || (st f && not (imag
 
 -- the model carries the transition: the step is applicable and yields the state after it
 pub record Fits (D : Domain) (M : Model) (t : Transition) : Type 0 where
-  pub goes : stuck D M (t .step) (t .pre) ≡ false
+  pub goes : inapplicable D M (t .step) (t .pre) ≡ false
   pub yields : (f : ℕ) → t .post f ≡ next D M (t .step) (t .pre) f
 
 -- consistent with a list of transitions, by membership: the sequence does not matter
@@ -49,4 +49,4 @@ pub data Run : Type 0 where
 -- the plan from a state on, its first step having the number given
 unfoldable pub run : Domain → Model → List Step → State → ℕ → Run
 run D M [] st k = ended st
-run D M (s ∷ plan) st k = elim (stuck D M s st) [ true ↦ stopped k | false ↦ run D M plan (next D M s st) (suc k) ]
+run D M (s ∷ plan) st k = elim (inapplicable D M s st) [ true ↦ stopped k | false ↦ run D M plan (next D M s st) (suc k) ]

@@ -8,7 +8,7 @@ use lib.ListN.{length}
 use Rattle.input.specs.Bytes.{two}
 use Rattle.terms.specs.declared.Objects.{Objects}
 use Rattle.limits.specs.Limits.{headerSize, maxObjects, maxFacts, maxEntries, maxSteps, stepSize}
-use Rattle.format.specs.Order.{objectCount, startCount, goalCount, stepCount, startAt, goalAt, stepsAt, orderCountsBad, orderOffsetsBad, orderObjects}
+use Rattle.format.specs.Order.{objectCount, startCount, goalCount, stepCount, startAt, goalAt, stepsAt, orderCountsBad, orderOffsetsBad, orderObjects, orderHeaderBad}
 
 module _ (o : List ℕ) where
   pub objects-by : (n : ℕ) → n ≡ objectCount o → _≡_ {A = Objects} (record { count = n; at = headerSize }) (orderObjects o)
@@ -45,5 +45,6 @@ module _ (o : List ℕ) where
   pub header-bad-by : (a b : Bool)
       → a ≡ orderCountsBad o
       → b ≡ orderOffsetsBad o
-      → (ltb (length o) headerSize || a || b) ≡ (ltb (length o) headerSize || orderCountsBad o || orderOffsetsBad o)
+      → (ltb (length o) headerSize || a || b) ≡ orderHeaderBad o
+  unfolding orderHeaderBad
   header-bad-by a b p q = rw (p, q)

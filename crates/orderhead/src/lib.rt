@@ -2,13 +2,10 @@
 // Uses input, terms, limits and the definitions of format. `o` is the order.
 use terms::Objects;
 ghost use mathlib.Core.Path.{_≡_};
-ghost use mathlib.Core.Bool.{_||_};
 ghost use Prim.Native.Nat.{_≤_};
-ghost use lib.Dec.{ltb};
-ghost use lib.ListN.{length};
-ghost use Rattle.limits.specs.Limits.{headerSize, maxObjects};
+ghost use Rattle.limits.specs.Limits.{maxObjects};
 ghost use Rattle.format.specs.Order.{objectCount, startCount, goalCount, stepCount};
-ghost use Rattle.format.specs.Order.{startAt, goalAt, stepsAt, orderCountsBad, orderOffsetsBad, orderObjects};
+ghost use Rattle.format.specs.Order.{startAt, goalAt, stepsAt, orderCountsBad, orderOffsetsBad, orderHeaderBad, orderObjects};
 
 const MAX_OBJECTS: u16 = limits::MAX_OBJECTS as u16;
 
@@ -94,7 +91,7 @@ fn offsets_bad(o: &[u8]) -> bool
 
 // Row 14.
 pub fn header_bad(o: &[u8]) -> bool
-    ensures { λ r. ⌜ r ≡ (ltb (length (now (o .entry))) headerSize || orderCountsBad (now (o .entry)) || orderOffsetsBad (now (o .entry))) ⌝ }
+    ensures { λ r. ⌜ r ≡ orderHeaderBad (now (o .entry)) ⌝ }
 {
     (o.len() < limits::HEADER_SIZE) | counts_bad(o) | offsets_bad(o)
 }

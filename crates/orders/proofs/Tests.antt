@@ -22,7 +22,7 @@ use Rattle.terms.specs.Facts.{factAt, precedes, noFact}
 use Rattle.terms.specs.Steps.{stepAt, stepBad, repeats}
 use Rattle.limits.specs.Limits.{headerSize, maxObjects}
 use Rattle.format.specs.States.{facts}
-use Rattle.format.specs.Order.{objectCount, startCount, startAt, orderCountsBad, orderOffsetsBad, orderObjects, orderObject, entryBad, orderForm, fromStart}
+use Rattle.format.specs.Order.{objectCount, startCount, startAt, orderObjects, orderObject, entryBad, orderForm, fromStart, orderHeaderBad, planStepBad}
 use Rattle.tables.specs.Tables.{Kinds, tableBad, Tabled}
 
 module _ (sch : Schema) (hl : Hall) (o : List ℕ) where
@@ -48,7 +48,8 @@ module _ (sch : Schema) (hl : Hall) (o : List ℕ) where
       → st ≡ stepAt o at
       → a ≡ stepBad sch hl st
       → b ≡ repeats st
-      → (a || b) ≡ (stepBad sch hl (stepAt o at) || repeats (stepAt o at))
+      → (a || b) ≡ planStepBad sch hl o at
+  unfolding planStepBad
   step-bad-by st at a b p q r = rw (q, r, p)
 
 -- equal starts of a walk have equal answers
@@ -72,7 +73,7 @@ pub kinds-are : (h : Sections) (s : List ℕ) → h .kinds ≡ schema h s .kinds
 unfolding schema
 kinds-are h s = refl
 
-module _ (sch : Schema) (o : List ℕ) (b : Bool) (b-is : b ≡ (ltb (length o) headerSize || orderCountsBad o || orderOffsetsBad o)) where
+module _ (sch : Schema) (o : List ℕ) (b : Bool) (b-is : b ≡ orderHeaderBad o) where
   pub row-fourteen : b ≡ true → Refused 14 0 ≡ orderForm sch o
   unfolding orderForm
   row-fourteen e = sym (refuse-met _ _ _ _ (sym b-is ∙ e))

@@ -6,17 +6,16 @@ use terms::Fact;
 use terms::Sections;
 use terms::Step;
 ghost use mathlib.Core.Path.{_≡_};
-ghost use mathlib.Core.Bool.{_||_};
 ghost use Prim.Native.Nat.{_+_, _-_, _≤_, _<_};
 ghost use lib.ListN.{length};
 ghost use Rattle.answer.specs.Walk.{walk};
 ghost use Rattle.terms.specs.Schema.{schema, hall};
 ghost use Rattle.terms.specs.Facts.{factAt, noFact};
-ghost use Rattle.terms.specs.Steps.{stepAt, stepBad, repeats};
+ghost use Rattle.terms.specs.Steps.{repeats};
 ghost use Rattle.limits.specs.Limits.{headerSize, maxObjects, maxFacts, entrySize};
 ghost use Rattle.format.specs.States.{facts};
 ghost use Rattle.format.specs.Order.{objectCount, startCount, goalCount, stepCount, startAt, goalAt, stepsAt, orderObjects};
-ghost use Rattle.format.specs.Order.{orderObject, entryBad, entries, planStep, fromGoal, fromStart, orderForm};
+ghost use Rattle.format.specs.Order.{orderObject, entryBad, entries, planStepBad, planStep, fromGoal, fromStart, orderForm};
 ghost use Rattle.tables.specs.Tables.{ForKinds, ForTabled, Follows};
 
 // Row 15 of each object.
@@ -108,7 +107,7 @@ fn goal(o: &[u8], table: &[u32; 512]) -> Answer
 // Row 18, of the step at an offset.
 fn step_bad(book: &[u8], h: Sections, kinds: &[u32; 256], o: &[u8], at: usize) -> bool
     requires { ⌜ at ≤ 1000000 ⌝ }
-    ensures { λ r. ⌜ ForKinds (now (kinds .entry)) (λ hl. r ≡ (stepBad (schema h (now (book .entry))) hl (stepAt (now (o .entry)) at) || repeats (stepAt (now (o .entry)) at))) ⌝ }
+    ensures { λ r. ⌜ ForKinds (now (kinds .entry)) (λ hl. r ≡ planStepBad (schema h (now (book .entry))) hl (now (o .entry)) at) ⌝ }
 {
     let step = Step::read(o, at);
     tables::step_bad(book, h, kinds, step) | step.repeats()

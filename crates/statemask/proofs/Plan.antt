@@ -15,32 +15,32 @@ use Rattle.format.specs.Order.{GoalEntry}
 use Rattle.mask.specs.Sets.{maskOf}
 use Rattle.model.specs.Quantify.{same, first, here, there}
 use Rattle.model.specs.Domain.{Domain, State, Step as GroundAction}
-use Rattle.model.specs.Model.{Model, Valid, Run, stopped, ended, stuck, next, run}
+use Rattle.model.specs.Model.{Model, Valid, Run, stopped, ended, inapplicable, next, run}
 use Rattle.model.specs.Judge.{wrong}
 use Rattle.model.proofs.Quantify.{first-map}
 use Rattle.model.proofs.Lockstep.{run-stop, run-go}
 use Rattle.jobs.specs.Planning.{holding, groundAction, goalEntry}
 use Rattle.jobs.specs.Check.{runAnswer, endSheet}
 use Rattle.held.specs.Rules.{ruleSet}
-use Rattle.statemask.specs.Statemask.{startMask, stepStuck, stepNext, Carried, carry, missed, misses}
-use Rattle.statemask.specs.Carrying.{Under, Ruled, Fitting, Carrying, Agrees, carriedAnswer}
+use Rattle.statemask.specs.Statemask.{startMask, stepInapplicable, stepNext, Carried, carry, missed, misses}
+use Rattle.statemask.specs.Carrying.{Under, Ruled, InMask, Carrying, Agrees, carriedAnswer}
 use Rattle.statemask.proofs.Masks.{test-mask, start-mask}
-use Rattle.statemask.proofs.Step.{next-under, stuck-mask, next-mask}
+use Rattle.statemask.proofs.Step.{next-under, inapplicable-mask, next-mask}
 
 module _ (sch : Schema) (l : List ℕ) (st : Step) (plan : List Step) (m : List ℕ) (k : ℕ) where
-  pub carry-stop : stepStuck sch l st m ≡ true → carry sch l (st ∷ plan) m k ≡ record { stop = k; mask = m }
+  pub carry-stop : stepInapplicable sch l st m ≡ true → carry sch l (st ∷ plan) m k ≡ record { stop = k; mask = m }
   unfolding carry
   carry-stop e = rw (e, carry)
 
-  pub carry-go : stepStuck sch l st m ≡ false → carry sch l (st ∷ plan) m k ≡ carry sch l plan (stepNext sch l st m) (suc k)
+  pub carry-go : stepInapplicable sch l st m ≡ false → carry sch l (st ∷ plan) m k ≡ carry sch l plan (stepNext sch l st m) (suc k)
   unfolding carry
   carry-go e = rw (e, carry)
 
 module _ (D : Domain) (M : Model) (sch : Schema) (l : List ℕ) where
-  module _ (few : D .atoms ≤ maxAtoms) (valid : Valid D M) (s : Step) (fits : Fitting D (groundAction sch s)) (st : State) (under : Under st) where
-    step-stuck : Ruled M (s .action .0) (ruleSet sch l (s .action .0)) → stepStuck sch l s (maskOf endSize st) ≡ stuck D M (groundAction sch s) st
-    unfolding stepStuck groundAction
-    step-stuck ruled = stuck-mask D M few valid (groundAction sch s) fits (ruleSet sch l (s .action .0)) ruled st under
+  module _ (few : D .atoms ≤ maxAtoms) (valid : Valid D M) (s : Step) (fits : InMask D (groundAction sch s)) (st : State) (under : Under st) where
+    step-inapplicable : Ruled M (s .action .0) (ruleSet sch l (s .action .0)) → stepInapplicable sch l s (maskOf endSize st) ≡ inapplicable D M (groundAction sch s) st
+    unfolding stepInapplicable groundAction
+    step-inapplicable ruled = inapplicable-mask D M few valid (groundAction sch s) fits (ruleSet sch l (s .action .0)) ruled st under
 
     step-next : Ruled M (s .action .0) (ruleSet sch l (s .action .0)) → stepNext sch l s (maskOf endSize st) ≡ maskOf endSize (next D M (groundAction sch s) st)
     unfolding stepNext groundAction
@@ -52,24 +52,24 @@ module _ (D : Domain) (M : Model) (sch : Schema) (l : List ℕ) where
   unfolding carry run
   carry-run [] c st under k h = (refl, refl, under)
   carry-run (s ∷ plan) c st under k h =
-      go (decide (stuck D M t st)) (carry-run plan rest (next D M t st) (next-under D M (c .few) (c .valid) t fits st under) (suc k) (omega arith))
+      go (decide (inapplicable D M t st)) (carry-run plan rest (next D M t st) (next-under D M (c .few) (c .valid) t fits st under) (suc k) (omega arith))
     where
       t : GroundAction
       t = groundAction sch s
 
-      fits : Fitting D t
-      fits = c .fitting s here
+      fits : InMask D t
+      fits = c .inMask s here
 
       rest : Carrying D M sch l plan
-      rest = record { few = c .few; valid = c .valid; ruled = λ r m. c .ruled r (there m); fitting = λ r m. c .fitting r (there m) }
+      rest = record { few = c .few; valid = c .valid; ruled = λ r m. c .ruled r (there m); inMask = λ r m. c .inMask r (there m) }
 
-      halts : stepStuck sch l s (maskOf endSize st) ≡ stuck D M t st
-      halts = step-stuck (c .few) (c .valid) s fits st under (c .ruled s here)
+      halts : stepInapplicable sch l s (maskOf endSize st) ≡ inapplicable D M t st
+      halts = step-inapplicable (c .few) (c .valid) s fits st under (c .ruled s here)
 
       moves : stepNext sch l s (maskOf endSize st) ≡ maskOf endSize (next D M t st)
       moves = step-next (c .few) (c .valid) s fits st under (c .ruled s here)
 
-      go : (stuck D M t st ≡ true) ⊎ (stuck D M t st ≡ false)
+      go : (inapplicable D M t st ≡ true) ⊎ (inapplicable D M t st ≡ false)
           → Agrees (carry sch l plan (maskOf endSize (next D M t st)) (suc k)) (run D M (map (groundAction sch) plan) (next D M t st) (suc k))
           → Agrees (carry sch l (s ∷ plan) (maskOf endSize st) k) (run D M (t ∷ map (groundAction sch) plan) st k)
       go (inl e) deeper =

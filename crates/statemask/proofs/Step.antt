@@ -1,4 +1,4 @@
--- One step over masks is one step of the model: stuck alike, and after it the mask of the next state.
+-- One step over masks is one step of the model: inapplicable alike, and after it the mask of the next state.
 -- Injective grounding is not asked: both sides lay down all removed facts before any added one.
 use Prim.Native.Nat.{ℕ, _<_, _≤_}
 use native.Mathlib.Omega.{arith}
@@ -11,11 +11,11 @@ use Rattle.limits.specs.Limits.{endSize, setSize, maxAtoms}
 use Rattle.mask.specs.Sets.{maskOf}
 use Rattle.mask.proofs.Whole.{test-maskOf, maskOf-same}
 use Rattle.model.specs.Domain.{Domain, State, Step}
-use Rattle.model.specs.Model.{Model, Valid, image, stuck, next}
+use Rattle.model.specs.Model.{Model, Valid, image, inapplicable, next}
 use Rattle.model.proofs.Quantify.{below-cong, below-wide}
 use Rattle.model.proofs.Next.{image-out}
-use Rattle.statemask.specs.Statemask.{unmet, stuckIn, effects, nextIn}
-use Rattle.statemask.specs.Carrying.{Under, Ruled, Fitting}
+use Rattle.statemask.specs.Statemask.{unmet, inapplicableIn, effects, nextIn}
+use Rattle.statemask.specs.Carrying.{Under, Ruled, InMask}
 use Rattle.statemask.proofs.Masks.{test-mask, touched, effects-mask}
 
 -- a value is needed to be what it is not
@@ -29,7 +29,7 @@ put-last true removed x = refl
 put-last false true x = sym (and-false x)
 put-last false false x = sym (and-true x)
 
-module _ (D : Domain) (M : Model) (few : D .atoms ≤ maxAtoms) (valid : Valid D M) (s : Step) (fits : Fitting D s) where
+module _ (D : Domain) (M : Model) (few : D .atoms ≤ maxAtoms) (valid : Valid D M) (s : Step) (fits : InMask D s) where
   -- the facts of a set of the model's are those of its mask
   image-mask : (q : ℕ → Bool) → ((n : ℕ) → q n ≡ true → D .atom (s .action) n ≡ true)
       → (f : ℕ) → touched (maskOf setSize q) (s .ground) maxAtoms f ≡ image D q s f
@@ -57,10 +57,10 @@ module _ (D : Domain) (M : Model) (few : D .atoms ≤ maxAtoms) (valid : Valid D
         (ruled .positive, ruled .negative, test-maskOf setSize (M .precondition true (s .action)) n l, test-maskOf setSize (M .precondition false (s .action)) n l, test-mask st under (s .ground n))
         (either (λ b. M .precondition b (s .action) n) (st (s .ground n)))
 
-    -- The step is stuck over the mask exactly if it is in the state.
-    pub stuck-mask : stuckIn R (s .ground) (maskOf endSize st) ≡ stuck D M s st
-    unfolding stuckIn stuck
-    stuck-mask =
+    -- The step is inapplicable over the mask exactly if it is in the state.
+    pub inapplicable-mask : inapplicableIn R (s .ground) (maskOf endSize st) ≡ inapplicable D M s st
+    unfolding inapplicableIn inapplicable
+    inapplicable-mask =
         below-cong maxAtoms _ _ unmet-mask
         ∙ below-wide maxAtoms (D .atoms) (λ n. M .precondition (not (st (s .ground n))) (s .action) n) few
         (λ n e. fits .ranged n (valid .needed-atom _ (s .action) n e))

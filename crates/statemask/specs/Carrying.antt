@@ -30,7 +30,7 @@ pub record Ruled (M : Model) (a : ℕ) (R : ℕ → List ℕ) : Type 0 where
   pub removed : R 3 ≡ maskOf setSize (M .effect false a)
 
 -- the atoms of the step's action are counted by the domain, and become facts that the mask has a bit for
-pub record Fitting (D : Domain) (s : GroundAction) : Type 0 where
+pub record InMask (D : Domain) (s : GroundAction) : Type 0 where
   pub ranged : (n : ℕ) → D .atom (s .action) n ≡ true → n < D .atoms
   pub under : (n : ℕ) → D .atom (s .action) n ≡ true → s .ground n < maxFactNumbers
 
@@ -39,7 +39,7 @@ pub record Carrying (D : Domain) (M : Model) (sch : Schema) (l : List ℕ) (plan
   pub few : D .atoms ≤ maxAtoms
   pub valid : Valid D M
   pub ruled : (st : Step) → Mem st plan → Ruled M (st .action .0) (ruleSet sch l (st .action .0))
-  pub fitting : (st : Step) → Mem st plan → Fitting D (groundAction sch st)
+  pub inMask : (st : Step) → Mem st plan → InMask D (groundAction sch st)
 
 -- the masks stop where the run stops; where it ends they have its end state
 abbrev pub Agrees : Carried → Run → Type 0

@@ -27,8 +27,8 @@ startMask fs = withFacts fs (empty endSize)
 unfoldable pub unmet : (ℕ → List ℕ) → (ℕ → ℕ) → List ℕ → ℕ → Bool
 unmet R g m n = testBit (R 0) n && not (testBit m (g n)) || testBit (R 1) n && testBit m (g n)
 
-unfoldable pub stuckIn : (ℕ → List ℕ) → (ℕ → ℕ) → List ℕ → Bool
-stuckIn R g m = below maxAtoms (unmet R g m)
+unfoldable pub inapplicableIn : (ℕ → List ℕ) → (ℕ → ℕ) → List ℕ → Bool
+inapplicableIn R g m = below maxAtoms (unmet R g m)
 
 -- The value put at the facts of those bound facts below n that the set has: true adds them, false removes them.
 unfoldable pub effects : Bool → List ℕ → (ℕ → ℕ) → List ℕ → ℕ → List ℕ
@@ -39,14 +39,14 @@ effects value set g m (suc n) = cond (testBit set n) (putBit value (effects valu
 unfoldable pub nextIn : (ℕ → List ℕ) → (ℕ → ℕ) → List ℕ → List ℕ
 nextIn R g m = effects true (R 2) g (effects false (R 3) g m maxAtoms) maxAtoms
 
--- one step by what is held: whether it is stuck, and the mask after it
-unfoldable pub stepStuck : Schema → List ℕ → Step → List ℕ → Bool
-stepStuck sch l st m = stuckIn (ruleSet sch l (st .action .0)) (ground sch (st .binding)) m
+-- one step by what is held: whether it is inapplicable, and the mask after it
+unfoldable pub stepInapplicable : Schema → List ℕ → Step → List ℕ → Bool
+stepInapplicable sch l st m = inapplicableIn (ruleSet sch l (st .action .0)) (ground sch (st .binding)) m
 
 unfoldable pub stepNext : Schema → List ℕ → Step → List ℕ → List ℕ
 stepNext sch l st m = nextIn (ruleSet sch l (st .action .0)) (ground sch (st .binding)) m
 
--- what a plan comes to: the number of the step that is stuck, 0 where none is, and the mask where it stopped or ended
+-- what a plan comes to: the number of the step that is inapplicable, 0 where none is, and the mask where it stopped or ended
 pub record Carried : Type 0 where
   pub stop : ℕ
   pub mask : List ℕ
@@ -54,7 +54,7 @@ pub record Carried : Type 0 where
 unfoldable pub carry : Schema → List ℕ → List Step → List ℕ → ℕ → Carried
 carry sch l [] m k = record { stop = 0; mask = m }
 carry sch l (st ∷ plan) m k =
-    elim (stepStuck sch l st m)
+    elim (stepInapplicable sch l st m)
     [ true ↦ record { stop = k; mask = m } | false ↦ carry sch l plan (stepNext sch l st m) (suc k) ]
 
 -- a goal entry that the mask misses

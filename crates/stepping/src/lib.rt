@@ -1,4 +1,4 @@
-// One step over a state of facts as a mask of 512 bytes: the fact that a bound fact is, whether the step is stuck, and the state after it.
+// One step over a state of facts as a mask of 512 bytes: the fact that a bound fact is, whether the step is inapplicable, and the state after it.
 // Uses input, terms and mask, and the definitions of statemask; each contract names its definition.
 ghost use mathlib.Core.Path.{_≡_};
 ghost use Prim.Native.Nat.{_/_, _≤_, _<_};
@@ -7,7 +7,7 @@ ghost use Rattle.limits.specs.Limits.{maxAtoms, maxParams};
 ghost use Rattle.input.specs.Bytes.{byteAt};
 ghost use Rattle.terms.specs.Schema.{schema};
 ghost use Rattle.terms.specs.Steps.{placed, ground};
-ghost use Rattle.statemask.specs.Statemask.{unmet, stuckIn, effects, nextIn};
+ghost use Rattle.statemask.specs.Statemask.{unmet, inapplicableIn, effects, nextIn};
 ghost use Rattle.stepping.specs.Stepping.{ruleAt};
 use terms::Binding;
 use terms::Param;
@@ -69,14 +69,14 @@ fn unmet(
     (positive & !holds) | (negative & holds)
 }
 
-pub fn is_stuck(
+pub fn is_inapplicable(
     book: &[u8],
     h: Sections,
     b: Binding,
     rules: [[u8; 32]; 4],
     state: &[u8; 512],
 ) -> bool
-    ensures { λ r. ⌜ r ≡ stuckIn (ruleAt rules) (ground (schema h (now (book .entry))) b) (now (state .entry)) ⌝ }
+    ensures { λ r. ⌜ r ≡ inapplicableIn (ruleAt rules) (ground (schema h (now (book .entry))) b) (now (state .entry)) ⌝ }
 {
     let positive = rules[0];
     let negative = rules[1];
@@ -121,7 +121,7 @@ fn put_effects(
     }
 }
 
-// The state after a step that is not stuck.
+// The state after a step that is applicable.
 pub fn advance(book: &[u8], h: Sections, b: Binding, rules: [[u8; 32]; 4], state: &mut [u8; 512])
     ensures { λ _. ⌜ now (state .exit) ≡ nextIn (ruleAt rules) (ground (schema h (now (book .entry))) b) (now (state .entry)) ⌝ }
 {

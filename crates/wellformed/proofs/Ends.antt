@@ -8,7 +8,7 @@ use native.Mathlib.Omega.{arith}
 use Rattle.truth.specs.Bools.{decide, is-false}
 use Rattle.model.specs.Quantify.{Mem, here, there}
 use Rattle.model.specs.Domain.{Domain, State, Step}
-use Rattle.model.specs.Model.{Model, Valid, ended, image, stuck, next, run}
+use Rattle.model.specs.Model.{Model, Valid, ended, image, inapplicable, next, run}
 use Rattle.model.proofs.Next.{image-out}
 use Rattle.model.proofs.Lockstep.{run-stop, run-go}
 use Rattle.model.proofs.Judge.{not-both, one-end}
@@ -37,8 +37,8 @@ module _ (D : Domain) (M : Model) (valid : Valid D M) (bound : ℕ) where
       → (k : ℕ) (end : State) → run D M plan st k ≡ ended end → Under bound end
   unfolding run
   run-under [] grounds st under k end e = rw (one-end _ end st refl (sym e)) under
-  run-under (s ∷ plan) grounds st under k end e = go (decide (stuck D M s st)) (run-under plan (λ r m. grounds r (there m)) (next D M s st) (next-under s (grounds s here) st under) (suc k) end)
+  run-under (s ∷ plan) grounds st under k end e = go (decide (inapplicable D M s st)) (run-under plan (λ r m. grounds r (there m)) (next D M s st) (next-under s (grounds s here) st under) (suc k) end)
     where
-      go : (stuck D M s st ≡ true) ⊎ (stuck D M s st ≡ false) → (run D M plan (next D M s st) (suc k) ≡ ended end → Under bound end) → Under bound end
+      go : (inapplicable D M s st ≡ true) ⊎ (inapplicable D M s st ≡ false) → (run D M plan (next D M s st) (suc k) ≡ ended end → Under bound end) → Under bound end
       go (inl h) rest = absurd (not-both _ k end (run-stop D M s plan st k h) e)
       go (inr h) rest = rest (sym (run-go D M s plan st k h) ∙ e)

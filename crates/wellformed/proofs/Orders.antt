@@ -15,7 +15,7 @@ use Rattle.terms.specs.Schema.{Schema, Hall, hall}
 use Rattle.terms.specs.Facts.{factAt, factBad, noFact}
 use Rattle.terms.specs.Steps.{stepAt, stepBad, repeats, isAtom}
 use Rattle.limits.specs.Limits.{entrySize, stepSize}
-use Rattle.format.specs.Order.{GoalEntry, startCount, goalCount, stepCount, startAt, goalAt, stepsAt, orderObjects, entries, planStep, orderForm, startFacts, goalFrom, goal, planFrom, plan, entryAt}
+use Rattle.format.specs.Order.{GoalEntry, startCount, goalCount, stepCount, startAt, goalAt, stepsAt, orderObjects, entries, planStep, orderForm, startFacts, goalFrom, goal, planFrom, plan, entryAt, planStepBad}
 use Rattle.format.proofs.Chains.{chain-parted}
 use Rattle.format.proofs.Orders.{plan-step-entry, goal-chain, goal-entry-suits}
 use Rattle.format.proofs.OrderForm.{order-good}
@@ -32,6 +32,7 @@ use Rattle.wellformed.proofs.Lists.{mem-map-out}
 module _ (sch : Schema) (hl : Hall) (o : List ℕ) where
   -- the first of a number of good steps is right, and the others are good
   plan-parted : (n at last : ℕ) → walk (planStep sch hl o) (suc n) at ≡ Good last → RightStep sch hl (stepAt o at) × (walk (planStep sch hl o) n (at + stepSize) ≡ Good last)
+  unfolding planStepBad
   plan-parted n at last e =
       let (next, good, rest) = walk-parted (planStep sch hl o) n at last e in
       let (test, place) = item-good _ _ 18 stepSize (plan-step-entry sch hl o) at next good in

@@ -30,8 +30,8 @@ rules-of-requires c κs =
     let d = c .before .before in
     carriable-move _ _ _ _ (d .before .loop .inv .0) (d .loop-test .taken) _ (c .before .read .ensures)
 
-is-stuck-requires : tie.Need-is-stuck-requires Inv-loop μ-loop
-is-stuck-requires c κs = search needs
+is-inapplicable-requires : tie.Need-is-inapplicable-requires Inv-loop μ-loop
+is-inapplicable-requires c κs = search needs
 
 returns : tie.Need-returns Inv-loop μ-loop
 returns c =
@@ -41,7 +41,7 @@ returns c =
     let g = f .before in
     carries _ _ _ _ _ _
     (sym
-    (carry-here _ _ _ _ _ _ _ (g .loop-test .taken) _ (f .read .ensures) _ (e .rules-of .ensures) _ (d .is-stuck .ensures) (c .if1 .taken))
+    (carry-here _ _ _ _ _ _ _ (g .loop-test .taken) _ (f .read .ensures) _ (e .rules-of .ensures) _ (d .is-inapplicable .ensures) (c .if1 .taken))
     ∙ g .before .loop .inv .2)
 
 advance-requires : tie.Need-advance-requires Inv-loop μ-loop
@@ -69,7 +69,7 @@ loop-again c =
     let inv = g .before .loop .inv in (
       carriable-next _ _ _ _ (inv .0) (g .loop-test .taken),
       omega arith,
-      carry-more _ _ _ _ _ _ _ (g .loop-test .taken) _ (f .read .ensures) _ (e .rules-of .ensures) _ (d .is-stuck .ensures) _ (b .if1 .left) (c .advance .ensures)
+      carry-more _ _ _ _ _ _ _ (g .loop-test .taken) _ (f .read .ensures) _ (e .rules-of .ensures) _ (d .is-inapplicable .ensures) _ (b .if1 .left) (c .advance .ensures)
           ∙ inv .2,
     )
 
@@ -85,7 +85,7 @@ carry-spec =
     loop-holds
     read-requires
     rules-of-requires
-    is-stuck-requires
+    is-inapplicable-requires
     returns
     advance-requires
     add-at

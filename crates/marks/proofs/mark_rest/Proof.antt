@@ -17,11 +17,11 @@ loop-holds c = (marked-none _ _ _ _ (c .before .before .before .pre .1), c .befo
 fact-requires : tie.Need-fact-requires Inv-loop μ-loop
 fact-requires c κs = (omega arith, c .before .before .loop .inv .0 .ahead)
 
-place-requires : tie.Need-place-requires Inv-loop μ-loop
-place-requires c κs = c .before .before .before .loop .inv .1
+pair-requires : tie.Need-pair-requires Inv-loop μ-loop
+pair-requires c κs = c .before .before .before .loop .inv .1
 
 pass-requires : tie.Need-pass-requires Inv-loop μ-loop
-pass-requires c κs = (c .before .place .ensures, omega arith, omega arith)
+pass-requires c κs = (c .before .pair .ensures, omega arith, omega arith)
 
 loop-less : tie.Need-loop-less Inv-loop μ-loop
 loop-less c = passed-by _ _ (c .before .before .before .before .before .fact .ensures) (c .before .before .pass .ensures) .less
@@ -31,7 +31,7 @@ loop-again c =
     let p = c .before .before in
     let x = p .before .before in
     let i = x .before .before .before .before .loop .inv in
-    (marked-next _ _ (i .0) _ _ _ _ (x .before .fact .ensures) (x .place .ensures) (p .pass .ensures) (p .pass .kept .1 .0), i .1)
+    (marked-next _ _ (i .0) _ _ _ _ (x .before .fact .ensures) (x .pair .ensures) (p .pass .ensures) (p .pass .kept .1 .0), i .1)
 
 same-length : tie.Need-same-length Inv-loop μ-loop
 same-length c = c .before .before .loop .inv .0 .long
@@ -47,7 +47,7 @@ mark-rest-spec =
     μ-loop
     loop-holds
     fact-requires
-    place-requires
+    pair-requires
     pass-requires
     loop-less
     loop-again

@@ -11,8 +11,8 @@ fact-requires c κs = search needs
 fact-requires-2 : tie.Need-fact-requires-2
 fact-requires-2 c κs = search needs
 
-place-requires : tie.Need-place-requires
-place-requires c κs = search needs
+pair-requires : tie.Need-pair-requires
+pair-requires c κs = search needs
 
 same-fact-requires : tie.Need-same-fact-requires
 same-fact-requires c κs = search needs
@@ -24,7 +24,7 @@ pass-requires-2 : tie.Need-pass-requires-2
 pass-requires-2 c κs =
     let x = c .before .before .before .before .before .before .before in
     let p = x .before .before .before .before .before .before .before .before .before .pre in
-    (x .place .ensures, p .4, omega (arith, p .2 .near))
+    (x .pair .ensures, p .4, omega (arith, p .2 .near))
 
 same-length : tie.Need-same-length
 same-length c = search needs
@@ -54,10 +54,10 @@ returns-2 c =
     let x = u .before .before .before in
     let f = x .before .before in
     let a = f .before .before .before .before .before .before .before .pre in
-    turned-before _ _ _ _ _ _ (f .fact .ensures) (a .2) _ (x .place .ensures) (u .if2 .taken) _ _ (p .pass3 .ensures)
+    turned-before _ _ _ _ _ _ (f .fact .ensures) (a .2) _ (x .pair .ensures) (u .if2 .taken) _ _ (p .pass3 .ensures)
 
-place-requires-2 : tie.Need-place-requires-2
-place-requires-2 c κs = search needs
+pair-requires-2 : tie.Need-pair-requires-2
+pair-requires-2 c κs = search needs
 
 pass-requires-4 : tie.Need-pass-requires-4
 pass-requires-4 c κs = search needs
@@ -74,8 +74,8 @@ returns-3 c =
     let x = e .before in
     let g = x .before in
     let a = g .before .before .before .before .before .before .before .before .pre in
-    turned-after _ _ _ _ _ _ (g .before .fact .ensures) _ (g .fact2 .ensures) _ (e .same-fact .ensures) (a .1) (u .before .if1 .left) _ _ (x .place .ensures)
-    (u .if2 .left) (y .place2 .ensures) _ _ (q .pass4 .ensures)
+    turned-after _ _ _ _ _ _ (g .before .fact .ensures) _ (g .fact2 .ensures) _ (e .same-fact .ensures) (a .1) (u .before .if1 .left) _ _ (x .pair .ensures)
+    (u .if2 .left) (y .pair2 .ensures) _ _ (q .pass4 .ensures)
 
 pub turn-spec : {M : Type 1} → statement M
 turn-spec =
@@ -83,7 +83,7 @@ turn-spec =
     (tie.spec
     fact-requires
     fact-requires-2
-    place-requires
+    pair-requires
     same-fact-requires
     pass-requires
     pass-requires-2
@@ -93,7 +93,7 @@ turn-spec =
     pass-requires-3
     same-length-3
     returns-2
-    place-requires-2
+    pair-requires-2
     pass-requires-4
     same-length-4
     returns-3)

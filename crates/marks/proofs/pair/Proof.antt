@@ -1,10 +1,10 @@
 -- `marks::place` meets its contract, from the table.
 use native.Mathlib.Omega.{arith}
 use Prim.Native.Nat.{_<_}
-use Rattle.marks.proofs.Atoms.{place-by}
+use Rattle.marks.proofs.Atoms.{pair-by}
 use borrow.Author.Needs.{needs}
-use Rattle.marks.proofs.place.Statement.{statement}
-use Rattle.marks.proofs.place.Tie as tie
+use Rattle.marks.proofs.pair.Statement.{statement}
+use Rattle.marks.proofs.pair.Tie as tie
 
 cast-wide : tie.Need-cast-wide
 cast-wide c = search needs
@@ -36,10 +36,10 @@ returns c =
     let a = d .before .before .before .before in
     let h : a .args .f .first .0 < 256 = omega arith in
     let k : a .args .f .second .0 < 256 = omega arith in
-    place-by _ _ _ _ _ (a .pre) (d .wide .ensures .0) (c .wide2 .ensures .0) h k
+    pair-by _ _ _ _ _ (a .pre) (d .wide .ensures .0) (c .wide2 .ensures .0) h k
 
-pub place-spec : {M : Type 1} → statement M
-place-spec =
+pub pair-spec : {M : Type 1} → statement M
+pair-spec =
     tie.close
     (tie.spec
     cast-wide

@@ -1,4 +1,4 @@
--- `stepping::is_stuck` meets its contract: no need below n is unmet, and a byte with no need in it is passed over.
+-- `stepping::is_inapplicable` meets its contract: no need below n is unmet, and a byte with no need in it is passed over.
 use Prim.Native.Nat.{_-_, _≤_}
 use borrow.Author.Needs.{needs}
 use native.Mathlib.Omega.{arith}
@@ -8,12 +8,12 @@ use Rattle.terms.specs.Schema.{schema}
 use Rattle.terms.specs.Steps.{ground}
 use Rattle.model.specs.Quantify.{below}
 use Rattle.model.proofs.Quantify.{below-in}
-use Rattle.statemask.specs.Statemask.{unmet, stuckIn}
+use Rattle.statemask.specs.Statemask.{unmet, inapplicableIn}
 use Rattle.stepping.specs.Stepping.{ruleAt}
 use Rattle.model.proofs.Quantify.{below-skip}
 use Rattle.stepping.proofs.Needs.{below-past}
-use Rattle.stepping.proofs.is_stuck.Statement.{statement}
-use Rattle.stepping.proofs.is_stuck.Tie as tie
+use Rattle.stepping.proofs.is_inapplicable.Statement.{statement}
+use Rattle.stepping.proofs.is_inapplicable.Tie as tie
 
 abbrev Inv-loop : tie.InvT-loop
 Inv-loop book h b state rules positive negative n₀ n = (n ≤ 256) × (below n (unmet (ruleAt rules) (ground (schema h book) b) state) ≡ false) × (positive ≡ ruleAt rules 0) × (negative ≡ ruleAt rules 1)
@@ -57,7 +57,7 @@ unmet-requires : tie.Need-unmet-requires Inv-loop μ-loop
 unmet-requires c κs = omega arith
 
 returns : tie.Need-returns Inv-loop μ-loop
-unfolding stuckIn
+unfolding inapplicableIn
 returns c =
     let d = c .before in
     sym (below-in 256 _ _ (d .before .before .before .before .loop-test .taken) (sym (d .unmet .ensures) ∙ c .if2 .taken))
@@ -75,13 +75,13 @@ loop-again-2 c =
     (omega arith, below-skip _ _ (sym (d .unmet .ensures) ∙ c .if2 .left) ∙ i .1, i .2, i .3)
 
 returns-2 : tie.Need-returns-2 Inv-loop μ-loop
-unfolding stuckIn
+unfolding inapplicableIn
 returns-2 c =
     let last : c .before .loop .n ≡ 256 = omega arith in
     sym (rw last at (c .before .loop .inv .1))
 
-pub is-stuck-spec : {M : Type 1} → statement M
-is-stuck-spec =
+pub is-inapplicable-spec : {M : Type 1} → statement M
+is-inapplicable-spec =
     tie.close
     (tie.spec
     Inv-loop
