@@ -1,12 +1,12 @@
 // The words of the formats as values: typed numbers, sections, facts and steps, each read from bytes, and the tests that need no table.
 // Uses input. Every test is one Bool definition of specs/; whether a fact or a step suits the book's schema is asked of `tables`.
 ghost use mathlib.Core.Path.{_≡_};
-ghost use Prim.Native.Nat.{_-_, _≤_};
-ghost use Rattle.limits.specs.Limits.{maxParams};
+ghost use Prim.Native.Nat.{_-_, _≤_, _<_};
+ghost use Rattle.limits.specs.Limits.{maxParams, maxAtoms};
 ghost use Rattle.terms.specs.Sections.{sectionsOf};
 ghost use Rattle.terms.specs.Schema.{schema, numberBad, relationAt, moveAt, kindSuits};
 ghost use Rattle.terms.specs.Facts.{factAt, precedes, noFact};
-ghost use Rattle.terms.specs.Steps.{objectOf, stepAt, samePair, repeats};
+ghost use Rattle.terms.specs.Steps.{objectOf, stepAt, samePair, repeats, atomRelation, atomFirst, atomSecond};
 
 // Numbers that count from 1. Each has a type of its own, so that a binding is the only way from a parameter to an object.
 pub struct Param(pub u8);
@@ -85,6 +85,52 @@ impl Sections {
     {
         self.moves.at as usize + limits::MOVE_SIZE * index(m.0)
     }
+
+    // A relation's entry in a book: how many places it has, and the kind of one of them.
+    pub fn places(self, book: &[u8], r: Relation) -> u8
+        ensures { λ n. ⌜ n ≡ schema self (now (book .entry)) .places r ⌝ }
+    {
+        input::byte_at(book, self.relation_at(r))
+    }
+
+    pub fn place_kind(self, book: &[u8], r: Relation, i: u8) -> u8
+        ensures { λ kind. ⌜ kind ≡ schema self (now (book .entry)) .placeKind r i ⌝ }
+    {
+        input::byte_at(book, self.relation_at(r) + i as usize)
+    }
+
+    // A move's entry: how many parameters it has, and the kind of one of them.
+    pub fn params(self, book: &[u8], m: Move) -> u8
+        ensures { λ n. ⌜ n ≡ schema self (now (book .entry)) .params m ⌝ }
+    {
+        input::byte_at(book, self.move_at(m))
+    }
+
+    pub fn param_kind(self, book: &[u8], m: Move, p: Param) -> u8
+        ensures { λ kind. ⌜ kind ≡ schema self (now (book .entry)) .paramKind m p ⌝ }
+    {
+        input::byte_at(book, self.move_at(m) + p.0 as usize)
+    }
+}
+
+// The relation and the two parameters of bound fact n.
+pub fn atom_relation(n: usize) -> Relation
+    requires { ⌜ n < maxAtoms ⌝ }
+    ensures { λ r. ⌜ r ≡ atomRelation n ⌝ }
+{
+    Relation((n / 16 + 1) as u8)
+}
+
+pub fn atom_first(n: usize) -> Param
+    ensures { λ p. ⌜ p ≡ atomFirst n ⌝ }
+{
+    Param((n / 4 % 4 + 1) as u8)
+}
+
+pub fn atom_second(n: usize) -> Param
+    ensures { λ p. ⌜ p ≡ atomSecond n ⌝ }
+{
+    Param((n % 4 + 1) as u8)
 }
 
 // A number from 1 as one from 0.
