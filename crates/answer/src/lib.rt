@@ -1,5 +1,5 @@
 // What every job answers, and what every step of looking over answers: good, with a number, or refused.
-// Uses nothing. The definitions in specs/Answer.antt give the paper's number and place for each case.
+// The code uses no other crate; laws in specs/ use truth. The definitions in specs/Answer.antt give the paper's number and place for each case.
 ghost use mathlib.Core.Path.{_≡_};
 ghost use Prim.Native.Nat.{_+_, _*_, _<_};
 ghost use Rattle.answer.specs.Answer.{isRefused, valueOf, number, place, packed};

@@ -1,4 +1,4 @@
--- Sheet, row 11 and row 12 from what is held. Uses the set of a move's bound facts of atoms.
+-- Sheet, row 11 and row 12 from what is held. Uses atoms for the set of a move's bound facts, jobs for the answer of row 12.
 use Prim.Native.Nat.{ℕ, zero, suc}
 use mathlib.Core.Bool.{Bool, not}
 use mathlib.Core.List.{List, [], _++_}

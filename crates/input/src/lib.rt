@@ -1,4 +1,4 @@
-// Bytes and two-byte numbers of an input. Reading is total: past the end a byte is 0. Uses nothing.
+// Bytes and two-byte numbers of an input. Reading is total: past the end a byte is 0. Uses no other crate.
 ghost use mathlib.Core.Path.{_≡_};
 ghost use Prim.Native.Nat.{_≤_};
 ghost use Rattle.input.specs.Bytes.{byteAt, two};

@@ -1,6 +1,6 @@
 // Sets of numbers as byte masks: element n is the bit of value 2^(n mod 8) in byte n div 8. Functions on slices of any length, then
 // wrappers at 32 bytes (n < 256) and 512 bytes (n < 4096). All but `count` are total: bytes past an end read as 0, and a store there
-// changes nothing, as specs/Bits.antt and specs/Sets.antt say.
+// changes nothing, as specs/Bits.antt and specs/Sets.antt say. Uses no other crate.
 ghost use mathlib.Core.Path.{_≡_};
 ghost use Prim.Native.Nat.{_*_, _^_, _<_, _≤_};
 ghost use lib.ListN.{length, getD};
