@@ -23,8 +23,9 @@ use Rattle.model.specs.Model.{Run, stopped, ended}
 use Rattle.model.specs.Judge.{Verdict, impossible, passes, wrong}
 use Rattle.model.specs.Check.{reached, judgedRun, checked}
 use Rattle.model.proofs.Judge.{unique}
-use Rattle.model.proofs.Impossible.{learned-valid, impossible-iff}
-use Rattle.model.proofs.Exact.{exact, verdict-iff, checked-inconsistent, checked-plan}
+use Rattle.model.proofs.Impossible.{learned-valid}
+use Rattle.model.specs.Exact.{Exact}
+use Rattle.model.proofs.Exact.{checked-run, exact}
 use Rattle.jobs.specs.Planning.{domain, schemaOf, transitionsOf, startState, planOf, goalOf}
 use Rattle.jobs.specs.Learn.{learnable, learnedFrom, learn}
 use Rattle.jobs.specs.Check.{planRun, goalAnswer, runAnswer, check, endSheet, checkBytes}
@@ -81,9 +82,12 @@ pass-run steps goal (ended st) end e = go (first (wrong st) goal) e
     go (suc i) h = absurd (let z : _≡_ {A = ℕ} 0 1 = cc in omega arith)
 
 module _ (s : List ℕ) (n : ℕ) (good : lookOver s ≡ Good n) where
+  judge : Exact (domain (schemaOf s)) (FitsBook s) (inconsistentIn s) (checked (domain (schemaOf s)) (transitionsOf s))
+  judge = exact (domain (schemaOf s)) (transitionsOf s) (formed s n good)
+
   -- ---- 11 or 12
   fits-none : inconsistentIn s ≡ true ↔ NoneFits s
-  fits-none = impossible-iff (domain (schemaOf s)) (transitionsOf s) (formed s n good)
+  fits-none = judge .unfit
 
   -- an answer that begins with learning, and has only later rows behind it
   exactly : (a : Answer) (k : ℕ → Answer) → a ≡ (learnable s >>= k) → RefusedFrom 13 (k n) → Impossible a ↔ NoneFits s
@@ -109,7 +113,7 @@ module _ (s : List ℕ) (n : ℕ) (good : lookOver s ≡ Good n) where
   module _ (o : List ℕ) (m : ℕ) (form : orderForm (schemaOf s) o ≡ Good m) where
     -- the judge's verdict is what the model's check says
     says : (v : Verdict) → Rules s o v ↔ (checked (domain (schemaOf s)) (transitionsOf s) (planOf (schemaOf s) o) (startState o) (goalOf o) ≡ v)
-    says = verdict-iff (domain (schemaOf s)) (transitionsOf s) (planOf (schemaOf s) o) (startState o) (goalOf o) (formed s n good) (grounded (schemaOf s) o m form)
+    says = judge .verdict (planOf (schemaOf s) o) (grounded (schemaOf s) o m form) (startState o) (goalOf o)
 
     module _ (clean : inconsistentIn s ≡ false) where
       check-runs : check s o endSize ≡ runAnswer (stepCount o) (goalOf o) (planRun s o)
@@ -120,13 +124,13 @@ module _ (s : List ℕ) (n : ℕ) (good : lookOver s ≡ Good n) where
           ∙ bind-good (orderForm (schemaOf s) o) _ m form
 
       run-verdict : (v : Verdict) → Rules s o v → judgedRun (goalOf o) (planRun s o) ≡ v
-      unfolding planRun learnedFrom
+      unfolding planRun learnedFrom checked
       run-verdict v h =
-          sym (checked-plan (domain (schemaOf s)) (transitionsOf s) (planOf (schemaOf s) o) (startState o) (goalOf o) clean) ∙ says v .0 h
+          sym (checked-run (inconsistentIn s) (domain (schemaOf s)) (learnedFrom s) (planOf (schemaOf s) o) (startState o) (goalOf o) clean) ∙ says v .0 h
 
     inconsistent-verdict : inconsistentIn s ≡ true → (v : Verdict) → Rules s o v → impossible ≡ v
     inconsistent-verdict e v h =
-        sym (checked-inconsistent (domain (schemaOf s)) (transitionsOf s) (planOf (schemaOf s) o) (startState o) (goalOf o) e) ∙ says v .0 h
+        sym (judge .refuses (planOf (schemaOf s) o) (startState o) (goalOf o) .1 e) ∙ says v .0 h
 
     verdict : (v : Verdict) → Rules s o v → Answers (stepCount o) v (check s o endSize)
     verdict v h = go (decide (inconsistentIn s))
@@ -139,7 +143,7 @@ module _ (s : List ℕ) (n : ℕ) (good : lookOver s ≡ Good n) where
             (run-answers (stepCount o) (goalOf o) (planRun s o)))
 
     some : (v : Verdict) × Rules s o v
-    some = (checked (domain (schemaOf s)) (transitionsOf s) (planOf (schemaOf s) o) (startState o) (goalOf o), exact (domain (schemaOf s)) (transitionsOf s) (planOf (schemaOf s) o) (startState o) (goalOf o) (formed s n good) (grounded (schemaOf s) o m form))
+    some = let v = checked (domain (schemaOf s)) (transitionsOf s) (planOf (schemaOf s) o) (startState o) (goalOf o) in (v, says v .1 refl)
 
     -- the end state has no fact from 4096 on
     end-under : inconsistentIn s ≡ false → (end : State) → planRun s o ≡ ended end → (f : ℕ) → 4096 ≤ f → end f ≡ false

@@ -12,7 +12,7 @@ use Rattle.model.specs.Domain.{Domain, State, Step, Transition, Entry}
 use Rattle.model.specs.Model.{image, inapplicable, next, run}
 use Rattle.model.specs.Judge.{Verdict, impossible, stops, misses, passes, wrong}
 use Rattle.model.specs.Learned.{saw, before, after, turned, learned, unboundEffect, conflicting}
-use Rattle.model.specs.Check.{reached, judgedRun, planVerdict, inconsistent, checked}
+use Rattle.model.specs.Check.{reached, judgedRun, checkedBy, inconsistent, checked}
 
 abbrev hall : Domain
 hall = record { atom = λ a n. eqb a 1 && ltb n 4; atoms = 4; facts = 6; actions = 2 }
@@ -61,5 +61,5 @@ small-hall-right :
     × (tried (filed ∷ seen (0 ∷ 4 ∷ []) (0 ∷ 1 ∷ 3 ∷ []) ∷ []) [] [] ≡ impossible)
     × (tried (seen (0 ∷ 4 ∷ []) (1 ∷ 3 ∷ 5 ∷ []) ∷ []) [] [] ≡ impossible)
     × (learned hall (seen (0 ∷ 3 ∷ 4 ∷ []) (1 ∷ 3 ∷ []) ∷ []) .effect true 1 2 ≡ false)
-unfolding tried same below any later first image inapplicable next run wrong saw before after turned learned unboundEffect conflicting reached judgedRun planVerdict inconsistent checked
+unfolding tried same below any later first image inapplicable next run wrong saw before after turned learned unboundEffect conflicting reached judgedRun checkedBy inconsistent checked
 small-hall-right = (refl, refl, refl, refl, refl, refl, refl, refl, refl, refl)

@@ -3,19 +3,20 @@ use Prim.Native.Nat.{ℕ, zero, suc}
 use native.Mathlib.Omega.{arith}
 use mathlib.Core.Path.{_≡_, refl, sym, _∙_}
 use mathlib.Core.Logic.{_⊎_, inl, inr, _↔_}
-use mathlib.Core.Bool.{true, false}
+use mathlib.Core.Bool.{Bool, true, false}
 use mathlib.Core.List.{List}
 use Rattle.truth.specs.Bools.{decide, is-true}
 use Rattle.model.specs.Quantify.{has, first}
 use Rattle.model.specs.Domain.{Domain, State, Step, Transition, Entry}
 use Rattle.model.specs.Model.{Model, Valid, Consistent, Run, stopped, ended, run}
-use Rattle.model.specs.Judge.{Verdict, impossible, wrong, MissesAt, Judged}
+use Rattle.model.specs.Judge.{impossible, wrong, MissesAt, Judged}
 use Rattle.model.specs.Learned.{learned}
-use Rattle.model.specs.Check.{reached, judgedRun, planVerdict, inconsistent, checked}
+use Rattle.model.specs.Check.{reached, judgedRun, checkedBy, inconsistent, checked}
 use Rattle.model.specs.Formed.{Formed, Grounded}
+use Rattle.model.specs.Exact.{Exact}
 use Rattle.model.specs.Stricter.{Stricter}
 use Rattle.model.proofs.Quantify.{First, first-law}
-use Rattle.model.proofs.Stricter.{stricter}
+use Rattle.model.proofs.Stricter.{explains, stricter}
 use Rattle.model.proofs.Lockstep.{Ahead, lockstep}
 use Rattle.model.proofs.Impossible.{learned-consistent, impossible-iff}
 use Rattle.model.proofs.Judge.{not-both, one-end, unique}
@@ -38,19 +39,19 @@ module _ (D : Domain) (P : Model → Type 0) (valid : (M : Model) → P M → Va
           reach (suc i) law =
               (λ M m j stop. not-both _ j end stop (ahead M m), (L, own, (end, e, law .0)), λ M m j miss. law .1 j (missed M m j miss))
 
-module _ (D : Domain) (ts : List Transition) (plan : List Step) (st : State) (goal : List Entry) where
-  pub checked-inconsistent : inconsistent D ts ≡ true → checked D ts plan st goal ≡ impossible
-  unfolding checked
-  checked-inconsistent e = rw (e, checked)
+module _ (none : Bool) (D : Domain) (L : Model) (plan : List Step) (st : State) (goal : List Entry) where
+  pub checked-none : none ≡ true → checkedBy none D L plan st goal ≡ impossible
+  unfolding checkedBy
+  checked-none e = rw (e, checkedBy)
 
-  pub checked-plan : inconsistent D ts ≡ false → checked D ts plan st goal ≡ judgedRun goal (run D (learned D ts) plan st 1)
-  unfolding checked planVerdict
-  checked-plan e = rw (e, checked)
+  pub checked-run : none ≡ false → checkedBy none D L plan st goal ≡ judgedRun goal (run D L plan st 1)
+  unfolding checkedBy
+  checked-run e = rw (e, checkedBy)
 
-  -- The check says impossible exactly if a row is met, whatever the plan.
-  pub impossible-verdict : (checked D ts plan st goal ≡ impossible) ↔ (inconsistent D ts ≡ true)
+  -- a check by a model says impossible exactly if the row is met
+  checked-refuses : (checkedBy none D L plan st goal ≡ impossible) ↔ (none ≡ true)
   unfolding judgedRun reached
-  impossible-verdict = (λ e. is-true _ (λ clean. go (run D (learned D ts) plan st 1) (sym (checked-plan clean) ∙ e)), checked-inconsistent)
+  checked-refuses = (λ e. is-true _ (λ some. go (run D L plan st 1) (sym (checked-run some) ∙ e)), checked-none)
     where
       go : (r : Run) → judgedRun goal r ≡ impossible → ⊥
       go (stopped k) e = let z : _≡_ {A = ℕ} 0 1 = cc in omega arith
@@ -60,18 +61,29 @@ module _ (D : Domain) (ts : List Transition) (plan : List Step) (st : State) (go
           reach zero e = let z : _≡_ {A = ℕ} 0 1 = cc in omega arith
           reach (suc i) e = let z : _≡_ {A = ℕ} 0 1 = cc in omega arith
 
-  module _ (formed : Formed D ts) (grounded : Grounded D plan) where
-    -- Demand 3: what the check says is the judge's verdict over all consistent models.
-    pub exact : Judged D (Consistent D ts) plan st goal (checked D ts plan st goal)
-    exact = go (decide (inconsistent D ts))
-      where
-        go : (inconsistent D ts ≡ true) ⊎ (inconsistent D ts ≡ false) → Judged D (Consistent D ts) plan st goal (checked D ts plan st goal)
-        go (inl e) = rw (checked-inconsistent e) (impossible-iff D ts formed .0 e)
-        go (inr e) =
-            rw (checked-plan e)
-            (exact-run D (Consistent D ts) (λ M c. c .valid) (learned D ts) (learned-consistent D ts formed e) (stricter D ts formed) plan grounded st goal)
+-- The check by a model is exact, if the judge holds no model where the row is met, and elsewhere this one among those than which it is stricter.
+module _ (D : Domain) (P : Model → Type 0) (valid : (M : Model) → P M → Valid D M) (L : Model) (none : Bool) (barred : none ≡ true → (M : Model) → P M → ⊥) (own : none ≡ false → P L) (strict : (M : Model) → P M → Stricter D L M) where
+  pub exact-by : Exact D P none (checkedBy none D L)
+  exact-by =
+      record {
+        unfit = (barred, λ empty. is-true _ (λ some. empty L (own some)));
+        refuses = λ plan st goal. checked-refuses none D L plan st goal;
+        verdict = λ plan grounded st goal v. (
+          λ h. unique D P plan st goal (checkedBy none D L plan st goal) v (judged plan grounded st goal) h,
+          λ e. rw e at (judged plan grounded st goal),
+        );
+      }
+    where
+      judged : (plan : List Step) → Grounded D plan → (st : State) (goal : List Entry) → Judged D P plan st goal (checkedBy none D L plan st goal)
+      judged plan grounded st goal = go (decide none)
+        where
+          go : (none ≡ true) ⊎ (none ≡ false) → Judged D P plan st goal (checkedBy none D L plan st goal)
+          go (inl e) = rw (checked-none none D L plan st goal e) (barred e)
+          go (inr e) = rw (checked-run none D L plan st goal e) (exact-run D P valid L (own e) strict plan grounded st goal)
 
-    -- And of every verdict: the judge says it exactly if the check does.
-    pub verdict-iff : (v : Verdict) → Judged D (Consistent D ts) plan st goal v ↔ (checked D ts plan st goal ≡ v)
-    verdict-iff v =
-        (λ h. unique D (Consistent D ts) plan st goal (checked D ts plan st goal) v exact h, λ e. rw e at exact)
+-- Demand 3 over transitions: the check by the learned model is exact of the judge over all consistent models.
+pub exact : (D : Domain) (ts : List Transition) → Formed D ts → Exact D (Consistent D ts) (inconsistent D ts) (checked D ts)
+unfolding checked
+exact D ts formed =
+    exact-by D (Consistent D ts) (λ M c. c .valid) (learned D ts) (inconsistent D ts) (impossible-iff D ts formed .0) (learned-consistent D ts formed)
+    (λ M c. stricter D ts M (explains D ts formed M c) (c .valid))

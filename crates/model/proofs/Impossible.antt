@@ -1,8 +1,8 @@
--- Rows 11 and 12 are met exactly where no model is consistent; elsewhere the learned model is.
+-- Rows 11 and 12 are met exactly where no model is consistent; elsewhere a model is that explains each atom alone, the learned one among them.
 use Prim.Native.Nat.{ℕ}
 use mathlib.Core.Path.{_≡_, sym, _∙_}
 use mathlib.Core.Logic.{_⊎_, inl, inr, _↔_}
-use mathlib.Core.Bool.{true, false, Bool·not-not}
+use mathlib.Core.Bool.{true, false, not, Bool·not-not}
 use mathlib.Core.List.{List}
 use lib.Dec.{leb}
 use borrow.Author.Tests.{leb-true, leb-false}
@@ -17,17 +17,8 @@ use Rattle.model.specs.Stricter.{value}
 use Rattle.model.proofs.Truth.{same-in, same-out}
 use Rattle.model.proofs.Next.{each-fact, next-at, next-off, inapplicable-out}
 use Rattle.model.proofs.Seen.{sight, before-in, after-in, turned-out, need-out, effect-out}
-use Rattle.model.proofs.Stricter.{Unconflicted, learned-makes, model-unconflicted}
+use Rattle.model.proofs.Stricter.{Unconflicted, Explains, explains, learned-makes, model-unconflicted}
 use Rattle.model.proofs.Rows.{unbound-in, unbound-out, conflicting-in, conflicting-out, inconsistent-out, no-unbound, no-conflicting}
-
--- the learned model stops at no transition that it was learned from
-pub learned-goes : (D : Domain) (ts : List Transition) (t : Transition) → Mem t ts → inapplicable D (learned D ts) (t .step) (t .pre) ≡ false
-learned-goes D ts t m =
-    is-false
-    _
-    (λ e.
-    let (n, h, p) = inapplicable-out D (t .step) (learned D ts) (t .pre) e in
-    clash _ (before-in ts _ n _ _ (sight ts t n m)) (rw Bool·not-not at (need-out D ts _ _ n p .1)))
 
 module _ (D : Domain) (ts : List Transition) (formed : Formed D ts) where
   -- A consistent model shows that neither row is met.
@@ -38,7 +29,7 @@ module _ (D : Domain) (ts : List Transition) (formed : Formed D ts) where
       go (inl (t, m, h)) =
           let (f, turns, off) = unbound-out D t h in
           turns (sym (consistent .fits t m .yields f ∙ next-off D (t .step) M (consistent .valid) (t .pre) f off))
-      go (inr (a, h)) = let (n, atom, conflicting) = conflicting-out D ts a h in conflicting (model-unconflicted D ts formed M consistent a n atom)
+      go (inr (a, h)) = let (n, atom, conflicting) = conflicting-out D ts a h in conflicting (model-unconflicted D ts M (explains D ts formed M consistent) a n atom)
 
   module _ (clean : inconsistent D ts ≡ false) where
     -- a fact of no atom of the step stays
@@ -83,15 +74,34 @@ module _ (D : Domain) (ts : List Transition) (formed : Formed D ts) where
               clean-unconflicted a n atom true up (after-in ts a n true false (turned-out ts a n false (effect-out D ts false a n h .1)));
         }
 
-    -- Where neither row is met, the learned model is consistent.
+    -- Where neither row is met, a model is consistent exactly if it is valid and explains what was seen at each atom alone;
+    pub local-iff : (M : Model) → Consistent D ts M ↔ (Valid D M × Explains D ts M)
+    local-iff M = (
+      λ c. (c .valid, explains D ts formed M c),
+      λ (valid, explained).
+          record {
+            valid = valid;
+            fits = λ t m.
+                fits-from M valid t m
+                (is-false
+                _
+                (λ e.
+                let (n, h, p) = inapplicable-out D (t .step) M (t .pre) e in
+                clash _ p (explained .met _ n (valid .needed-atom _ _ n p) _ _ (sight ts t n m))))
+                (λ n atom. explained .made _ n atom _ _ (sight ts t n m));
+          },
+    )
+
+    -- so the learned model is.
     pub learned-consistent : Consistent D ts (learned D ts)
-    learned-consistent =
-        record {
-          valid = learned-valid;
-          fits = λ t m.
-              fits-from (learned D ts) learned-valid t m (learned-goes D ts t m)
-              (λ n atom. learned-makes D ts _ n atom (clean-unconflicted _ n atom) _ _ (sight ts t n m));
-        }
+    learned-consistent = local-iff (learned D ts) .1 (learned-valid, explained)
+      where
+        explained : Explains D ts (learned D ts)
+        explained =
+            record {
+              made = λ a n atom x y s. learned-makes D ts a n atom (clean-unconflicted a n atom) x y s;
+              met = λ a n atom x y s. is-false _ (λ e. clash _ (before-in ts a n x y s) (rw Bool·not-not at (need-out D ts (not x) a n e .1)));
+            }
 
   -- Row 11 or 12 is met exactly if no model is consistent.
   pub impossible-iff : inconsistent D ts ≡ true ↔ ((M : Model) → Consistent D ts M → ⊥)

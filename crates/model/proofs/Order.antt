@@ -2,14 +2,12 @@
 use Prim.Native.Nat.{ℕ, suc}
 use mathlib.Core.Path.{_≡_}
 use mathlib.Core.Logic.{_↔_}
-use mathlib.Core.Bool.{true, false}
 use mathlib.Core.List.{List}
 use Rattle.model.specs.Quantify.{any}
-use Rattle.model.specs.Domain.{Domain, State, Step, Transition, Entry}
-use Rattle.model.specs.Model.{Model, Consistent, run}
-use Rattle.model.specs.Judge.{Verdict, impossible}
+use Rattle.model.specs.Domain.{Domain, Transition}
+use Rattle.model.specs.Model.{Model, Consistent}
 use Rattle.model.specs.Learned.{learned, unboundEffect, conflicting}
-use Rattle.model.specs.Check.{judgedRun, planVerdict, inconsistent, checked}
+use Rattle.model.specs.Check.{inconsistent, checked}
 use Rattle.model.specs.Alike.{SameRow, SameMembers}
 use Rattle.model.proofs.Quantify.{any-alike, below-same}
 use Rattle.model.proofs.Row.{row-of-members, precondition-same, effect-same, conflicting-same}
@@ -45,7 +43,6 @@ module _ (D : Domain) (ts us : List Transition) (same : SameMembers ts us) where
   inconsistent-alike = rw (unbound-alike, below-same (D .actions) (λ a. conflicting D ts (suc a)) (λ a. conflicting D us (suc a)) (λ a. conflicting-alike (suc a)))
 
   -- and check every plan alike.
-  pub checked-alike : (plan : List Step) (st : State) (goal : List Entry) → checked D ts plan st goal ≡ checked D us plan st goal
-  unfolding checked planVerdict
-  checked-alike plan st goal =
-      λ i. elim (inconsistent-alike i) as (λ c. Verdict) [ true ↦ impossible | false ↦ judgedRun goal (run D (learned-alike i) plan st 1) ]
+  pub checked-alike : checked D ts ≡ checked D us
+  unfolding checked
+  checked-alike = rw (inconsistent-alike, learned-alike)

@@ -1,11 +1,12 @@
--- The learned model is stricter than each consistent model. That it is consistent itself is not used here.
+-- The learned model is stricter than each model that explains what was seen, so than each consistent one. That it is consistent itself is not used here.
 use Prim.Native.Nat.{ℕ}
 use mathlib.Core.Path.{_≡_, refl, sym, _∙_}
-use mathlib.Core.Bool.{Bool, true, false, _&&_, _||_, not, Bool·not-not}
+use mathlib.Core.Bool.{Bool, true, false, _&&_, _||_, not, Bool·not-not, or-false}
 use mathlib.Core.List.{List}
-use Rattle.truth.specs.Bools.{clash, not-self, is-false, is-true, or-right}
+use borrow.Author.Tests.{not-false}
+use Rattle.truth.specs.Bools.{clash, neither, not-self, is-false, is-true, or-right}
 use Rattle.model.specs.Domain.{Domain, Transition}
-use Rattle.model.specs.Model.{Model, Consistent}
+use Rattle.model.specs.Model.{Model, Valid, Consistent}
 use Rattle.model.specs.Learned.{before, after, turned, learned}
 use Rattle.model.specs.Formed.{Formed}
 use Rattle.model.specs.Stricter.{value, Stricter}
@@ -41,37 +42,50 @@ learned-makes D ts a n atom unconflicted true false s = rw (atom, not-turned ts 
 learned-makes D ts a n atom unconflicted false true s = rw (atom, turned-in ts a n true s)
 learned-makes D ts a n atom unconflicted false false s = rw (atom, not-turned ts a n unconflicted false false s)
 
-module _ (D : Domain) (ts : List Transition) (formed : Formed D ts) (M : Model) (consistent : Consistent D ts M) where
-  -- a consistent model makes of each value what was seen of it
+-- What joins a list of transitions to learning is local: at each atom alone the model makes of a value what was seen of it,
+-- and needs nothing that was seen otherwise.
+pub record Explains (D : Domain) (ts : List Transition) (M : Model) : Type 0 where
   pub made : (a n : ℕ) → D .atom a n ≡ true → (x y : Bool) → Sight ts a n x y → value M a n x ≡ y
-  made a n atom x y s =
-      let t = s .transition in
-      let h = next-at D (t .step) M (consistent .valid) (t .pre) (formed .proper t (s .member)) n (rw (s .action) atom) in
-      rw (s .action, s .was, s .got) at (sym h ∙ sym (consistent .fits t (s .member) .yields (t .step .ground n)))
+  pub met : (a n : ℕ) → D .atom a n ≡ true → (x y : Bool) → Sight ts a n x y → M .precondition (not x) a n ≡ false
 
+pub explains : (D : Domain) (ts : List Transition) → Formed D ts → (M : Model) → Consistent D ts M → Explains D ts M
+explains D ts formed M consistent =
+    record {
+      made = λ a n atom x y s.
+          let t = s .transition in
+          let h = next-at D (t .step) M (consistent .valid) (t .pre) (formed .proper t (s .member)) n (rw (s .action) atom) in
+          rw (s .action, s .was, s .got) at (sym h ∙ sym (consistent .fits t (s .member) .yields (t .step .ground n)));
+      met = λ a n atom x y s.
+          let t = s .transition in
+          let ranged = formed .proper t (s .member) .ranged n (rw (s .action) atom) in
+          is-false _ (λ h. clash _ (inapplicable-in D (t .step) M (t .pre) n ranged (rw (s .was, s .action) h)) (consistent .fits t (s .member) .goes));
+    }
+
+-- what turns a value is an effect
+pub forced : (M : Model) (a n : ℕ) (b : Bool) → value M a n (not b) ≡ b → M .effect b a n ≡ true
+unfolding value
+forced M a n true e = rw or-false at e
+forced M a n false e = not-false _ (neither (M .effect true a n) (not (M .effect false a n)) e .1)
+
+module _ (D : Domain) (ts : List Transition) (M : Model) (explained : Explains D ts M) where
   pub model-unconflicted : (a n : ℕ) → D .atom a n ≡ true → Unconflicted ts a n
   model-unconflicted a n atom y e h =
       let (x, s) = after-out ts a n (not y) h in
-      not-self y (sym (made a n atom (not y) y (turned-out ts a n y e)) ∙ rw (made a n atom x (not y) s) at (value-twice M a n x))
+      not-self y (sym (explained .made a n atom (not y) y (turned-out ts a n y e)) ∙ rw (explained .made a n atom x (not y) s) at (value-twice M a n x))
 
-  -- Of a value that was seen before the action, a consistent model and the learned one make the same.
+  -- Of a value that was seen before the action, such a model and the learned one make the same.
   pub agree : (a n : ℕ) → D .atom a n ≡ true → (b : Bool) → before ts b a n ≡ true → value M a n b ≡ value (learned D ts) a n b
   agree a n atom b e =
       let (y, s) = before-out ts a n b e in
-      made a n atom b y s ∙ sym (learned-makes D ts a n atom (model-unconflicted a n atom) b y s)
+      explained .made a n atom b y s ∙ sym (learned-makes D ts a n atom (model-unconflicted a n atom) b y s)
 
-  -- what a consistent model needs, was never seen otherwise before the action
-  pub never-unmet : (b : Bool) (a n : ℕ) → M .precondition b a n ≡ true → before ts (not b) a n ≡ true → ⊥
-  never-unmet b a n h e =
-      let (y, s) = before-out ts a n (not b) e in
-      let t = s .transition in
-      let ranged = formed .proper t (s .member) .ranged n (rw (s .action) (consistent .valid .needed-atom b a n h)) in
-      clash _ (inapplicable-in D (t .step) M (t .pre) n ranged (rw (s .was, Bool·not-not, s .action) h)) (consistent .fits t (s .member) .goes)
-
-  -- The learned model is stricter than each consistent one.
-  pub stricter : Stricter D (learned D ts) M
-  stricter =
+  -- The learned model is stricter than each that explains what was seen.
+  pub stricter : Valid D M → Stricter D (learned D ts) M
+  stricter valid =
       record {
-        needs = λ b a n h. need-in D ts b a n (consistent .valid .needed-atom b a n h) (is-false _ (never-unmet b a n h));
+        needs = λ b a n h.
+            let atom = valid .needed-atom b a n h in
+            need-in D ts b a n atom
+            (is-false _ (λ e. let (y, s) = before-out ts a n (not b) e in clash _ h (rw Bool·not-not at (explained .met a n atom (not b) y s))));
         alike = λ b a n atom h. agree a n atom b (is-true _ (λ e. clash _ (need-in D ts (not b) a n atom (rw Bool·not-not e)) h));
       }

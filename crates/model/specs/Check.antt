@@ -4,7 +4,7 @@ use mathlib.Core.Bool.{Bool, true, false, _||_}
 use mathlib.Core.List.{List}
 use Rattle.model.specs.Quantify.{any, below, first}
 use Rattle.model.specs.Domain.{Domain, State, Step, Transition, Entry}
-use Rattle.model.specs.Model.{Run, stopped, ended, run}
+use Rattle.model.specs.Model.{Model, Run, stopped, ended, run}
 use Rattle.model.specs.Judge.{Verdict, impossible, stops, misses, passes, wrong}
 use Rattle.model.specs.Learned.{learned, unboundEffect, conflicting}
 
@@ -18,9 +18,9 @@ unfoldable pub judgedRun : List Entry → Run → Verdict
 judgedRun goal (stopped k) = stops k
 judgedRun goal (ended end) = reached end (first (wrong end) goal)
 
--- the plan under the learned model
-unfoldable pub planVerdict : Domain → List Transition → List Step → State → List Entry → Verdict
-planVerdict D ts plan st goal = judgedRun goal (run D (learned D ts) plan st 1)
+-- a check by one model: impossible where there is none to be had, else what the model's run comes to
+unfoldable pub checkedBy : Bool → Domain → Model → List Step → State → List Entry → Verdict
+checkedBy none D L plan st goal = elim none [ true ↦ impossible | false ↦ judgedRun goal (run D L plan st 1) ]
 
 -- rows 11 and 12
 unfoldable pub inconsistent : Domain → List Transition → Bool
@@ -28,4 +28,4 @@ inconsistent D ts = any (unboundEffect D) ts || below (D .actions) (λ a. confli
 
 -- the whole check: impossible by row 11 or 12, else the plan under the learned model
 unfoldable pub checked : Domain → List Transition → List Step → State → List Entry → Verdict
-checked D ts plan st goal = elim (inconsistent D ts) [ true ↦ impossible | false ↦ planVerdict D ts plan st goal ]
+checked D ts = checkedBy (inconsistent D ts) D (learned D ts)

@@ -6,5 +6,6 @@ pub mod Judge
 pub mod Learned
 pub mod Check
 pub mod Formed
+pub mod Exact
 pub mod Stricter
 pub mod Alike
