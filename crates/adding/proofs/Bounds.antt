@@ -1,4 +1,4 @@
--- Bounds of every answer of `add`, for packing it: numbers up to 13, places up to the longest book.
+-- Bounds of every answer of `add`, for packing it: places up to the longest book.
 use Prim.Native.Nat.{ℕ, _+_}
 use mathlib.Core.List.{List}
 use native.Mathlib.Omega.{arith}
@@ -6,21 +6,17 @@ use borrow.Author.Tests.{ltb-false}
 use lib.ListN.{length}
 use Rattle.limits.specs.Limits.{maxLength}
 use Rattle.jobs.specs.Add.{added, add}
-use Rattle.answer.specs.Bounds.{Bounded, bounded-good, bounded-then, bounded-row, bounded-more}
+use Rattle.answer.specs.Bounds.{Bounded, bounded-good, bounded-then, bounded-row}
 use Rattle.lookover.proofs.Laws.{look-over-bounded}
 
--- the highest number
-abbrev lastRow : ℕ
-lastRow = 13
-
-pub add-bounded : (s r : List ℕ) (size : ℕ) → Bounded lastRow maxLength (add s r size)
+pub add-bounded : (s r : List ℕ) (size : ℕ) → Bounded maxLength (add s r size)
 unfolding add
 add-bounded s r size =
-    bounded-then lastRow maxLength _ _ (bounded-more 10 lastRow maxLength maxLength _ (omega arith) (omega arith) (look-over-bounded s))
+    bounded-then maxLength _ _ (look-over-bounded s)
     (λ n e i.
-    bounded-row lastRow maxLength _ _ _ _ (omega arith) (omega arith)
+    bounded-row maxLength _ _ _ _ (omega arith) (omega arith)
     (λ f.
-    bounded-then lastRow maxLength _ _ (bounded-more 10 lastRow maxLength maxLength _ (omega arith) (omega arith) (look-over-bounded (added s r)))
+    bounded-then maxLength _ _ (look-over-bounded (added s r))
     (λ m g j.
-    bounded-row lastRow maxLength _ _ _ _ (omega arith) (omega arith)
-    (λ k. bounded-good lastRow maxLength _ (ltb-false maxLength (length s + length r) f)))))
+    bounded-row maxLength _ _ _ _ (omega arith) (omega arith)
+    (λ k. bounded-good maxLength _ (ltb-false maxLength (length s + length r) f)))))

@@ -38,6 +38,10 @@ place (Refused n p) = p
 unfoldable pub packed : Answer → ℕ
 packed a = number a * 281474976710656 + place a
 
+-- the greatest number that the bits from 48 on have room for
+abbrev pub maxNumber : ℕ
+maxNumber = 65535
+
 -- lent bytes after a call: the new ones on success, the old ones on a refusal
 unfoldable pub kept : Answer → List ℕ → List ℕ → List ℕ
 kept (Good n) new old = new

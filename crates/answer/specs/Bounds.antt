@@ -5,68 +5,65 @@ use mathlib.Core.Bool.{Bool, true, false}
 use native.Mathlib.Omega.{arith}
 use Rattle.answer.specs.declared.Answer.{Answer}
 use Rattle.answer.specs.declared.Answer.the-variants.{Good, Refused}
-use Rattle.answer.specs.Answer.{_>>=_, refuse, number, place}
+use Rattle.answer.specs.Answer.{_>>=_, refuse, number, place, maxNumber}
 use Rattle.answer.specs.Walk.{walk}
 
--- numbers up to `most`, places up to `size`; what is good counts as a place
-unfoldable pub Bounded : ℕ → ℕ → Answer → Type 0
-Bounded most size (Good n) = n ≤ size
-Bounded most size (Refused k p) = (k ≤ most) × (p ≤ size)
+-- a number that can be packed, places up to `size`; what is good counts as a place
+unfoldable pub Bounded : ℕ → Answer → Type 0
+Bounded size (Good n) = n ≤ size
+Bounded size (Refused k p) = (k ≤ maxNumber) × (p ≤ size)
 
-module _ (most size : ℕ) where
+module _ (size : ℕ) where
   pub bounded-of : (a : Answer)
       → ((n : ℕ) → a ≡ Good n → n ≤ size)
-      → ((k p : ℕ) → a ≡ Refused k p → (k ≤ most) × (p ≤ size))
-      → Bounded most size a
+      → ((k p : ℕ) → a ≡ Refused k p → (k ≤ maxNumber) × (p ≤ size))
+      → Bounded size a
   unfolding Bounded
   bounded-of (Good n) f g = f n refl
   bounded-of (Refused k p) f g = g k p refl
 
-  pub bounded-good : (n : ℕ) → n ≤ size → Bounded most size (Good n)
+  pub bounded-good : (n : ℕ) → n ≤ size → Bounded size (Good n)
   unfolding Bounded
   bounded-good n h = h
 
   pub bounded-then : (a : Answer) (k : ℕ → Answer)
-      → Bounded most size a
-      → ((n : ℕ) → a ≡ Good n → n ≤ size → Bounded most size (k n))
-      → Bounded most size (a >>= k)
+      → Bounded size a
+      → ((n : ℕ) → a ≡ Good n → n ≤ size → Bounded size (k n))
+      → Bounded size (a >>= k)
   unfolding Bounded _>>=_
   bounded-then (Good n) k h f = f n refl h
   bounded-then (Refused m p) k h f = h
 
   pub bounded-row : (b : Bool) (n p : ℕ) (k : ℕ → Answer)
-      → n ≤ most
+      → n ≤ maxNumber
       → p ≤ size
-      → (b ≡ false → Bounded most size (k 0))
-      → Bounded most size (refuse b n p >>= k)
+      → (b ≡ false → Bounded size (k 0))
+      → Bounded size (refuse b n p >>= k)
   unfolding Bounded _>>=_ refuse
   bounded-row true n p k h i f = (h, i)
   bounded-row false n p k h i f = f refl
 
   pub bounded-walk : (item : ℕ → Answer)
-      → ((at : ℕ) → at ≤ size → Bounded most size (item at))
+      → ((at : ℕ) → at ≤ size → Bounded size (item at))
       → (n at : ℕ)
       → at ≤ size
-      → Bounded most size (walk item n at)
+      → Bounded size (walk item n at)
   unfolding walk
   bounded-walk item f zero at h = bounded-good at h
   bounded-walk item f (suc n) at h = bounded-then _ _ (f at h) (λ next e i. bounded-walk item f n next i)
 
-  pub bounded-number : (a : Answer) → Bounded most size a → number a ≤ most
+  pub bounded-number : (a : Answer) → Bounded size a → number a ≤ maxNumber
   unfolding Bounded number
   bounded-number (Good n) h = omega arith
   bounded-number (Refused k p) h = h .0
 
-  pub bounded-place : (a : Answer) → Bounded most size a → place a ≤ size
+  pub bounded-place : (a : Answer) → Bounded size a → place a ≤ size
   unfolding Bounded place
   bounded-place (Good n) h = h
   bounded-place (Refused k p) h = h .1
 
--- wider bounds hold too
-pub bounded-more : (most more size room : ℕ) (a : Answer) → most ≤ more → size ≤ room → Bounded most size a → Bounded more room a
+-- a wider bound holds too
+pub bounded-wider : (size more : ℕ) (a : Answer) → size ≤ more → Bounded size a → Bounded more a
 unfolding Bounded
-bounded-more most more size room (Good n) l k h = omega arith
-bounded-more most more size room (Refused m p) l k h = (omega (arith, h .0), omega (arith, h .1))
-
-pub bounded-wider : (most size more : ℕ) (a : Answer) → size ≤ more → Bounded most size a → Bounded most more a
-bounded-wider most size more a l h = bounded-more most most size more a (omega arith) l h
+bounded-wider size more (Good n) l h = omega arith
+bounded-wider size more (Refused k p) l h = (h .0, omega (arith, h .1))

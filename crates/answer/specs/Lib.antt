@@ -1,5 +1,6 @@
 -- The answer of a job, how rows of the refusal table follow each other, and laws of both.
 pub mod Answer
+pub mod Table
 pub mod Laws
 pub mod Walk
 pub mod Turns

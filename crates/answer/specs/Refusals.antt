@@ -1,13 +1,14 @@
--- Where a refusal comes from: laws of rows in order, for answers that are not good.
-use Prim.Native.Nat.{ℕ, zero, suc, _≤_}
+-- Where a refusal comes from, and from which row of the table on it is met: laws of rows in order, for answers that are not good.
+use Prim.Native.Nat.{ℕ}
 use mathlib.Core.Path.{_≡_, refl}
 use mathlib.Core.Bool.{Bool, true, false}
 use native.Mathlib.Omega.{arith}
+use borrow.Author.Tests.{leb-true, le-leb}
 use Rattle.answer.specs.declared.Answer.{Answer}
 use Rattle.answer.specs.declared.Answer.the-variants.{Good, Refused}
 use Rattle.answer.specs.Answer.{_>>=_, refuse}
 use Rattle.answer.specs.Laws.{good-refused}
-use Rattle.answer.specs.Walk.{walk}
+use Rattle.answer.specs.Table.{row, upTo, Between, MetFrom}
 
 -- a refusal comes from the first part, or from what follows it
 pub refused-cases : {C : Type 0} (a : Answer) (k : ℕ → Answer) (n p : ℕ)
@@ -29,26 +30,30 @@ unfolding _>>=_ refuse
 row-cases true m q k n p e f g = f (cc) (cc)
 row-cases false m q k n p e f g = g refl e
 
--- if the answer is a refusal, its number is at least m
-abbrev pub RefusedFrom : ℕ → Answer → Type 0
-RefusedFrom m a = (num p : ℕ) → a ≡ Refused num p → m ≤ num
+-- ---- where in the table an answer is met
+
+-- what is met from a row on is met from any row before it on
+pub from-earlier : (m n : ℕ) (a : Answer) → upTo m n ≡ true → MetFrom n a → MetFrom m a
+unfolding upTo
+from-earlier m n a h from num p e =
+    let l = leb-true (row m) (row n) h in
+    let k = leb-true (row n) (row num) (from num p e) in
+    le-leb (row m) (row num) (omega arith)
+
+pub between-at : (m n num k : ℕ) → num ≡ k → Between m n k → Between m n num
+between-at m n num k e h = rw e h
 
 module _ (m : ℕ) where
-  pub from-good : (n : ℕ) → RefusedFrom m (Good n)
+  pub from-good : (n : ℕ) → MetFrom m (Good n)
   from-good n num p e = good-refused n num p e
 
-  pub from-refused : (n p : ℕ) → m ≤ n → RefusedFrom m (Refused n p)
+  pub from-refused : (n p : ℕ) → upTo m n ≡ true → MetFrom m (Refused n p)
   from-refused n p h num q e =
       let z : n ≡ num = cc in
-      omega arith
+      rw (← z) h
 
-  pub from-bind : (a : Answer) (k : ℕ → Answer) → RefusedFrom m a → ((n : ℕ) → RefusedFrom m (k n)) → RefusedFrom m (a >>= k)
+  pub from-bind : (a : Answer) (k : ℕ → Answer) → MetFrom m a → ((n : ℕ) → MetFrom m (k n)) → MetFrom m (a >>= k)
   from-bind a k first rest num p e = refused-cases a k num p e (first num p) (λ n good. rest n num p)
 
-  pub from-row : (b : Bool) (n p : ℕ) (k : ℕ → Answer) → m ≤ n → RefusedFrom m (k 0) → RefusedFrom m (refuse b n p >>= k)
-  from-row b n p k h rest num q e = row-cases b n p k num q e (λ same place. omega arith) (λ unmet. rest num q)
-
-  pub from-walk : (item : ℕ → Answer) → ((at : ℕ) → RefusedFrom m (item at)) → (n at : ℕ) → RefusedFrom m (walk item n at)
-  unfolding walk
-  from-walk item each zero at = from-good at
-  from-walk item each (suc n) at = from-bind (item at) _ (each at) (λ next. from-walk item each n next)
+  pub from-row : (b : Bool) (n p : ℕ) (k : ℕ → Answer) → upTo m n ≡ true → MetFrom m (k 0) → MetFrom m (refuse b n p >>= k)
+  from-row b n p k h rest num q e = row-cases b n p k num q e (λ same place. rw same h) (λ unmet. rest num q)

@@ -10,7 +10,7 @@ use Rattle.limits.specs.Limits.{maxLength, maxMoves, stepSize, entrySize}
 use Rattle.format.specs.LookOver.{lookOver}
 use Rattle.format.specs.Decode.{Filed, stateEnd, filedAt, recordFiled, filedStep}
 use Rattle.format.specs.Order.{stepCount, goalCount, goal, goalFrom}
-use Rattle.answer.specs.Bounds.{Bounded, bounded-good, bounded-then, bounded-row, bounded-more}
+use Rattle.answer.specs.Bounds.{Bounded, bounded-good, bounded-then, bounded-row, bounded-wider}
 use Rattle.lookover.proofs.Laws.{look-over-good, look-over-bounded}
 use Rattle.model.specs.Quantify.{Mem, here, there, first, least}
 use Rattle.model.specs.Domain.{Transition, Entry}
@@ -32,51 +32,47 @@ use Rattle.learner.proofs.Records.{record-noteable}
 use Rattle.adding.proofs.Bounds.{add-bounded}
 use Rattle.changeover.proofs.Laws.{Fits, fits-by}
 
--- the last row of the table
-abbrev lastRow : ℕ
-lastRow = 20
-
 -- ---- row 11: the place of a step lies within the book
 steps-placed : (s : List ℕ) (n at : ℕ) {f : Filed} → Noteable s n at → Mem f (filedAt s n at) → f .place ≤ maxLength
 unfolding Noteable filedAt filedStep
 steps-placed s (suc n) at h here = h .2
 steps-placed s (suc n) at h (there m) = steps-placed s n (stateEnd s at + stepSize) (h .5) m
 
-unbound-effects-bounded : (sch : Schema) (fs : List Filed) → ((f : Filed) → Mem f fs → f .place ≤ maxLength) → Bounded lastRow maxLength (unboundEffects sch fs)
+unbound-effects-bounded : (sch : Schema) (fs : List Filed) → ((f : Filed) → Mem f fs → f .place ≤ maxLength) → Bounded maxLength (unboundEffects sch fs)
 unfolding unboundEffects
-unbound-effects-bounded sch [] all = bounded-good lastRow maxLength 0 (omega arith)
+unbound-effects-bounded sch [] all = bounded-good maxLength 0 (omega arith)
 unbound-effects-bounded sch (f ∷ fs) all =
-    bounded-row lastRow maxLength _ 11 (f .place) _ (omega arith) (all f here) (λ e. unbound-effects-bounded sch fs (λ g m. all g (there m)))
+    bounded-row maxLength _ 11 (f .place) _ (omega arith) (all f here) (λ e. unbound-effects-bounded sch fs (λ g m. all g (there m)))
 
 -- ---- row 12: the move is one of the book's
-conflicting-bounded : (sch : Schema) (ts : List Transition) → sch .moves ≤ maxMoves → Bounded lastRow maxLength (conflictingMove sch ts)
+conflicting-bounded : (sch : Schema) (ts : List Transition) → sch .moves ≤ maxMoves → Bounded maxLength (conflictingMove sch ts)
 unfolding conflictingMove conflictAnswer Bounded
 conflicting-bounded sch ts few = go (least (sch .moves) (conflicting (domain sch) ts)) (least-law (conflicting (domain sch) ts) (sch .moves))
   where
-    go : (k : ℕ) → Rattle.model.proofs.Quantify.Least (conflicting (domain sch) ts) (sch .moves) k → Bounded lastRow maxLength (conflictAnswer k)
+    go : (k : ℕ) → Rattle.model.proofs.Quantify.Least (conflicting (domain sch) ts) (sch .moves) k → Bounded maxLength (conflictAnswer k)
     go zero law = omega arith
     go (suc a) law = (omega arith, omega (arith, law .0))
 
-learnable-bounded : (s : List ℕ) → Bounded lastRow maxLength (learnable s)
+learnable-bounded : (s : List ℕ) → Bounded maxLength (learnable s)
 unfolding learnable recordFiled
 learnable-bounded s =
-    bounded-then lastRow maxLength _ _ (bounded-more 10 lastRow maxLength maxLength _ (omega arith) (omega arith) (look-over-bounded s))
+    bounded-then maxLength _ _ (look-over-bounded s)
     (λ total e l.
     let g = look-over-good s total e in
-    bounded-then lastRow maxLength _ _
+    bounded-then maxLength _ _
     (unbound-effects-bounded (schemaOf s) (filedIn s)
     (λ f m.
     let (from, next, good, k) = filed-somewhere s total e m in
     steps-placed s _ _ (record-noteable (sectionsOf s) s (g .sections .size .most) (g .sections .counts .moves) from next good) k))
     (λ n i j.
-    bounded-then lastRow maxLength _ _ (conflicting-bounded (schemaOf s) (transitionsOf s) (moves-few s total e))
-    (λ n i j. bounded-good lastRow maxLength total l)))
+    bounded-then maxLength _ _ (conflicting-bounded (schemaOf s) (transitionsOf s) (moves-few s total e))
+    (λ n i j. bounded-good maxLength total l)))
 
-learn-bounded : (s : List ℕ) (size : ℕ) → Bounded lastRow maxLength (learn s size)
+learn-bounded : (s : List ℕ) (size : ℕ) → Bounded maxLength (learn s size)
 unfolding learn
 learn-bounded s size =
-    bounded-then lastRow maxLength _ _ (learnable-bounded s)
-    (λ total e l. bounded-row lastRow maxLength _ 13 0 _ (omega arith) (omega arith) (λ f. bounded-good lastRow maxLength total l))
+    bounded-then maxLength _ _ (learnable-bounded s)
+    (λ total e l. bounded-row maxLength _ 13 0 _ (omega arith) (omega arith) (λ f. bounded-good maxLength total l))
 
 -- ---- rows 19 and 20: a step of the plan, an entry of the goal
 goal-length : (o : List ℕ) (n at : ℕ) → length (goalFrom o n at) ≡ n
@@ -92,36 +88,36 @@ plan-count : (s o : List ℕ) → length (planOf (schemaOf s) o) ≡ stepCount o
 unfolding planOf
 plan-count s o = simp length-map (length-plan o)
 
-answer-bounded : (steps : ℕ) (goal : List Entry) (r : Run) → steps ≤ 64 → length goal ≤ 64 → ((k : ℕ) → r ≡ stopped k → k ≤ 65) → Bounded lastRow maxLength (runAnswer steps goal r)
+answer-bounded : (steps : ℕ) (goal : List Entry) (r : Run) → steps ≤ 64 → length goal ≤ 64 → ((k : ℕ) → r ≡ stopped k → k ≤ 65) → Bounded maxLength (runAnswer steps goal r)
 unfolding runAnswer goalAnswer Bounded
 answer-bounded steps goal (stopped k) few short stop = (omega arith, let h = stop k refl in omega arith)
 answer-bounded steps goal (ended end) few short stop = go (first (wrong end) goal) (first-most (wrong end) goal)
   where
-    go : (i : ℕ) → i ≤ length goal → Bounded lastRow maxLength (goalAnswer steps i)
+    go : (i : ℕ) → i ≤ length goal → Bounded maxLength (goalAnswer steps i)
     go zero h = omega arith
     go (suc i) h = (omega arith, omega arith)
 
-check-bounded : (s o : List ℕ) (size : ℕ) → Bounded lastRow maxLength (check s o size)
+check-bounded : (s o : List ℕ) (size : ℕ) → Bounded maxLength (check s o size)
 unfolding check planRun
 check-bounded s o size =
-    bounded-then lastRow maxLength _ _ (learnable-bounded s)
+    bounded-then maxLength _ _ (learnable-bounded s)
     (λ total e l.
-    bounded-row lastRow maxLength _ 13 0 _ (omega arith) (omega arith)
+    bounded-row maxLength _ 13 0 _ (omega arith) (omega arith)
     (λ f.
-    bounded-then lastRow maxLength _ _ (bounded-more 18 lastRow _ maxLength _ (omega arith) (omega arith) (order-bounded (schemaOf s) o))
+    bounded-then maxLength _ _ (bounded-wider _ maxLength _ (omega arith) (order-bounded (schemaOf s) o))
     (λ n i j.
     let c = order-good (schemaOf s) o n i .header .counts in
     answer-bounded (stepCount o) (goalOf o) (planRun s o) (c .steps) (rw (goal-count o) (c .entries))
     (λ k q. let h = run-within _ _ _ _ 1 k q .1 in let p = plan-count s o in let m = c .steps in omega arith))))
 
 pub look-over-fits : (s : List ℕ) → Fits (lookOver s)
-look-over-fits s = fits-by 10 maxLength _ (look-over-bounded s) (omega arith) (omega arith)
+look-over-fits s = fits-by maxLength _ (look-over-bounded s) (omega arith)
 
 pub learn-fits : (s : List ℕ) (size : ℕ) → Fits (learn s size)
-learn-fits s size = fits-by lastRow maxLength _ (learn-bounded s size) (omega arith) (omega arith)
+learn-fits s size = fits-by maxLength _ (learn-bounded s size) (omega arith)
 
 pub check-fits : (s o : List ℕ) (size : ℕ) → Fits (check s o size)
-check-fits s o size = fits-by lastRow maxLength _ (check-bounded s o size) (omega arith) (omega arith)
+check-fits s o size = fits-by maxLength _ (check-bounded s o size) (omega arith)
 
 pub add-fits : (s r : List ℕ) (size : ℕ) → Fits (add s r size)
-add-fits s r size = fits-by 13 maxLength _ (add-bounded s r size) (omega arith) (omega arith)
+add-fits s r size = fits-by maxLength _ (add-bounded s r size) (omega arith)

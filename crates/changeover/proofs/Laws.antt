@@ -11,8 +11,8 @@ use Rattle.changeover.specs.Calls.{Says}
 abbrev pub Fits : Answer → Type 0
 Fits a = (number a < 65536) × (place a < 4294967296)
 
-pub fits-by : (most size : ℕ) (a : Answer) → Bounded most size a → most < 65536 → size < 4294967296 → Fits a
-fits-by most size a b h k = (omega (arith, bounded-number most size a b), omega (arith, bounded-place most size a b))
+pub fits-by : (size : ℕ) (a : Answer) → Bounded size a → size < 4294967296 → Fits a
+fits-by size a b h = (omega (arith, bounded-number size a b), omega (arith, bounded-place size a b))
 
 pub says-by : (a b : Answer) (r : ℕ) → a ≡ b → Fits b → r ≡ packed a → Says b r
 says-by a b r e f h = record { packs = h ∙ ap packed e; number-fits = f .0; place-fits = f .1 }

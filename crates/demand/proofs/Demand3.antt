@@ -10,9 +10,10 @@ use Rattle.limits.specs.Limits.{endSize}
 use Rattle.answer.specs.declared.Answer.{Answer}
 use Rattle.answer.specs.declared.Answer.the-variants.{Good, Refused}
 use Rattle.answer.specs.Answer.{_>>=_, number, place, kept}
-use Rattle.truth.specs.Bools.{decide, is-true}
+use Rattle.truth.specs.Bools.{clash, decide, is-true}
 use Rattle.answer.specs.Laws.{bind-good, bind-refused, refuse-unmet}
-use Rattle.answer.specs.Refusals.{RefusedFrom, from-good, from-refused, from-row, from-bind}
+use Rattle.answer.specs.Table.{table, rowFrom, row, upTo, MetFrom}
+use Rattle.answer.specs.Refusals.{from-earlier, from-good, from-refused, from-row, from-bind}
 use Rattle.mask.specs.Sets.{maskOf}
 use Rattle.mask.proofs.Whole.{length-maskOf, test-maskOf}
 use Rattle.format.specs.LookOver.{lookOver}
@@ -30,10 +31,10 @@ use Rattle.jobs.specs.Planning.{domain, schemaOf, transitionsOf, startState, pl
 use Rattle.jobs.specs.Learn.{learnable, learnedFrom, learn}
 use Rattle.jobs.specs.Check.{planRun, goalAnswer, runAnswer, check, endSheet, checkBytes}
 use Rattle.jobs.specs.Judge.{FitsBook, Rules}
+use Rattle.format.proofs.OrderForm.{order-met}
 use Rattle.wellformed.proofs.Headers.{relations-few}
 use Rattle.wellformed.proofs.Formed.{formed}
 use Rattle.wellformed.proofs.Orders.{grounded, plan-under, start-under}
-use Rattle.wellformed.proofs.Refusals.{order-refused-from}
 use Rattle.wellformed.proofs.Ends.{run-under}
 use Rattle.demand.specs.Demand3.{NoneFits, Impossible, Answers, Shows, Demand3}
 use Rattle.demand.proofs.Rows.{inconsistentIn, learnable-clean, learnable-inconsistent}
@@ -44,12 +45,12 @@ unfolding number
 refused-impossible a num p e h = rw e h
 
 -- an answer that refuses only with later rows is not 11 or 12
-late : (a : Answer) → RefusedFrom 13 a → Impossible a → ⊥
-unfolding number
+late : (a : Answer) → MetFrom 13 a → Impossible a → ⊥
+unfolding number table rowFrom row upTo
 late (Good n) from (inl e) = omega arith
 late (Good n) from (inr e) = omega arith
-late (Refused num p) from (inl e) = omega (arith, from num p refl)
-late (Refused num p) from (inr e) = omega (arith, from num p refl)
+late (Refused num p) from (inl e) = clash (upTo 13 11) (rw e at (from num p refl)) refl
+late (Refused num p) from (inr e) = clash (upTo 13 12) (rw e at (from num p refl)) refl
 
 -- what a run comes to as an answer is what it comes to as a verdict
 run-answers : (steps : ℕ) (goal : List Entry) (r : Run) → Answers steps (judgedRun goal r) (runAnswer steps goal r)
@@ -61,14 +62,14 @@ run-answers steps goal (ended end) = go (first (wrong end) goal)
     go zero = (refl, refl)
     go (suc i) = (refl, refl)
 
-from-run : (steps : ℕ) (goal : List Entry) (r : Run) → RefusedFrom 13 (runAnswer steps goal r)
-unfolding runAnswer goalAnswer
-from-run steps goal (stopped k) = from-refused 13 19 k (omega arith)
+from-run : (steps : ℕ) (goal : List Entry) (r : Run) → MetFrom 13 (runAnswer steps goal r)
+unfolding runAnswer goalAnswer table rowFrom row upTo
+from-run steps goal (stopped k) = from-refused 13 19 k refl
 from-run steps goal (ended end) = go (first (wrong end) goal)
   where
-    go : (i : ℕ) → RefusedFrom 13 (goalAnswer steps i)
+    go : (i : ℕ) → MetFrom 13 (goalAnswer steps i)
     go zero = from-good 13 steps
-    go (suc i) = from-refused 13 20 (suc i) (omega arith)
+    go (suc i) = from-refused 13 20 (suc i) refl
 
 -- a run that comes to a pass ended there, and its answer is good
 pass-run : (steps : ℕ) (goal : List Entry) (r : Run) (end : State) → judgedRun goal r ≡ passes end
@@ -90,7 +91,7 @@ module _ (s : List ℕ) (n : ℕ) (good : lookOver s ≡ Good n) where
   fits-none = judge .unfit
 
   -- an answer that begins with learning, and has only later rows behind it
-  exactly : (a : Answer) (k : ℕ → Answer) → a ≡ (learnable s >>= k) → RefusedFrom 13 (k n) → Impossible a ↔ NoneFits s
+  exactly : (a : Answer) (k : ℕ → Answer) → a ≡ (learnable s >>= k) → MetFrom 13 (k n) → Impossible a ↔ NoneFits s
   exactly a k e from = (
     λ h. fits-none .0 (is-true _ (λ clean. late (k n) from (rw (e ∙ bind-good (learnable s) k n (learnable-clean s n good clean)) at h))),
     λ none.
@@ -99,15 +100,15 @@ module _ (s : List ℕ) (n : ℕ) (good : lookOver s ≡ Good n) where
   )
 
   learning : (size : ℕ) → Impossible (learn s size) ↔ NoneFits s
-  unfolding learn
-  learning size = exactly (learn s size) _ refl (from-row 13 _ 13 0 _ (omega arith) (from-good 13 n))
+  unfolding learn table rowFrom row upTo
+  learning size = exactly (learn s size) _ refl (from-row 13 _ 13 0 _ refl (from-good 13 n))
 
   checking : (o : List ℕ) (size : ℕ) → Impossible (check s o size) ↔ NoneFits s
-  unfolding check
+  unfolding check table rowFrom row upTo
   checking o size =
       exactly (check s o size) _ refl
-      (from-row 13 _ 13 0 _ (omega arith)
-      (from-bind 13 _ _ (λ num p e. omega (arith, order-refused-from (schemaOf s) o num p e)) (λ y. from-run (stepCount o) (goalOf o) (planRun s o))))
+      (from-row 13 _ 13 0 _ refl
+      (from-bind 13 _ _ (from-earlier 13 14 _ refl (order-met (schemaOf s) o)) (λ y. from-run (stepCount o) (goalOf o) (planRun s o))))
 
   -- ---- orders of good form
   module _ (o : List ℕ) (m : ℕ) (form : orderForm (schemaOf s) o ≡ Good m) where

@@ -10,7 +10,9 @@ use Rattle.answer.specs.declared.Answer.the-variants.{Good, Refused}
 use Rattle.truth.specs.Bools.{neither}
 use Rattle.answer.specs.Laws.{passed, parted, none-over}
 use Rattle.answer.specs.Walk.{walk}
-use Rattle.answer.specs.Refusals.{refused-cases, row-cases}
+use Rattle.answer.specs.Answer.{maxNumber}
+use Rattle.answer.specs.Table.{table, rowFrom, row, upTo, Between}
+use Rattle.answer.specs.Refusals.{refused-cases, row-cases, between-at}
 use Rattle.answer.specs.Entries.{Entry, entries-end, entries-right, entries-place}
 use Rattle.terms.specs.declared.Sections.{Sections}
 use Rattle.limits.specs.Limits.{headerSize, maxLength, maxKinds, maxRelations, maxMoves, maxRecords, relationSize, moveSize}
@@ -97,22 +99,22 @@ sections-good h s n e =
       start = entries-end _ _ 5 moveSize (move-entry s (h .kinds)) _ _ n (d .2) ∙ sym (o .records);
     }
 
--- a refusal of rows 1 to 5 has one of their numbers, and stands at most where the records may start, whatever the header says
-pub sections-place : (h : Sections) (s : List ℕ) (k p : ℕ) → sections h s ≡ Refused k p → (1 ≤ k) × (k ≤ 5) × (p ≤ 272)
-unfolding sections
+-- a refusal has the number of a row from 1 to 5, and stands at most where the records may start, whatever the header says
+pub sections-place : (h : Sections) (s : List ℕ) (k p : ℕ) → sections h s ≡ Refused k p → Between 1 5 k × (k ≤ maxNumber) × (p ≤ 272)
+unfolding sections table rowFrom row upTo
 sections-place h s k p e =
-    row-cases (lengthBad s) 1 0 _ k p e (λ x y. (omega arith, omega arith, omega arith))
+    row-cases (lengthBad s) 1 0 _ k p e (λ x y. (between-at 1 5 k 1 x (refl, refl), omega arith, omega arith))
     (λ a e₁.
-    row-cases (countsBad h) 2 0 _ k p e₁ (λ x y. (omega arith, omega arith, omega arith))
+    row-cases (countsBad h) 2 0 _ k p e₁ (λ x y. (between-at 1 5 k 2 x (refl, refl), omega arith, omega arith))
     (λ b e₂.
-    row-cases (offsetsBad h (length s)) 3 0 _ k p e₂ (λ x y. (omega arith, omega arith, omega arith))
+    row-cases (offsetsBad h (length s)) 3 0 _ k p e₂ (λ x y. (between-at 1 5 k 3 x (refl, refl), omega arith, omega arith))
     (λ c e₃.
     let n = counts-good h b in
     let o = offsets-good h (length s) c in
     refused-cases (walk (relation s (h .kinds)) (h .relations .count) (h .relations .at)) _ k p e₃
     (λ f.
     let w = entries-place _ _ 4 relationSize (relation-entry s (h .kinds)) _ _ k p f in
-    (omega arith, omega arith, omega arith))
+    (between-at 1 5 k 4 (w .0) (refl, refl), omega arith, omega arith))
     (λ m f g.
     let w = entries-place _ _ 5 moveSize (move-entry s (h .kinds)) _ _ k p g in
-    (omega arith, omega arith, omega arith)))))
+    (between-at 1 5 k 5 (w .0) (refl, refl), omega arith, omega arith)))))

@@ -1,6 +1,6 @@
 -- Rows 14 to 18 together: what an order that passes them has, and where they refuse one that does not.
 use Prim.Native.Nat.{ℕ, _≤_}
-use mathlib.Core.Path.{_≡_, sym, _∙_}
+use mathlib.Core.Path.{_≡_, refl, sym, _∙_}
 use mathlib.Core.List.{List}
 use native.Mathlib.Omega.{arith}
 use lib.ListN.{length}
@@ -8,7 +8,9 @@ use Rattle.answer.specs.declared.Answer.{Answer}
 use Rattle.answer.specs.declared.Answer.the-variants.{Good, Refused}
 use Rattle.answer.specs.Laws.{passed, parted}
 use Rattle.answer.specs.Walk.{walk}
-use Rattle.answer.specs.Refusals.{refused-cases, row-cases}
+use Rattle.answer.specs.Answer.{maxNumber}
+use Rattle.answer.specs.Table.{table, rowFrom, row, upTo, Between, MetFrom}
+use Rattle.answer.specs.Refusals.{refused-cases, row-cases, between-at}
 use Rattle.answer.specs.Entries.{entries-end, entries-place}
 use Rattle.answer.specs.Bounds.{Bounded, bounded-of}
 use Rattle.terms.specs.Schema.{Schema, hall}
@@ -54,36 +56,39 @@ order-good sch o n e =
       end = last;
     }
 
--- a refusal has one of the rows' numbers, and stands within the longest order
-pub order-place : (sch : Schema) (o : List ℕ) (k p : ℕ) → orderForm sch o ≡ Refused k p → (14 ≤ k) × (k ≤ 18) × (p ≤ maxOrder)
-unfolding orderForm fromStart fromGoal
+-- a refusal has the number of a row from 14 to 18, and stands within the longest order
+pub order-place : (sch : Schema) (o : List ℕ) (k p : ℕ) → orderForm sch o ≡ Refused k p → Between 14 18 k × (k ≤ maxNumber) × (p ≤ maxOrder)
+unfolding orderForm fromStart fromGoal table rowFrom row upTo
 order-place sch o k p e =
     let hl = hall (orderObjects o) o in
-    row-cases (orderHeaderBad o) 14 0 _ k p e (λ x y. (omega arith, omega arith, omega arith))
+    row-cases (orderHeaderBad o) 14 0 _ k p e (λ x y. (between-at 14 18 k 14 x (refl, refl), omega arith, omega arith))
     (λ unmet e₁.
     let ends = section-ends o (order-header-good o unmet .counts) in
     refused-cases (walk (orderObject (sch .kinds) o) (objectCount o) headerSize) _ k p e₁
     (λ f.
     let w = entries-place _ _ 15 1 (order-object-entry (sch .kinds) o) _ _ k p f in
-    (omega arith, omega arith, omega arith))
+    (between-at 14 18 k 15 (w .0) (refl, refl), omega arith, omega arith))
     (λ a good e₂.
     refused-cases (facts 16 sch hl o (length o) (startCount o) noFact (startAt o)) _ k p e₂
     (λ f.
     let w = chain-place (facts-chain 16 sch hl o (length o)) _ _ _ k p f in
-    (omega arith, omega arith, omega arith))
+    (between-at 14 18 k 16 (w .0) (refl, refl), omega arith, omega arith))
     (λ b good₂ e₃.
     refused-cases (entries sch hl o (goalCount o) noFact (goalAt o)) _ k p e₃
     (λ f.
     let w = chain-place (goal-chain sch hl o) _ _ _ k p f in
-    (omega arith, omega arith, omega arith))
+    (between-at 14 18 k 17 (w .0) (refl, refl), omega arith, omega arith))
     (λ c good₃ f.
     let w = entries-place _ _ 18 stepSize (plan-step-entry sch hl o) _ _ k p f in
-    (omega arith, omega arith, omega arith)))))
+    (between-at 14 18 k 18 (w .0) (refl, refl), omega arith, omega arith)))))
+
+pub order-met : (sch : Schema) (o : List ℕ) → MetFrom 14 (orderForm sch o)
+order-met sch o num p e = order-place sch o num p e .0 .0
 
 -- bounds of every answer, as a caller needs them to pack one
-pub order-bounded : (sch : Schema) (o : List ℕ) → Bounded 18 maxOrder (orderForm sch o)
+pub order-bounded : (sch : Schema) (o : List ℕ) → Bounded maxOrder (orderForm sch o)
 order-bounded sch o =
-    bounded-of 18 maxOrder _
+    bounded-of maxOrder _
     (λ n e.
     let g = order-good sch o n e in
     omega (arith, g .end, g .header .most))

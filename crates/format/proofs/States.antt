@@ -7,6 +7,7 @@ use native.Mathlib.Omega.{arith}
 use borrow.Author.Tests.{ltb-false, not-false}
 use Rattle.answer.specs.declared.Answer.the-variants.{Good}
 use Rattle.truth.specs.Bools.{neither}
+use Rattle.answer.specs.Answer.{maxNumber}
 use Rattle.answer.specs.Laws.{passed}
 use Rattle.answer.specs.Bounds.{Bounded, bounded-good, bounded-row}
 use Rattle.input.specs.Bytes.{two}
@@ -38,11 +39,11 @@ module _ (num : ℕ) (sch : Schema) (hl : Hall) (s : List ℕ) (end : ℕ) where
   fact-within last at e = fact-good sch hl s end last at e .0
 
   -- answers of facts within the record stay within it
-  pub facts-bounded : (most : ℕ) → num ≤ most → (n : ℕ) (last : Fact) (at : ℕ) → at ≤ end → Bounded most end (facts num sch hl s end n last at)
+  pub facts-bounded : num ≤ maxNumber → (n : ℕ) (last : Fact) (at : ℕ) → at ≤ end → Bounded end (facts num sch hl s end n last at)
   unfolding facts
-  facts-bounded most m zero last at h = bounded-good most end at h
-  facts-bounded most m (suc n) last at h =
-      bounded-row most end _ _ _ _ m h (λ e. facts-bounded most m n _ _ (fact-within last at e))
+  facts-bounded m zero last at h = bounded-good end at h
+  facts-bounded m (suc n) last at h =
+      bounded-row end _ _ _ _ m h (λ e. facts-bounded m n _ _ (fact-within last at e))
 
 pub count-within : (s : List ℕ) (end at : ℕ) → countBad s end at ≡ false → (at + countSize ≤ end) × (two s at ≤ maxFacts)
 unfolding countBad cut
@@ -54,7 +55,7 @@ module _ (sch : Schema) (hl : Hall) (s : List ℕ) (end : ℕ) where
   unfolding state Bounded
   state-within at next e =
       let p = passed _ _ _ _ _ e in
-      let b = facts-bounded 8 sch hl s end 8 (omega arith) (two s at) noFact (at + countSize) (count-within s end at (p .0) .0) in
+      let b = facts-bounded 8 sch hl s end (omega arith) (two s at) noFact (at + countSize) (count-within s end at (p .0) .0) in
       rw (p .1) at b
 
   -- and behind its last fact
@@ -62,7 +63,7 @@ module _ (sch : Schema) (hl : Hall) (s : List ℕ) (end : ℕ) where
   unfolding state
   state-end at next e = chain-end (facts-chain 8 sch hl s end) _ _ _ _ (passed _ _ _ _ _ e .1)
 
-  pub state-bounded : (most : ℕ) → 8 ≤ most → (at : ℕ) → at ≤ end → Bounded most end (state sch hl s end at)
+  pub state-bounded : (at : ℕ) → at ≤ end → Bounded end (state sch hl s end at)
   unfolding state
-  state-bounded most m at h =
-      bounded-row most end _ _ _ _ m h (λ e. facts-bounded 8 sch hl s end most m _ _ _ (count-within s end at e .0))
+  state-bounded at h =
+      bounded-row end _ _ _ _ (omega arith) h (λ e. facts-bounded 8 sch hl s end (omega arith) _ _ _ (count-within s end at e .0))

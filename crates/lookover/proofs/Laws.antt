@@ -59,23 +59,23 @@ look-over-good s n e =
     let t = r .1 in
     record { sections = rw (g .start) at g; records = rw w at (q .1); total = cc }
 
-look-over-by-bounded : (h : Sections) (s : List ℕ) → Bounded 10 maxLength (lookOverBy h s)
+look-over-by-bounded : (h : Sections) (s : List ℕ) → Bounded maxLength (lookOverBy h s)
 unfolding lookOverBy allRecords
 look-over-by-bounded h s =
-    bounded-then 10 maxLength _ _
-    (bounded-of 10 maxLength (sections h s)
+    bounded-then maxLength _ _
+    (bounded-of maxLength (sections h s)
     (λ n e. let g = sections-good h s n e in omega (arith, g .start, g .offsets .within, g .size .most))
-    (λ k p e. let w = sections-place h s k p e in (omega arith, omega arith)))
+    (λ k p e. let w = sections-place h s k p e in (w .1, omega arith)))
     (λ n e i.
     let g = sections-good h s n e in
     let c = g .counts .records in
-    bounded-then 10 maxLength _ _
-    (bounded-wider 10 _ _ _ (g .size .most) (records-bounded h s (h .records .count) (h .records .at) (g .offsets .within)))
+    bounded-then maxLength _ _
+    (bounded-wider _ _ _ (g .size .most) (records-bounded h s (h .records .count) (h .records .at) (g .offsets .within)))
     (λ last f j.
-    bounded-row 10 maxLength _ _ _ _ (omega arith) j
-    (λ x. let t = total-bounded h s (h .records .count) (h .records .at) last f in bounded-good 10 maxLength _ (omega arith))))
+    bounded-row maxLength _ _ _ _ (omega arith) j
+    (λ x. let t = total-bounded h s (h .records .count) (h .records .at) last f in bounded-good maxLength _ (omega arith))))
 
 -- every answer of looking over, whatever the bytes
-pub look-over-bounded : (s : List ℕ) → Bounded 10 maxLength (lookOver s)
+pub look-over-bounded : (s : List ℕ) → Bounded maxLength (lookOver s)
 unfolding lookOver
 look-over-bounded s = look-over-by-bounded (sectionsOf s) s

@@ -1,4 +1,4 @@
--- Numbers and places that records answer: at most 10, and at most the book's length.
+-- Bounds of what records answer, for packing it: places at most the book's length.
 use Prim.Native.Nat.{ℕ, zero, suc, _+_, _*_, _≤_}
 use mathlib.Core.Path.{_≡_}
 use mathlib.Core.List.{List}
@@ -19,49 +19,45 @@ use Rattle.answer.specs.Bounds.{Bounded, bounded-good, bounded-then, bounded-ro
 use Rattle.format.proofs.States.{state-bounded}
 use Rattle.format.proofs.Records.{head-limits, record-within, record-steps}
 
--- the highest number of rows 6 to 10
-abbrev lastRow : ℕ
-lastRow = 10
-
-object-bounded : (kinds : ℕ) (s : List ℕ) (end at : ℕ) → at ≤ end → Bounded lastRow end (object kinds s end at)
+object-bounded : (kinds : ℕ) (s : List ℕ) (end at : ℕ) → at ≤ end → Bounded end (object kinds s end at)
 unfolding object cut
 object-bounded kinds s end at h =
-    bounded-row lastRow end _ _ _ _ (omega arith) h (λ e. bounded-good lastRow end _ (ltb-false _ _ (neither _ _ e .0)))
+    bounded-row end _ _ _ _ (omega arith) h (λ e. bounded-good end _ (ltb-false _ _ (neither _ _ e .0)))
 
 module _ (sch : Schema) (hl : Hall) (s : List ℕ) (end : ℕ) where
-  step-bounded : (at : ℕ) → at ≤ end → Bounded lastRow end (step sch hl s end at)
+  step-bounded : (at : ℕ) → at ≤ end → Bounded end (step sch hl s end at)
   unfolding step stepRefused cut
   step-bounded at h =
-      bounded-row lastRow end _ _ _ _ (omega arith) h
+      bounded-row end _ _ _ _ (omega arith) h
       (λ e.
-      bounded-row lastRow end _ _ _ _ (omega arith) h
-      (λ f. state-bounded sch hl s end lastRow (omega arith) _ (ltb-false _ _ (neither _ _ e .0))))
+      bounded-row end _ _ _ _ (omega arith) h
+      (λ f. state-bounded sch hl s end _ (ltb-false _ _ (neither _ _ e .0))))
 
-  trajectory-bounded : (n at : ℕ) → at ≤ end → Bounded lastRow end (trajectory sch hl s end n at)
+  trajectory-bounded : (n at : ℕ) → at ≤ end → Bounded end (trajectory sch hl s end n at)
   unfolding trajectory
   trajectory-bounded n at h =
-      bounded-then lastRow end _ _ (state-bounded sch hl s end lastRow (omega arith) at h)
-      (λ next e i. bounded-walk lastRow end _ step-bounded n next i)
+      bounded-then end _ _ (state-bounded sch hl s end at h)
+      (λ next e i. bounded-walk end _ step-bounded n next i)
 
 module _ (h : Sections) (s : List ℕ) where
-  body-bounded : (at end : ℕ) → at + headSize ≤ end → Bounded lastRow end (body h s at end)
+  body-bounded : (at end : ℕ) → at + headSize ≤ end → Bounded end (body h s at end)
   unfolding body closed
   body-bounded at end l =
-      bounded-then lastRow end _ _ (bounded-walk lastRow end _ (object-bounded (h .kinds) s end) _ _ l)
+      bounded-then end _ _ (bounded-walk end _ (object-bounded (h .kinds) s end) _ _ l)
       (λ first e i.
-      bounded-then lastRow end _ _ (trajectory-bounded _ _ s end _ first i)
-      (λ last f j. bounded-row lastRow end _ _ _ _ (omega arith) (omega arith) (λ g. bounded-good lastRow end end (omega arith))))
+      bounded-then end _ _ (trajectory-bounded _ _ s end _ first i)
+      (λ last f j. bounded-row end _ _ _ _ (omega arith) (omega arith) (λ g. bounded-good end end (omega arith))))
 
-  pub record-bounded : (at : ℕ) → at ≤ length s → Bounded lastRow (length s) (recordAt h s at)
+  pub record-bounded : (at : ℕ) → at ≤ length s → Bounded (length s) (recordAt h s at)
   unfolding recordAt
   record-bounded at l =
-      bounded-row lastRow (length s) _ _ _ _ (omega arith) l
+      bounded-row (length s) _ _ _ _ (omega arith) l
       (λ e.
       let w = head-limits s at e in
-      bounded-wider lastRow _ (length s) _ (w .2) (body-bounded at (at + lengthIn s at) (omega arith)))
+      bounded-wider _ (length s) _ (w .2) (body-bounded at (at + lengthIn s at) (omega arith)))
 
-  pub records-bounded : (n at : ℕ) → at ≤ length s → Bounded lastRow (length s) (walk (recordAt h s) n at)
-  records-bounded n at l = bounded-walk lastRow (length s) _ record-bounded n at l
+  pub records-bounded : (n at : ℕ) → at ≤ length s → Bounded (length s) (walk (recordAt h s) n at)
+  records-bounded n at l = bounded-walk (length s) _ record-bounded n at l
 
   -- good records have at most 64 steps each
   pub total-bounded : (n at last : ℕ) → walk (recordAt h s) n at ≡ Good last → stepTotal s n at ≤ maxSteps * n

@@ -12,5 +12,4 @@ pub mod Holding
 pub mod Values
 pub mod Formed
 pub mod Orders
-pub mod Refusals
 pub mod Ends

@@ -1,0 +1,33 @@
+-- The refusal table as data: its numbers in the paper's order, and where in it an answer is met. Nothing may assume that numbers grow along it.
+use Prim.Native.Nat.{ℕ, suc}
+use mathlib.Core.Path.{_≡_}
+use mathlib.Core.Bool.{Bool, true, false}
+use mathlib.Core.List.{List, [], _∷_}
+use lib.Dec.{leb, eqb}
+use Rattle.answer.specs.declared.Answer.{Answer}
+use Rattle.answer.specs.declared.Answer.the-variants.{Refused}
+
+-- 6 is met at three rows: record head, record's tail (behind 10) and book's tail; it stands at the first of them
+unfoldable pub table : List ℕ
+table = 1 ∷ 2 ∷ 3 ∷ 4 ∷ 5 ∷ 6 ∷ 7 ∷ 8 ∷ 9 ∷ 10 ∷ 11 ∷ 12 ∷ 13 ∷ 14 ∷ 15 ∷ 16 ∷ 17 ∷ 18 ∷ 19 ∷ 20 ∷ []
+
+-- where a number stands in a list whose first place is `i`, 0 where it does not
+unfoldable pub rowFrom : List ℕ → ℕ → ℕ → ℕ
+rowFrom [] i num = 0
+rowFrom (n ∷ ns) i num = elim (eqb n num) [ true ↦ i | false ↦ rowFrom ns (suc i) num ]
+
+-- the row of a number, from 1
+unfoldable pub row : ℕ → ℕ
+row num = rowFrom table 1 num
+
+-- the row of m is that of n, or before it
+unfoldable pub upTo : ℕ → ℕ → Bool
+upTo m n = leb (row m) (row n)
+
+-- a number whose row is that of m, that of n, or between the two
+abbrev pub Between : ℕ → ℕ → ℕ → Type 0
+Between m n num = (upTo m num ≡ true) × (upTo num n ≡ true)
+
+-- every refusal of the answer is met at the row of m or later
+abbrev pub MetFrom : ℕ → Answer → Type 0
+MetFrom m a = (num p : ℕ) → a ≡ Refused num p → upTo m num ≡ true
