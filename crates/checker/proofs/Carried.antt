@@ -34,7 +34,7 @@ use Rattle.wellformed.proofs.Atoms.{ground-below}
 use Rattle.wellformed.proofs.Suits.{move-known}
 use Rattle.wellformed.proofs.Orders.{order-right, start-under}
 use Rattle.wellformed.specs.Right.{orderHall}
-use Rattle.demand.proofs.Rows.{inconsistentIn, learnable-inconsistent}
+use Rattle.wellformed.proofs.Learnable.{inconsistentIn, learnable-inconsistent}
 use Rattle.statemask.specs.Statemask.{carry, startMask}
 use Rattle.statemask.specs.Carrying.{Ruled, Carrying, carriedAnswer}
 use Rattle.statemask.proofs.Plan.{carry-start, carry-answer, agrees-sheet}

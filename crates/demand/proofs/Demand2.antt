@@ -24,7 +24,7 @@ use Rattle.jobs.specs.Planning.{domain, schemaOf, filedIn, transitionsOf}
 use Rattle.jobs.specs.Learn.{learnable, learnedFrom, ruleRow, ruleSheet, learn, learnBytes}
 use Rattle.wellformed.proofs.Formed.{formed}
 use Rattle.demand.specs.Demand2.{needBit, effectBit, valueIn, Bits, Demand2}
-use Rattle.demand.proofs.Rows.{inconsistentIn, learnable-inconsistent}
+use Rattle.wellformed.proofs.Learnable.{inconsistentIn, learnable-inconsistent}
 use Rattle.demand.proofs.Demand3.{demand3}
 use Rattle.demand.proofs.Sheet.{length-rows, sheet-bit, bit-held, bit-unheld, bit-added, bit-removed}
 use Rattle.demand.proofs.Filed.{sight-of-filed, filed-of-sight}

@@ -37,7 +37,7 @@ use Rattle.wellformed.proofs.Formed.{formed}
 use Rattle.wellformed.proofs.Orders.{grounded, plan-under, start-under}
 use Rattle.wellformed.proofs.Ends.{run-under}
 use Rattle.demand.specs.Demand3.{NoneFits, Impossible, Answers, Shows, Demand3}
-use Rattle.demand.proofs.Rows.{inconsistentIn, learnable-clean, learnable-inconsistent}
+use Rattle.wellformed.proofs.Learnable.{inconsistentIn, learnable-clean, learnable-inconsistent}
 
 -- ---- answers and verdicts
 refused-impossible : (a : Answer) (num p : ℕ) → a ≡ Refused num p → (num ≡ 11) ⊎ (num ≡ 12) → Impossible a

@@ -1,5 +1,4 @@
--- The demands, proved: Demand3 and Demand2 for one book, TwoBooks and Renumbered for two. Rows, Sheet, Filed and Agree serve them.
-pub mod Rows
+-- The demands, proved: Demand3 and Demand2 for one book, TwoBooks and Renumbered for two. Sheet, Filed and Agree serve them.
 pub mod Demand3
 pub mod Sheet
 pub mod Filed

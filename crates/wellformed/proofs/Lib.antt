@@ -12,4 +12,5 @@ pub mod Holding
 pub mod Values
 pub mod Formed
 pub mod Orders
+pub mod Learnable
 pub mod Ends
