@@ -1,28 +1,28 @@
 -- Bounds of what each call answers, whatever the bytes: so number and place can be packed.
-use Prim.Native.Nat.{ℕ, zero, suc, _+_, _≤_}
+use Prim.Native.Nat.{ℕ, zero, suc, _+_, _≤_, _<_}
 use mathlib.Core.Path.{_≡_, refl, ap}
 use mathlib.Core.List.{List, [], _∷_}
 use native.Mathlib.Omega.{arith}
 use lib.ListN.{length, length-map}
 use Rattle.terms.specs.Sections.{sectionsOf}
 use Rattle.terms.specs.Schema.{Schema}
-use Rattle.limits.specs.Limits.{maxLength, maxMoves, stepSize, entrySize}
+use Rattle.limits.specs.Limits.{maxLength, maxMoves, maxSteps, maxEntries, stepSize, entrySize}
 use Rattle.format.specs.LookOver.{lookOver}
 use Rattle.format.specs.Decode.{Filed, stateEnd, filedAt, recordFiled, filedStep}
 use Rattle.format.specs.Order.{stepCount, goalCount, goal, goalFrom}
 use Rattle.answer.specs.Bounds.{Bounded, bounded-good, bounded-then, bounded-row, bounded-wider}
 use Rattle.lookover.proofs.Laws.{look-over-good, look-over-bounded}
 use Rattle.model.specs.Quantify.{Mem, here, there, first, least}
-use Rattle.model.specs.Domain.{Transition, Entry}
-use Rattle.model.specs.Model.{Run, stopped, ended, next}
+use Rattle.model.specs.Domain.{State, Step as GroundAction, Transition, Entry}
+use Rattle.model.specs.Model.{Run, stopped, ended}
 use Rattle.model.specs.Judge.{wrong}
 use Rattle.model.specs.Learned.{conflicting}
 use Rattle.model.proofs.Quantify.{first-most, least-law}
 use Rattle.model.proofs.Lockstep.{run-within}
-use Rattle.jobs.specs.Planning.{domain, schemaOf, filedIn, transitionsOf, goalOf, planOf}
+use Rattle.jobs.specs.Planning.{domain, schemaOf, filedIn, transitionsOf, startState, goalOf, planOf}
 use Rattle.jobs.specs.Learn.{unboundEffects, conflictAnswer, conflictingMove, learnable, learn}
 use Rattle.jobs.specs.Add.{add}
-use Rattle.jobs.specs.Check.{check, planRun, runAnswer, goalAnswer}
+use Rattle.jobs.specs.Check.{planRun, orderRun, goalAnswer, runAnswer, check}
 use Rattle.wellformed.proofs.Headers.{moves-few}
 use Rattle.wellformed.proofs.Records.{filed-somewhere}
 use Rattle.wellformed.proofs.Orders.{length-plan}
@@ -88,17 +88,22 @@ plan-count : (s o : List ℕ) → length (planOf (schemaOf s) o) ≡ stepCount o
 unfolding planOf
 plan-count s o = simp length-map (length-plan o)
 
-answer-bounded : (steps : ℕ) (goal : List Entry) (r : Run) → steps ≤ 64 → length goal ≤ 64 → ((k : ℕ) → r ≡ stopped k → k ≤ 65) → Bounded maxLength (runAnswer steps goal r)
-unfolding runAnswer goalAnswer Bounded
-answer-bounded steps goal (stopped k) few short stop = (omega arith, let h = stop k refl in omega arith)
-answer-bounded steps goal (ended end) few short stop = go (first (wrong end) goal) (first-most (wrong end) goal)
+-- of a plan from any start, with any goal
+plan-bounded : (s : List ℕ) (start : State) (plan : List GroundAction) (goal : List Entry) (steps : ℕ)
+    → steps ≤ maxSteps → length plan ≤ maxSteps → length goal ≤ maxEntries → Bounded maxLength (runAnswer steps goal (planRun s start plan))
+unfolding planRun runAnswer goalAnswer Bounded
+plan-bounded s start plan goal steps few short least = go (planRun s start plan) (λ k e. run-within _ _ plan start 1 k e .1)
   where
-    go : (i : ℕ) → i ≤ length goal → Bounded maxLength (goalAnswer steps i)
-    go zero h = omega arith
-    go (suc i) h = (omega arith, omega arith)
+    go : (r : Run) → ((k : ℕ) → r ≡ stopped k → k < 1 + length plan) → Bounded maxLength (runAnswer steps goal r)
+    go (stopped k) stop = (omega arith, let h = stop k refl in omega arith)
+    go (ended end) stop = reach (first (wrong end) goal) (first-most (wrong end) goal)
+      where
+        reach : (i : ℕ) → i ≤ length goal → Bounded maxLength (goalAnswer steps i)
+        reach zero h = omega arith
+        reach (suc i) h = (omega arith, omega arith)
 
 check-bounded : (s o : List ℕ) (size : ℕ) → Bounded maxLength (check s o size)
-unfolding check planRun
+unfolding check orderRun
 check-bounded s o size =
     bounded-then maxLength _ _ (learnable-bounded s)
     (λ total e l.
@@ -107,8 +112,7 @@ check-bounded s o size =
     bounded-then maxLength _ _ (bounded-wider _ maxLength _ (omega arith) (order-bounded (schemaOf s) o))
     (λ n i j.
     let c = order-good (schemaOf s) o n i .header .counts in
-    answer-bounded (stepCount o) (goalOf o) (planRun s o) (c .steps) (rw (goal-count o) (c .entries))
-    (λ k q. let h = run-within _ _ _ _ 1 k q .1 in let p = plan-count s o in let m = c .steps in omega arith))))
+    plan-bounded s (startState o) (planOf (schemaOf s) o) (goalOf o) (stepCount o) (c .steps) (rw (plan-count s o) (c .steps)) (rw (goal-count o) (c .entries)))))
 
 pub look-over-fits : (s : List ℕ) → Fits (lookOver s)
 look-over-fits s = fits-by maxLength _ (look-over-bounded s) (omega arith)

@@ -1,27 +1,28 @@
--- For a book that learns and an order of good form, masks by what is held come to what the plan comes to under the learned model.
+-- For a book that learns, masks by what is held come to what a plan comes to under the learned model: of any right steps, then of an order of good form.
 use Prim.Native.Nat.{ℕ, zero, suc, _+_, _*_, _≤_, _<_}
 use mathlib.Core.Path.{_≡_, sym, _∙_}
 use mathlib.Core.Bool.{true, false}
 use mathlib.Core.Logic.{_⊎_, inl, inr}
-use mathlib.Core.List.{List}
+use mathlib.Core.List.{List, map}
 use native.Mathlib.Omega.{arith}
 use lib.ListN.{length}
 use Rattle.answer.specs.declared.Answer.the-variants.{Good}
 use Rattle.truth.specs.Bools.{decide}
 use Rattle.answer.specs.Laws.{good-refused}
+use Rattle.terms.specs.declared.Fact.{Fact}
 use Rattle.terms.specs.declared.Step.{Step}
-use Rattle.terms.specs.Schema.{Schema}
+use Rattle.terms.specs.Schema.{Schema, Hall}
 use Rattle.terms.specs.Steps.{stepAt}
-use Rattle.limits.specs.Limits.{maxMoves, stepSize, heldSize}
+use Rattle.limits.specs.Limits.{maxMoves, maxObjects, stepSize, heldSize}
 use Rattle.format.specs.LookOver.{lookOver}
-use Rattle.format.specs.Order.{stepCount, stepsAt, orderForm, startFacts, goal, plan, planFrom}
+use Rattle.format.specs.Order.{GoalEntry, stepCount, stepsAt, orderForm, startFacts, goal, plan, planFrom}
 use Rattle.model.specs.Quantify.{Mem, here, there}
 use Rattle.model.specs.Domain.{Transition}
 use Rattle.model.specs.Learned.{learned}
 use Rattle.model.proofs.Impossible.{learned-consistent}
-use Rattle.jobs.specs.Planning.{domain, schemaOf, filedIn, transitionsOf, groundAction, startState, planOf, goalOf}
+use Rattle.jobs.specs.Planning.{domain, holding, schemaOf, filedIn, transitionsOf, groundAction, goalEntry, startState, planOf, goalOf}
 use Rattle.jobs.specs.Learn.{learnable, learnedFrom}
-use Rattle.jobs.specs.Check.{planRun, runAnswer, endSheet}
+use Rattle.jobs.specs.Check.{planRun, orderRun, runAnswer, endSheet}
 use Rattle.held.specs.Rules.{ruleSet, heldSet}
 use Rattle.held.specs.Seen.{Seen, inSet}
 use Rattle.held.proofs.Hold.{seen-held}
@@ -33,10 +34,10 @@ use Rattle.terms.proofs.Atoms.{atom-below}
 use Rattle.wellformed.proofs.Atoms.{ground-below}
 use Rattle.wellformed.proofs.Suits.{move-known}
 use Rattle.wellformed.proofs.Orders.{order-right, start-under}
-use Rattle.wellformed.specs.Right.{orderHall}
+use Rattle.wellformed.specs.Right.{RightStep, orderHall, RightOrder}
 use Rattle.wellformed.proofs.Learnable.{inconsistentIn, learnable-inconsistent}
 use Rattle.statemask.specs.Statemask.{carry, startMask}
-use Rattle.statemask.specs.Carrying.{Ruled, Carrying, carriedAnswer}
+use Rattle.statemask.specs.Carrying.{Under, Ruled, Carrying, carriedAnswer}
 use Rattle.statemask.proofs.Plan.{carry-start, carry-answer, agrees-sheet}
 use Rattle.format.proofs.OrderForm.{order-good}
 use Rattle.execution.specs.Execution.{Carriable}
@@ -72,58 +73,72 @@ mem-plan o (suc n) at (suc i) h =
     let e : at + stepSize * suc i ≡ at + stepSize + stepSize * i = omega arith in
     rw e (there (mem-plan o n (at + stepSize) i (omega arith)))
 
-module _ (s o : List ℕ) (n m k : ℕ) (good : lookOver s ≡ Good n) (learns : learnable s ≡ Good m) (order : orderForm (schemaOf s) o ≡ Good k) where
-  pub moves-known : (st : Step) → Mem st (plan o) → (1 ≤ st .action .0) × (st .action .0 ≤ maxMoves)
-  moves-known st i =
-      let (a, b) = move-known (schemaOf s) (orderHall o) st (order-right (schemaOf s) o k order .steps st i) in
-      let c = moves-few s n good in
-      (a, omega arith)
+module _ (s : List ℕ) (n m : ℕ) (good : lookOver s ≡ Good n) (learns : learnable s ≡ Good m) where
+  -- steps that are right over some objects, from any start facts that the mask has bits for
+  module _ (hl : Hall) (few : hl .count ≤ maxObjects) (steps : List Step) (right : (st : Step) → Mem st steps → RightStep (schemaOf s) hl st) where
+    moves-known : (st : Step) → Mem st steps → (1 ≤ st .action .0) × (st .action .0 ≤ maxMoves)
+    moves-known st i =
+        let (a, b) = move-known (schemaOf s) hl st (right st i) in
+        let c = moves-few s n good in
+        (a, omega arith)
 
-  pub carriable : (l : List ℕ) → length l ≡ heldSize → Carriable l o (stepCount o) (stepsAt o)
-  unfolding stepAt plan
-  carriable l size =
-      let g = order-good (schemaOf s) o k order .header in
-      record {
-        size = size;
-        end = omega (arith, g .size, g .most);
-        moves = λ i h. moves-known (stepAt o (stepsAt o + stepSize * i)) (mem-plan o (stepCount o) (stepsAt o) i h);
-      }
+    carrying : Carrying (domain (schemaOf s)) (learnedFrom s) (schemaOf s) (heldOf s .masks) steps
+    unfolding heldOf learnedFrom transitionsOf domain groundAction
+    carrying =
+        let sch = schemaOf s in
+        let seen = seen-held sch (moves-few s n good) (filedIn s) (filed-faithful s n good) in
+        let size = relations-few s n good in
+        record {
+          few = omega arith;
+          valid = learned-consistent (domain sch) (transitionsOf s) (formed s n good) (clean s n m good learns) .valid;
+          ruled = λ st i. let (a, b) = moves-known st i in ruled sch (transitionsOf s) _ seen (st .action .0) a b;
+          inMask =
+              λ st i.
+              record {
+                ranged = λ j atom. atom-below sch (st .action .0) j atom;
+                under =
+                    λ j atom.
+                    let h = ground-below sch hl st (right st i) few j atom in
+                    omega arith;
+              };
+        }
 
-  carrying : Carrying (domain (schemaOf s)) (learnedFrom s) (schemaOf s) (heldOf s .masks) (plan o)
-  unfolding heldOf learnedFrom transitionsOf domain groundAction
-  carrying =
-      let sch = schemaOf s in
-      let seen = seen-held sch (moves-few s n good) (filedIn s) (filed-faithful s n good) in
-      let right = order-right sch o k order in
-      let few = relations-few s n good in
-      record {
-        few = omega arith;
-        valid = learned-consistent (domain sch) (transitionsOf s) (formed s n good) (clean s n m good learns) .valid;
-        ruled = λ st i. let (a, b) = moves-known st i in ruled sch (transitionsOf s) _ seen (st .action .0) a b;
-        inMask =
-            λ st i.
-            record {
-              ranged = λ j atom. atom-below sch (st .action .0) j atom;
-              under =
-                  λ j atom.
-                  let h = ground-below sch (orderHall o) st (right .steps st i) (right .few) j atom in
-                  omega arith;
-            };
-      }
+    module _ (start : List Fact) (under : Under (holding start)) where
+      -- rows 19 and 20, and the end sheet where no step stops
+      plan-answer : (count : ℕ) (goals : List GoalEntry)
+          → runAnswer count (map goalEntry goals) (planRun s (holding start) (map (groundAction (schemaOf s)) steps)) ≡ carriedAnswer count goals (carry (schemaOf s) (heldOf s .masks) steps (startMask start) 1)
+      unfolding planRun
+      plan-answer count goals = carry-answer (domain (schemaOf s)) (learnedFrom s) (schemaOf s) (heldOf s .masks) steps carrying start under count goals
 
-  -- rows 19 and 20, and the end sheet where no step stops
-  pub plan-answer : runAnswer (stepCount o) (goalOf o) (planRun s o) ≡ carriedAnswer (stepCount o) (goal o) (carry (schemaOf s) (heldOf s .masks) (plan o) (startMask (startFacts o)) 1)
-  unfolding goalOf planRun planOf startState
-  plan-answer =
-      let few = relations-few s n good in
-      carry-answer (domain (schemaOf s)) (learnedFrom s) (schemaOf s) (heldOf s .masks) (plan o) carrying (startFacts o)
-      (λ f h. start-under (schemaOf s) o k order f (omega arith)) (stepCount o) (goal o)
+      plan-sheet : carry (schemaOf s) (heldOf s .masks) steps (startMask start) 1 .stop ≡ 0
+          → carry (schemaOf s) (heldOf s .masks) steps (startMask start) 1 .mask ≡ endSheet (planRun s (holding start) (map (groundAction (schemaOf s)) steps))
+      unfolding planRun
+      plan-sheet e = agrees-sheet _ _ (carry-start (domain (schemaOf s)) (learnedFrom s) (schemaOf s) (heldOf s .masks) steps carrying start under) e
 
-  pub plan-sheet : carry (schemaOf s) (heldOf s .masks) (plan o) (startMask (startFacts o)) 1 .stop ≡ 0
-      → carry (schemaOf s) (heldOf s .masks) (plan o) (startMask (startFacts o)) 1 .mask ≡ endSheet (planRun s o)
-  unfolding planRun planOf startState
-  plan-sheet e =
-      let few = relations-few s n good in
-      agrees-sheet _ _
-      (carry-start (domain (schemaOf s)) (learnedFrom s) (schemaOf s) (heldOf s .masks) (plan o) carrying (startFacts o)
-      (λ f h. start-under (schemaOf s) o k order f (omega arith))) e
+  -- what an order of good form supplies
+  module _ (o : List ℕ) (k : ℕ) (order : orderForm (schemaOf s) o ≡ Good k) where
+    right : RightOrder (schemaOf s) o
+    right = order-right (schemaOf s) o k order
+
+    start-in-mask : Under (holding (startFacts o))
+    unfolding startState
+    start-in-mask f h = let size = relations-few s n good in start-under (schemaOf s) o k order f (omega arith)
+
+    pub carriable : (l : List ℕ) → length l ≡ heldSize → Carriable l o (stepCount o) (stepsAt o)
+    unfolding stepAt plan
+    carriable l size =
+        let g = order-good (schemaOf s) o k order .header in
+        record {
+          size = size;
+          end = omega (arith, g .size, g .most);
+          moves = λ i h. moves-known (orderHall o) (right .few) (plan o) (right .steps) (stepAt o (stepsAt o + stepSize * i)) (mem-plan o (stepCount o) (stepsAt o) i h);
+        }
+
+    pub order-carried : runAnswer (stepCount o) (goalOf o) (orderRun s o) ≡ carriedAnswer (stepCount o) (goal o) (carry (schemaOf s) (heldOf s .masks) (plan o) (startMask (startFacts o)) 1)
+    unfolding goalOf orderRun planOf startState
+    order-carried = plan-answer (orderHall o) (right .few) (plan o) (right .steps) (startFacts o) start-in-mask (stepCount o) (goal o)
+
+    pub order-sheet : carry (schemaOf s) (heldOf s .masks) (plan o) (startMask (startFacts o)) 1 .stop ≡ 0
+        → carry (schemaOf s) (heldOf s .masks) (plan o) (startMask (startFacts o)) 1 .mask ≡ endSheet (orderRun s o)
+    unfolding orderRun planOf startState
+    order-sheet = plan-sheet (orderHall o) (right .few) (plan o) (right .steps) (startFacts o) start-in-mask

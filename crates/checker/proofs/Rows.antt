@@ -10,6 +10,7 @@ use Rattle.answer.specs.declared.Answer.the-variants.{Good, Refused}
 use Rattle.answer.specs.Answer.{_>>=_, refuse, isRefused, kept}
 use Rattle.truth.specs.Bools.{clash}
 use Rattle.answer.specs.Laws.{stays, bind-good, refuse-unmet}
+use Rattle.limits.specs.Limits.{endSheetSize}
 use Rattle.terms.specs.declared.Sections.{Sections}
 use Rattle.terms.specs.Sections.{sectionsOf}
 use Rattle.terms.specs.Schema.{schema}
@@ -18,21 +19,21 @@ use Rattle.format.specs.Decode.{factsAt}
 use Rattle.format.specs.Order.{startCount, startAt, stepCount, orderForm, startFacts, goal, plan}
 use Rattle.jobs.specs.Planning.{schemaOf, goalOf}
 use Rattle.jobs.specs.Learn.{learnable}
-use Rattle.jobs.specs.Check.{planRun, runAnswer, check, checkBytes, endSheet}
+use Rattle.jobs.specs.Check.{orderRun, runAnswer, check, checkBytes, endSheet}
 use Rattle.statemask.specs.Statemask.{carry, startMask}
 use Rattle.statemask.specs.Carrying.{carriedAnswer}
 use Rattle.answer.specs.Turns.{is-good}
 use Rattle.learner.specs.Learner.{heldOf}
 use Rattle.learner.proofs.Book.{schema-own, form-good}
 use Rattle.checker.specs.Checker.{CarriedOut, CheckOutcome}
-use Rattle.checker.proofs.Carried.{plan-answer, plan-sheet}
+use Rattle.checker.proofs.Carried.{order-carried, order-sheet}
 
 -- a refusal leaves the sheet as it was
 refused-kept : (s o old : List ℕ) (r : Answer) → r ≡ check s o (length old) → isRefused r ≡ true → CheckOutcome s o old old r
 unfolding checkBytes kept isRefused
 refused-kept s o old r e f = record { says = e; bytes = go r f e }
   where
-    go : (x : Answer) → isRefused x ≡ true → x ≡ check s o (length old) → old ≡ kept (check s o (length old)) (endSheet (planRun s o)) old
+    go : (x : Answer) → isRefused x ≡ true → x ≡ check s o (length old) → old ≡ kept (check s o (length old)) (endSheet (orderRun s o)) old
     go (Good n) i j = clash false i refl
     go (Refused n p) i j = rw (← j)
 
@@ -50,19 +51,19 @@ module _ (s o old : List ℕ) where
 
   module _ (m : ℕ) (learns : learnable s ≡ Good m) where
     -- row 13
-    pub at-size : (length old ≡ 512 → ⊥) → CheckOutcome s o old old (Refused 13 0)
+    pub at-size : (length old ≡ endSheetSize → ⊥) → CheckOutcome s o old old (Refused 13 0)
     unfolding check refuse _>>=_ isRefused
     at-size h =
-        let e : Refused 13 0 ≡ check s o (length old) = rw (learns, ne-eqb (length old) 512 h) in
+        let e : Refused 13 0 ≡ check s o (length old) = rw (learns, ne-eqb (length old) endSheetSize h) in
         refused-kept s o old (Refused 13 0) e refl
 
-    module _ (size : length old ≡ 512) (h : Sections) (own : h ≡ sectionsOf s) where
+    module _ (size : length old ≡ endSheetSize) (h : Sections) (own : h ≡ sectionsOf s) where
       then : ℕ → Answer
-      then _ = runAnswer (stepCount o) (goalOf o) (planRun s o)
+      then _ = runAnswer (stepCount o) (goalOf o) (orderRun s o)
 
       reaches : check s o (length old) ≡ (orderForm (schemaOf s) o >>= then)
       unfolding check then
-      reaches = bind-good _ _ m learns ∙ refuse-unmet _ 13 0 _ (ap not (eq-eqb (length old) 512 size))
+      reaches = bind-good _ _ m learns ∙ refuse-unmet _ 13 0 _ (ap not (eq-eqb (length old) endSheetSize size))
 
       -- rows 14 to 18
       pub at-order : (a : Answer) (b : Bool) → a ≡ orderForm (schema h s) o → b ≡ isRefused a → b ≡ true → CheckOutcome s o old old a
@@ -87,7 +88,7 @@ module _ (s o old : List ℕ) where
         says =
             out .says
             ∙ ap (λ x. carriedAnswer (stepCount o) (goal o) x) carried
-            ∙ sym (plan-answer s o (formed .0) m k (formed .1) learns order)
+            ∙ sym (order-carried s (formed .0) m (formed .1) learns o k order)
             ∙ sym (bind-good _ _ k order)
             ∙ sym reaches
 
@@ -101,5 +102,5 @@ module _ (s o old : List ℕ) where
         at-end b q r sheet e =
             let g = is-good c (sym q ∙ r) in
             let ends : carry (schemaOf s) (heldOf s .masks) (plan o) (startMask (startFacts o)) 1 .stop ≡ 0 = ap (λ x. x .stop) (sym carried) ∙ out .ends _ g in
-            let end = e ∙ out .mask ∙ ap (λ x. x .mask) carried ∙ plan-sheet s o (formed .0) m k (formed .1) learns order ends in
+            let end = e ∙ out .mask ∙ ap (λ x. x .mask) carried ∙ order-sheet s (formed .0) m (formed .1) learns o k order ends in
             record { says = says; bytes = rw (sym says ∙ g) end }

@@ -4,7 +4,7 @@ use answer::Answer;
 use terms::Sections;
 ghost use mathlib.Core.Path.{_≡_};
 ghost use lib.ListN.{length};
-ghost use Rattle.limits.specs.Limits.{endSize};
+ghost use Rattle.limits.specs.Limits.{endSheetSize};
 ghost use Rattle.terms.specs.Schema.{schema};
 ghost use Rattle.format.specs.Order.{stepCount, stepsAt, goal, plan};
 ghost use Rattle.statemask.specs.Statemask.{carry};
@@ -17,7 +17,7 @@ fn carry_out(
     h: Sections,
     held: &[u8],
     o: &[u8],
-    state: &mut [u8; limits::END_SIZE],
+    state: &mut [u8; limits::STATE_SIZE],
 ) -> Answer
     requires { ⌜ Carriable (now held) (now o) (stepCount (now o)) (stepsAt (now o)) ⌝ }
     ensures { λ r. ⌜ CarriedOut (carry (schema h (now (book .entry))) (now (held .entry)) (plan (now (o .entry))) (now (state .entry)) 1) (stepCount (now (o .entry))) (goal (now (o .entry))) (now (state .exit)) r ⌝ }
@@ -40,8 +40,8 @@ fn carry_out(
 }
 
 // The end sheet: the state by value, so that its length is known.
-fn write_end(end: &mut [u8], state: [u8; limits::END_SIZE])
-    requires { ⌜ length (now end) ≡ endSize ⌝ }
+fn write_end(end: &mut [u8], state: [u8; limits::STATE_SIZE])
+    requires { ⌜ length (now end) ≡ endSheetSize ⌝ }
     ensures { λ _. ⌜ now (end .exit) ≡ state ⌝ }
 {
     output::write_bytes(end, 0, &state);
@@ -56,7 +56,7 @@ pub fn check(s: &[u8], o: &[u8], end: &mut [u8]) -> Answer
     if answer::is_refused(a) {
         return a;
     }
-    if end.len() != limits::END_SIZE {
+    if end.len() != limits::END_SHEET_SIZE {
         return Answer::Refused(13, 0);
     }
     let b = orders::order_form(s, h, o);

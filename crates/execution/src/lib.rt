@@ -23,7 +23,7 @@ fn fact_number(f: Fact) -> usize
 // ---- the start
 
 // The state in which a list of facts holds, and no other.
-pub fn start_mask(o: &[u8], n: usize, from: usize) -> [u8; 512]
+pub fn start_mask(o: &[u8], n: usize, from: usize) -> [u8; limits::STATE_SIZE]
     requires { ⌜ from + factSize * n ≤ 1000000 ⌝ }
     ensures { λ r. ⌜ r ≡ startMask (factsAt (now (o .entry)) n from) ⌝ }
 {
@@ -48,7 +48,7 @@ pub fn carry(
     o: &[u8],
     steps: usize,
     from: usize,
-    state: &mut [u8; 512],
+    state: &mut [u8; limits::STATE_SIZE],
 ) -> usize
     requires { ⌜ Carriable (now held) (now o) steps from ⌝ }
     ensures { λ r. ⌜ Carries (schema h (now (book .entry))) (now (held .entry)) (planFrom (now (o .entry)) steps from) (now (state .entry)) r (now (state .exit)) ⌝ }
@@ -73,7 +73,7 @@ pub fn carry(
 
 // ---- the goal
 
-fn misses(o: &[u8], at: usize, state: &[u8; 512]) -> bool
+fn misses(o: &[u8], at: usize, state: &[u8; limits::STATE_SIZE]) -> bool
     requires { ⌜ at ≤ 999999 ⌝ }
     ensures { λ r. ⌜ r ≡ misses (now (state .entry)) (entryAt (now (o .entry)) at) ⌝ }
 {
@@ -83,7 +83,7 @@ fn misses(o: &[u8], at: usize, state: &[u8; 512]) -> bool
 }
 
 // Row 20: the number, from 1, of the first goal entry that the state misses, 0 where it misses none.
-pub fn missed(o: &[u8], n: usize, from: usize, state: &[u8; 512]) -> usize
+pub fn missed(o: &[u8], n: usize, from: usize, state: &[u8; limits::STATE_SIZE]) -> usize
     requires { ⌜ from + entrySize * n ≤ 999999 ⌝ }
     ensures { λ r. ⌜ r ≡ missed (now (state .entry)) (goalFrom (now (o .entry)) n from) ⌝ }
 {

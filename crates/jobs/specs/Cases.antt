@@ -6,7 +6,7 @@ use mathlib.Core.Bool.{false, cond, or-true}
 use mathlib.Core.List.{List, [], _∷_, _++_, map}
 use lib.ListN.{length, take, replicate}
 use borrow.Author.Tests.{le-ltb, lt-ltb}
-use Rattle.limits.specs.Limits.{maxLength, headerSize, ruleSize, endSize}
+use Rattle.limits.specs.Limits.{maxLength, headerSize, ruleSize, endSheetSize}
 use Rattle.answer.specs.declared.Answer.{Answer}
 use Rattle.answer.specs.declared.Answer.the-variants.{Refused}
 use Rattle.answer.specs.Answer.{_>>=_, refuse, number, place, kept}
@@ -30,7 +30,7 @@ use Rattle.model.specs.Judge.{wrong}
 use Rattle.model.specs.Learned.{saw, before, after, turned, learned, unboundEffect, conflicting}
 use Rattle.jobs.specs.Planning.{domain, holding, groundAction, transition, goalEntry, schemaOf, filedIn, transitionsOf, startState, planOf, goalOf}
 use Rattle.jobs.specs.Learn.{unboundEffects, conflictAnswer, conflictingMove, learnable, ruleRow, ruleRows, learnedFrom, ruleSheet, learn, learnBytes}
-use Rattle.jobs.specs.Check.{planRun, goalAnswer, runAnswer, check, endSheet, checkBytes}
+use Rattle.jobs.specs.Check.{planRun, orderRun, goalAnswer, runAnswer, check, endSheet, checkBytes}
 use Rattle.jobs.specs.Add.{added, add, addBytes}
 use Rattle.jobs.specs.Listing.{digits, decimal, refusedLine, needLetter, effectLetter, paramShown, atomFront, atomLine, lineIfAtom, atomLines, moveLines, countsLine, rulesLines, rulesPrinted, planLine, planPrinted}
 use Rattle.model.specs.Model.{Run, stopped, ended}
@@ -138,7 +138,7 @@ heldAt (ended end) fs = map (λ f. cond (end f) 1 0) fs
 
 -- an output lent for an end sheet
 abbrev lent : List ℕ
-lent = replicate endSize 0xff
+lent = replicate endSheetSize 0xff
 
 -- a book of one relation over two places and 16 objects, with one record of one state of so many facts: a pair for each n from `from` on
 abbrev pairs : ℕ → ℕ → List ℕ
@@ -168,21 +168,21 @@ denser =
 abbrev pub cases : List Case
 cases =
     record { gives = rulesPrinted book; wanted = printed }
-    ∷ record { gives = said (check book order2 endSize); wanted = 0 ∷ 2 ∷ [] }
-    ∷ record { gives = heldAt (planRun book order2) (1 ∷ 2 ∷ 3 ∷ 272 ∷ 288 ∷ 304 ∷ []); wanted = 0 ∷ 0 ∷ 1 ∷ 1 ∷ 1 ∷ 0 ∷ [] }
-    ∷ record { gives = said (check book order3 endSize); wanted = 19 ∷ 1 ∷ [] }
+    ∷ record { gives = said (check book order2 endSheetSize); wanted = 0 ∷ 2 ∷ [] }
+    ∷ record { gives = heldAt (orderRun book order2) (1 ∷ 2 ∷ 3 ∷ 272 ∷ 288 ∷ 304 ∷ []); wanted = 0 ∷ 0 ∷ 1 ∷ 1 ∷ 1 ∷ 0 ∷ [] }
+    ∷ record { gives = said (check book order3 endSheetSize); wanted = 19 ∷ 1 ∷ [] }
     ∷ record { gives = checkBytes book order3 lent; wanted = lent }
-    ∷ record { gives = said (check book order4 endSize); wanted = 0 ∷ 0 ∷ [] }
-    ∷ record { gives = said (check book order5 endSize); wanted = 20 ∷ 1 ∷ [] }
-    ∷ record { gives = said (check book6 (rolled 2 3) endSize); wanted = 19 ∷ 1 ∷ [] }
-    ∷ record { gives = said (check book6 (rolled 2 4) endSize); wanted = 19 ∷ 1 ∷ [] }
-    ∷ record { gives = said (check book6 (rolled 3 2) endSize); wanted = 19 ∷ 1 ∷ [] }
-    ∷ record { gives = said (check book6 (rolled 3 4) endSize); wanted = 19 ∷ 1 ∷ [] }
-    ∷ record { gives = said (check book6 (rolled 4 2) endSize); wanted = 19 ∷ 1 ∷ [] }
-    ∷ record { gives = said (check book6 (rolled 4 3) endSize); wanted = 19 ∷ 1 ∷ [] }
-    ∷ record { gives = said (check book7 order7 endSize); wanted = 0 ∷ 1 ∷ [] }
-    ∷ record { gives = checkBytes book7 order7 lent; wanted = replicate endSize 0 }
-    ∷ record { gives = said (check book (rolled 2 2) endSize); wanted = 18 ∷ 29 ∷ [] }
+    ∷ record { gives = said (check book order4 endSheetSize); wanted = 0 ∷ 0 ∷ [] }
+    ∷ record { gives = said (check book order5 endSheetSize); wanted = 20 ∷ 1 ∷ [] }
+    ∷ record { gives = said (check book6 (rolled 2 3) endSheetSize); wanted = 19 ∷ 1 ∷ [] }
+    ∷ record { gives = said (check book6 (rolled 2 4) endSheetSize); wanted = 19 ∷ 1 ∷ [] }
+    ∷ record { gives = said (check book6 (rolled 3 2) endSheetSize); wanted = 19 ∷ 1 ∷ [] }
+    ∷ record { gives = said (check book6 (rolled 3 4) endSheetSize); wanted = 19 ∷ 1 ∷ [] }
+    ∷ record { gives = said (check book6 (rolled 4 2) endSheetSize); wanted = 19 ∷ 1 ∷ [] }
+    ∷ record { gives = said (check book6 (rolled 4 3) endSheetSize); wanted = 19 ∷ 1 ∷ [] }
+    ∷ record { gives = said (check book7 order7 endSheetSize); wanted = 0 ∷ 1 ∷ [] }
+    ∷ record { gives = checkBytes book7 order7 lent; wanted = replicate endSheetSize 0 }
+    ∷ record { gives = said (check book (rolled 2 2) endSheetSize); wanted = 18 ∷ 29 ∷ [] }
     ∷ record { gives = said (learn book9 ruleSize); wanted = 12 ∷ 1 ∷ [] }
     ∷ record { gives = said (lookOver (take 15 book)); wanted = 1 ∷ 0 ∷ [] }
     ∷ record { gives = said (lookOver dense); wanted = 0 ∷ 0 ∷ [] }
@@ -195,7 +195,7 @@ AllRight (c ∷ cs) = (c .gives ≡ c .wanted) × AllRight cs
 
 -- every marked case is as the paper says
 pub cases-right : AllRight cases
-unfolding _>>=_ refuse number place walk byteAt two sectionsOf numberBad relationAt moveAt schema hall kindSuits objectBad factAt factBad precedes noFact factNumber objectOf stepAt argumentBad stepBad samePair repeats atomRelation atomFirst atomSecond parameterFills isAtom placed ground lengthBad countsBad offsetsBad kindBad relationBad moveBad relation move sections cut countBad factRefused facts state objectsIn stepsIn lengthIn headBad object stepRefused step objectsOf trajectory closed body recordAt stepTotal allRecords lookOverBy lookOver factsAt stateAt stateEnd filedStep filedAt recordFiled recordsFiled filed objectCount startCount goalCount stepCount startAt goalAt stepsAt orderCountsBad orderOffsetsBad orderHeaderBad orderObjects orderObject entryBad entries planStepBad planStep fromGoal fromStart orderForm startFacts entryAt goalFrom goal planFrom plan maskOf same below any has later first least image inapplicable next run wrong saw before after turned learned unboundEffect conflicting domain holding groundAction transition goalEntry schemaOf filedIn transitionsOf startState planOf goalOf unboundEffects conflictAnswer conflictingMove learnable ruleRow ruleRows learnedFrom ruleSheet learn kept learnBytes planRun goalAnswer runAnswer check endSheet checkBytes twoBytes added add addBytes digits decimal refusedLine needLetter effectLetter paramShown atomFront atomLine lineIfAtom atomLines moveLines countsLine rulesLines rulesPrinted planLine planPrinted
+unfolding _>>=_ refuse number place walk byteAt two sectionsOf numberBad relationAt moveAt schema hall kindSuits objectBad factAt factBad precedes noFact factNumber objectOf stepAt argumentBad stepBad samePair repeats atomRelation atomFirst atomSecond parameterFills isAtom placed ground lengthBad countsBad offsetsBad kindBad relationBad moveBad relation move sections cut countBad factRefused facts state objectsIn stepsIn lengthIn headBad object stepRefused step objectsOf trajectory closed body recordAt stepTotal allRecords lookOverBy lookOver factsAt stateAt stateEnd filedStep filedAt recordFiled recordsFiled filed objectCount startCount goalCount stepCount startAt goalAt stepsAt orderCountsBad orderOffsetsBad orderHeaderBad orderObjects orderObject entryBad entries planStepBad planStep fromGoal fromStart orderForm startFacts entryAt goalFrom goal planFrom plan maskOf same below any has later first least image inapplicable next run wrong saw before after turned learned unboundEffect conflicting domain holding groundAction transition goalEntry schemaOf filedIn transitionsOf startState planOf goalOf unboundEffects conflictAnswer conflictingMove learnable ruleRow ruleRows learnedFrom ruleSheet learn kept learnBytes planRun orderRun goalAnswer runAnswer check endSheet checkBytes twoBytes added add addBytes digits decimal refusedLine needLetter effectLetter paramShown atomFront atomLine lineIfAtom atomLines moveLines countsLine rulesLines rulesPrinted planLine planPrinted
 cases-right = (refl, (refl, (refl, (refl, (refl, (refl, (refl, (refl, (refl, (refl, (refl, (refl, (refl, (refl, (refl, (refl, (refl, (refl, (refl, (refl, tt))))))))))))))))))))
 
 -- The two sides of the limit of 60,000 bytes, as laws for any bytes: a book so long is too slow to compute as a case.

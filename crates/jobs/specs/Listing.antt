@@ -3,7 +3,7 @@ use Prim.Native.Nat.{ℕ, zero, suc, _+_, _*_, _/_, _%_}
 use mathlib.Core.Bool.{Bool, true, false, cond}
 use mathlib.Core.List.{List, [], _∷_, _++_}
 use lib.Dec.{leb}
-use Rattle.limits.specs.Limits.{endSize, atomsPerRelation}
+use Rattle.limits.specs.Limits.{endSheetSize, atomsPerRelation}
 use Rattle.answer.specs.declared.Answer.{Answer}
 use Rattle.answer.specs.declared.Answer.the-variants.{Good, Refused}
 use Rattle.terms.specs.declared.Relation.{Relation}
@@ -119,4 +119,4 @@ planLine (Good steps) = passesWord ++ decimal steps ++ newline
 
 -- what the program `plan` prints of a book and an order
 unfoldable pub planPrinted : List ℕ → List ℕ → List ℕ
-planPrinted s o = planLine (check s o endSize)
+planPrinted s o = planLine (check s o endSheetSize)

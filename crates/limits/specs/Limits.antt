@@ -67,15 +67,18 @@ entrySize = 4
 
 -- ---- the sheets
 
--- a set of bound facts, a move's four sets, and the end sheet, in bytes
+-- a set of bound facts, a move's four sets, a state's set of facts, and the end sheet, in bytes
 abbrev pub setSize : ℕ
 setSize = 32
 
 abbrev pub ruleSize : ℕ
 ruleSize = 128
 
-abbrev pub endSize : ℕ
-endSize = 512
+abbrev pub stateSize : ℕ
+stateSize = 512
+
+abbrev pub endSheetSize : ℕ
+endSheetSize = 512
 
 -- the most that a rule sheet comes to: the four sets of each move
 abbrev pub sheetMax : ℕ

@@ -42,7 +42,7 @@ fn answer_line(a: Answer, line: &mut [u8; 128]) -> usize
 fn plan_line(book: &[u8], order: &[u8], line: &mut [u8; 128]) -> usize
     ensures { λ r. ⌜ Counts r (now (line .exit)) × (take r (now (line .exit)) ≡ planPrinted (now (book .entry)) (now (order .entry))) ⌝ }
 {
-    let mut end = [0u8; limits::END_SIZE];
+    let mut end = [0u8; limits::END_SHEET_SIZE];
     let a = checker::check(book, order, &mut end);
     answer_line(a, line)
 }

@@ -7,7 +7,7 @@ use mathlib.Core.Bool.{Bool, true, false, cond, _&&_, _||_, or-false, or-assoc}
 use mathlib.Core.List.{List, [], _∷_}
 use borrow.Author.Tests.{eqb-true}
 use lib.Dec.{eqb}
-use Rattle.limits.specs.Limits.{endSize, maxFactNumbers}
+use Rattle.limits.specs.Limits.{stateSize, maxFactNumbers}
 use Rattle.terms.specs.declared.Fact.{Fact}
 use Rattle.terms.specs.Facts.{factNumber}
 use Rattle.mask.specs.Bits.{testBit, putBit}
@@ -23,12 +23,12 @@ use Rattle.statemask.specs.Statemask.{withFacts, startMask, effects}
 use Rattle.statemask.specs.Carrying.{Under}
 
 -- ---- what is in a mask, whatever number is asked for
-pub test-mask : (st : State) → Under st → (f : ℕ) → testBit (maskOf endSize st) f ≡ st f
+pub test-mask : (st : State) → Under st → (f : ℕ) → testBit (maskOf stateSize st) f ≡ st f
 test-mask st under f = go (decLt f maxFactNumbers)
   where
-    go : Dec (f < maxFactNumbers) → testBit (maskOf endSize st) f ≡ st f
-    go (yes h) = test-maskOf endSize st f h
-    go (no d) = test-past (maskOf endSize st) f (omega (arith, length-maskOf endSize st)) ∙ sym (under f (omega arith))
+    go : Dec (f < maxFactNumbers) → testBit (maskOf stateSize st) f ≡ st f
+    go (yes h) = test-maskOf stateSize st f h
+    go (no d) = test-past (maskOf stateSize st) f (omega (arith, length-maskOf stateSize st)) ∙ sym (under f (omega arith))
 
 -- ---- facts put in
 facts-mask : (len : ℕ) (fs : List Fact) (p : State) → withFacts fs (maskOf len p) ≡ maskOf len (λ n. p n || holding fs n)
@@ -40,9 +40,9 @@ facts-mask len (f ∷ fs) p =
     ∙ maskOf-same len _ _ (λ n h. or-assoc (p n) (eqb (factNumber f) n) (holding fs n))
 
 -- The start mask is that of the state in which the facts hold.
-pub start-mask : (fs : List Fact) → startMask fs ≡ maskOf endSize (holding fs)
+pub start-mask : (fs : List Fact) → startMask fs ≡ maskOf stateSize (holding fs)
 unfolding startMask
-start-mask fs = ap (withFacts fs) (empty-maskOf endSize) ∙ facts-mask endSize fs (λ n. false)
+start-mask fs = ap (withFacts fs) (empty-maskOf stateSize) ∙ facts-mask stateSize fs (λ n. false)
 
 pub start-under : (fs : List Fact) → ((f : Fact) → Mem f fs → factNumber f < maxFactNumbers) → Under (holding fs)
 unfolding holding

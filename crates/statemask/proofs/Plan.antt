@@ -6,7 +6,7 @@ use mathlib.Core.Logic.{_⊎_, inl, inr}
 use mathlib.Core.Bool.{Bool, true, false, not}
 use mathlib.Core.List.{List, [], _∷_, map}
 use Rattle.truth.specs.Bools.{decide}
-use Rattle.limits.specs.Limits.{endSize, maxAtoms}
+use Rattle.limits.specs.Limits.{stateSize, maxAtoms}
 use Rattle.terms.specs.declared.Fact.{Fact}
 use Rattle.terms.specs.declared.Step.{Step}
 use Rattle.terms.specs.Schema.{Schema}
@@ -38,17 +38,17 @@ module _ (sch : Schema) (l : List ℕ) (st : Step) (plan : List Step) (m : List 
 
 module _ (D : Domain) (M : Model) (sch : Schema) (l : List ℕ) where
   module _ (few : D .atoms ≤ maxAtoms) (valid : Valid D M) (s : Step) (fits : InMask D (groundAction sch s)) (st : State) (under : Under st) where
-    step-inapplicable : Ruled M (s .action .0) (ruleSet sch l (s .action .0)) → stepInapplicable sch l s (maskOf endSize st) ≡ inapplicable D M (groundAction sch s) st
+    step-inapplicable : Ruled M (s .action .0) (ruleSet sch l (s .action .0)) → stepInapplicable sch l s (maskOf stateSize st) ≡ inapplicable D M (groundAction sch s) st
     unfolding stepInapplicable groundAction
     step-inapplicable ruled = inapplicable-mask D M few valid (groundAction sch s) fits (ruleSet sch l (s .action .0)) ruled st under
 
-    step-next : Ruled M (s .action .0) (ruleSet sch l (s .action .0)) → stepNext sch l s (maskOf endSize st) ≡ maskOf endSize (next D M (groundAction sch s) st)
+    step-next : Ruled M (s .action .0) (ruleSet sch l (s .action .0)) → stepNext sch l s (maskOf stateSize st) ≡ maskOf stateSize (next D M (groundAction sch s) st)
     unfolding stepNext groundAction
     step-next ruled = next-mask D M few valid (groundAction sch s) fits (ruleSet sch l (s .action .0)) ruled st under
 
   -- The plan over the mask of a state comes to what it comes to from the state.
   pub carry-run : (plan : List Step) → Carrying D M sch l plan → (st : State) → Under st → (k : ℕ) → 1 ≤ k
-      → Agrees (carry sch l plan (maskOf endSize st) k) (run D M (map (groundAction sch) plan) st k)
+      → Agrees (carry sch l plan (maskOf stateSize st) k) (run D M (map (groundAction sch) plan) st k)
   unfolding carry run
   carry-run [] c st under k h = (refl, refl, under)
   carry-run (s ∷ plan) c st under k h =
@@ -63,25 +63,25 @@ module _ (D : Domain) (M : Model) (sch : Schema) (l : List ℕ) where
       rest : Carrying D M sch l plan
       rest = record { few = c .few; valid = c .valid; ruled = λ r m. c .ruled r (there m); inMask = λ r m. c .inMask r (there m) }
 
-      halts : stepInapplicable sch l s (maskOf endSize st) ≡ inapplicable D M t st
+      halts : stepInapplicable sch l s (maskOf stateSize st) ≡ inapplicable D M t st
       halts = step-inapplicable (c .few) (c .valid) s fits st under (c .ruled s here)
 
-      moves : stepNext sch l s (maskOf endSize st) ≡ maskOf endSize (next D M t st)
+      moves : stepNext sch l s (maskOf stateSize st) ≡ maskOf stateSize (next D M t st)
       moves = step-next (c .few) (c .valid) s fits st under (c .ruled s here)
 
       go : (inapplicable D M t st ≡ true) ⊎ (inapplicable D M t st ≡ false)
-          → Agrees (carry sch l plan (maskOf endSize (next D M t st)) (suc k)) (run D M (map (groundAction sch) plan) (next D M t st) (suc k))
-          → Agrees (carry sch l (s ∷ plan) (maskOf endSize st) k) (run D M (t ∷ map (groundAction sch) plan) st k)
+          → Agrees (carry sch l plan (maskOf stateSize (next D M t st)) (suc k)) (run D M (map (groundAction sch) plan) (next D M t st) (suc k))
+          → Agrees (carry sch l (s ∷ plan) (maskOf stateSize st) k) (run D M (t ∷ map (groundAction sch) plan) st k)
       go (inl e) deeper =
-          subst₂ Agrees (sym (carry-stop sch l s plan (maskOf endSize st) k (halts ∙ e))) (sym (run-stop D M t (map (groundAction sch) plan) st k e)) (refl, h)
+          subst₂ Agrees (sym (carry-stop sch l s plan (maskOf stateSize st) k (halts ∙ e))) (sym (run-stop D M t (map (groundAction sch) plan) st k e)) (refl, h)
       go (inr e) deeper =
           subst₂ Agrees
-          (sym (carry-go sch l s plan (maskOf endSize st) k (halts ∙ e) ∙ ap (λ m. carry sch l plan m (suc k)) moves))
+          (sym (carry-go sch l s plan (maskOf stateSize st) k (halts ∙ e) ∙ ap (λ m. carry sch l plan m (suc k)) moves))
           (sym (run-go D M t (map (groundAction sch) plan) st k e))
           deeper
 
 -- The first goal entry that the mask misses is the first that is wrong in the state.
-pub missed-first : (end : State) → Under end → (goal : List GoalEntry) → missed (maskOf endSize end) goal ≡ first (wrong end) (map goalEntry goal)
+pub missed-first : (end : State) → Under end → (goal : List GoalEntry) → missed (maskOf stateSize end) goal ≡ first (wrong end) (map goalEntry goal)
 unfolding missed misses wrong goalEntry
 missed-first end under goal =
     first-map _ _ goalEntry (λ e. ap (λ (t : Bool). not (same t (e .wanted))) (test-mask end under (factNumber (e .fact)))) goal

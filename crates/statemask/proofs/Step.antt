@@ -7,7 +7,7 @@ use mathlib.Core.Bool.{Bool, true, false, cond, not, _&&_, _||_, and-true, and-f
 use mathlib.Core.List.{List}
 use lib.Dec.{eqb}
 use Rattle.truth.specs.Bools.{is-false, and-out}
-use Rattle.limits.specs.Limits.{endSize, setSize, maxAtoms}
+use Rattle.limits.specs.Limits.{stateSize, setSize, maxAtoms}
 use Rattle.mask.specs.Sets.{maskOf}
 use Rattle.mask.proofs.Whole.{test-maskOf, maskOf-same}
 use Rattle.model.specs.Domain.{Domain, State, Step}
@@ -50,7 +50,7 @@ module _ (D : Domain) (M : Model) (few : D .atoms ≤ maxAtoms) (valid : Valid D
       rw (off, under f h)
 
   module _ (R : ℕ → List ℕ) (ruled : Ruled M (s .action) R) (st : State) (under : Under st) where
-    unmet-mask : (n : ℕ) → n < maxAtoms → unmet R (s .ground) (maskOf endSize st) n ≡ M .precondition (not (st (s .ground n))) (s .action) n
+    unmet-mask : (n : ℕ) → n < maxAtoms → unmet R (s .ground) (maskOf stateSize st) n ≡ M .precondition (not (st (s .ground n))) (s .action) n
     unfolding unmet
     unmet-mask n l =
         rw
@@ -58,7 +58,7 @@ module _ (D : Domain) (M : Model) (few : D .atoms ≤ maxAtoms) (valid : Valid D
         (either (λ b. M .precondition b (s .action) n) (st (s .ground n)))
 
     -- The step is inapplicable over the mask exactly if it is in the state.
-    pub inapplicable-mask : inapplicableIn R (s .ground) (maskOf endSize st) ≡ inapplicable D M s st
+    pub inapplicable-mask : inapplicableIn R (s .ground) (maskOf stateSize st) ≡ inapplicable D M s st
     unfolding inapplicableIn inapplicable
     inapplicable-mask =
         below-cong maxAtoms _ _ unmet-mask
@@ -66,12 +66,12 @@ module _ (D : Domain) (M : Model) (few : D .atoms ≤ maxAtoms) (valid : Valid D
         (λ n e. fits .ranged n (valid .needed-atom _ (s .action) n e))
 
     -- The mask after the step is that of the next state.
-    pub next-mask : nextIn R (s .ground) (maskOf endSize st) ≡ maskOf endSize (next D M s st)
+    pub next-mask : nextIn R (s .ground) (maskOf stateSize st) ≡ maskOf stateSize (next D M s st)
     unfolding nextIn next
     next-mask =
-        ap (λ l. effects true (R 2) (s .ground) l maxAtoms) (effects-mask false (R 3) (s .ground) endSize st maxAtoms)
-        ∙ effects-mask true (R 2) (s .ground) endSize (λ f. cond (touched (R 3) (s .ground) maxAtoms f) false (st f)) maxAtoms
-        ∙ maskOf-same endSize _ _ (λ f h. laid f)
+        ap (λ l. effects true (R 2) (s .ground) l maxAtoms) (effects-mask false (R 3) (s .ground) stateSize st maxAtoms)
+        ∙ effects-mask true (R 2) (s .ground) stateSize (λ f. cond (touched (R 3) (s .ground) maxAtoms f) false (st f)) maxAtoms
+        ∙ maskOf-same stateSize _ _ (λ f h. laid f)
       where
         laid : (f : ℕ) → cond (touched (R 2) (s .ground) maxAtoms f) true (cond (touched (R 3) (s .ground) maxAtoms f) false (st f))
             ≡ (image D (M .effect true (s .action)) s f || (st f && not (image D (M .effect false (s .action)) s f)))

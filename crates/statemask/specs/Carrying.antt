@@ -3,7 +3,7 @@ use Prim.Native.Nat.{ℕ, zero, suc, _≤_, _<_}
 use mathlib.Core.Path.{_≡_}
 use mathlib.Core.Bool.{true, false}
 use mathlib.Core.List.{List}
-use Rattle.limits.specs.Limits.{setSize, endSize, maxAtoms, maxFactNumbers}
+use Rattle.limits.specs.Limits.{setSize, stateSize, maxAtoms, maxFactNumbers}
 use Rattle.answer.specs.declared.Answer.{Answer}
 use Rattle.answer.specs.declared.Answer.the-variants.{Refused}
 use Rattle.terms.specs.declared.Step.{Step}
@@ -44,7 +44,7 @@ pub record Carrying (D : Domain) (M : Model) (sch : Schema) (l : List ℕ) (plan
 -- the masks stop where the run stops; where it ends they have its end state
 abbrev pub Agrees : Carried → Run → Type 0
 Agrees c (stopped k) = (c .stop ≡ k) × (1 ≤ k)
-Agrees c (ended end) = (c .stop ≡ 0) × (c .mask ≡ maskOf endSize end) × Under end
+Agrees c (ended end) = (c .stop ≡ 0) × (c .mask ≡ maskOf stateSize end) × Under end
 
 -- rows 19 and 20 from what the masks came to
 unfoldable pub carriedAnswer : ℕ → List GoalEntry → Carried → Answer

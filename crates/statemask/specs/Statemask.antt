@@ -3,7 +3,7 @@
 use Prim.Native.Nat.{ℕ, zero, suc}
 use mathlib.Core.Bool.{Bool, true, false, cond, _&&_, _||_, not}
 use mathlib.Core.List.{List, [], _∷_}
-use Rattle.limits.specs.Limits.{endSize, maxAtoms}
+use Rattle.limits.specs.Limits.{stateSize, maxAtoms}
 use Rattle.mask.specs.Bits.{testBit, setBit, putBit}
 use Rattle.mask.specs.Sets.{empty}
 use Rattle.terms.specs.declared.Fact.{Fact}
@@ -21,7 +21,7 @@ withFacts [] m = m
 withFacts (f ∷ fs) m = withFacts fs (setBit m (factNumber f))
 
 unfoldable pub startMask : List Fact → List ℕ
-startMask fs = withFacts fs (empty endSize)
+startMask fs = withFacts fs (empty stateSize)
 
 -- a need of bound fact n is unmet
 unfoldable pub unmet : (ℕ → List ℕ) → (ℕ → ℕ) → List ℕ → ℕ → Bool

@@ -73,7 +73,7 @@ carry-out-requires c κs =
     let f = is-good _ (sym (y .before .is-refused2 .ensures) ∙ y .if3 .left) in
     let order = sym (y .before .before .order-form .ensures) ∙ f in
     let k = form-good _ _ g in
-    carriable _ _ _ _ _ (k .1) g (rw (schema-own _ _ own) at order) _ (b .kept .1 .1 .0)
+    carriable _ _ _ (k .1) g _ _ (rw (schema-own _ _ own) at order) _ (b .kept .1 .1 .0)
 
 is-refused-requires-3 : tie.Need-is-refused-requires-3
 is-refused-requires-3 c κs = search needs
