@@ -1,7 +1,7 @@
 -- What is of good form in one book is so in another that has the same bytes behind the header, as far as the first one goes: each test that
 -- passes reads only bytes within the first book.
 use Prim.Native.Nat.{ℕ, zero, suc, _+_, _≤_, _<_}
-use mathlib.Core.Path.{_≡_, refl, _∙_}
+use mathlib.Core.Path.{_≡_, refl, sym, _∙_}
 use mathlib.Core.Bool.{false, _||_, not}
 use mathlib.Core.List.{List}
 use native.Mathlib.Omega.{arith}
@@ -19,21 +19,21 @@ use Rattle.terms.specs.declared.Sections.{Sections}
 use Rattle.terms.specs.Schema.{Schema, Hall, schema, hall}
 use Rattle.terms.specs.Facts.{factAt, factBad, precedes, noFact}
 use Rattle.terms.specs.Steps.{stepAt}
+use Rattle.terms.specs.Agree.{SameSchema}
+use Rattle.terms.proofs.Agree.{SameHall, fact-over, step-over}
 use Rattle.limits.specs.Limits.{headerSize, headSize, factSize, stepSize, maxObjects}
 use Rattle.format.specs.States.{cut, countBad, factRefused, facts, state}
 use Rattle.format.specs.Records.{objectsIn, stepsIn, lengthIn, headBad, object, step, objectsOf, trajectory, body, recordAt, stepRefused, closed}
 use Rattle.format.proofs.States.{fact-within, count-within, state-end}
 use Rattle.answer.specs.Turns.{walk-within}
 use Rattle.format.proofs.Records.{object-end, objects-end, head-limits, record-within}
-use Rattle.adding.specs.ReadBack.{SchemaKept}
 use Rattle.adding.proofs.Reading.{two-same, fact-same, step-same, head-same}
-use Rattle.adding.proofs.Suits.{HallKept, fact-again, step-right-again}
 
 -- what is good behind the header is good again, and ends there too
 abbrev pub Again : (ℕ → Answer) → (ℕ → Answer) → Type 0
 Again f g = (at next : ℕ) → headerSize ≤ at → f at ≡ Good next → (g at ≡ Good next) × (headerSize ≤ next)
 
-module _ (sch sch′ : Schema) (k : SchemaKept sch sch′) (hl hl′ : Hall) (o : HallKept hl hl′) where
+module _ (sch sch′ : Schema) (k : SameSchema sch sch′) (hl hl′ : Hall) (o : SameHall hl hl′) where
   module _ (s t : List ℕ) (same : (i : ℕ) → headerSize ≤ i → i < length s → byteAt t i ≡ byteAt s i) (end : ℕ) (within : end ≤ length s) where
     fact-refused-again : (last : Fact) (at : ℕ)
         → headerSize ≤ at
@@ -45,7 +45,7 @@ module _ (sch sch′ : Schema) (k : SchemaKept sch sch′) (hl hl′ : Hall) (o 
         let i : factAt t at ≡ factAt s at = fact-same s t same at l (omega arith) in
         let p = neither (cut end at factSize || factBad sch hl (factAt s at)) (not (precedes last (factAt s at))) e in
         let q = neither (cut end at factSize) (factBad sch hl (factAt s at)) (p .0) in
-        rw i (neither-in _ _ (neither-in _ _ (q .0) (fact-again sch sch′ k hl hl′ o (factAt s at) (q .1))) (p .1))
+        rw i (neither-in _ _ (neither-in _ _ (q .0) (fact-over sch sch′ k hl hl′ o (factAt s at) (q .1))) (p .1))
 
     facts-again : (n : ℕ) (last : Fact) (at next : ℕ)
         → headerSize ≤ at
@@ -79,7 +79,7 @@ module _ (sch sch′ : Schema) (k : SchemaKept sch sch′) (hl hl′ : Hall) (o 
         let w : at + stepSize ≤ end = ltb-false _ _ (a .0) in
         let i : stepAt t at ≡ stepAt s at = step-same s t same at l (omega arith) in
         let z = state-again (at + stepSize) next (omega arith) (q .1) in (
-          refuse-unmet _ _ _ _ (rw (i, a .0, step-right-again sch sch′ k hl hl′ o (stepAt s at) (a .1)))
+          refuse-unmet _ _ _ _ (rw (i, a .0, step-over sch sch′ k hl hl′ o (stepAt s at) (a .1)))
               ∙ refuse-unmet _ _ _ _ (rw i (q .0)) ∙ z .0,
           z .1,
         )
@@ -117,10 +117,10 @@ module _ (s t : List ℕ) (longer : length s ≤ length t) (same : (i : ℕ) →
       let d = neither (ltb (length s) (at + headSize)) (ltb maxObjects (byteAt s at)) (c .0) in
       rw (x, y, i) (neither-in _ _ (neither-in _ _ (neither-in _ _ (neither-in _ _ u (d .1)) (c .1)) (b .1)) v)
 
-  module _ (h : Sections) (k : SchemaKept (schema h s) (schema h t)) where
-    hall-kept : (at end : ℕ) → headerSize ≤ at → at + headSize + objectsIn s at ≤ length s → HallKept (hall (objectsOf s at) s) (hall (objectsOf s at) t)
+  module _ (h : Sections) (k : SameSchema (schema h s) (schema h t)) where
+    hall-kept : (at end : ℕ) → headerSize ≤ at → at + headSize + objectsIn s at ≤ length s → SameHall (hall (objectsOf s at) s) (hall (objectsOf s at) t)
     unfolding hall objectsOf
-    hall-kept at end l w = record { count = refl; kind = λ x low high. same _ (omega arith) (omega arith) }
+    hall-kept at end l w = record { count = refl; kind = λ x low high. sym (same _ (omega arith) (omega arith)) }
 
     body-again : (at end next : ℕ)
         → headerSize ≤ at

@@ -1,6 +1,6 @@
 -- What the new book keeps of an old one of good form: header, relations, moves and the bytes of the records.
 use Prim.Native.Nat.{ℕ, suc, _+_, _≤_, _<_}
-use mathlib.Core.Path.{_≡_, refl}
+use mathlib.Core.Path.{_≡_, refl, sym}
 use mathlib.Core.List.{List}
 use native.Mathlib.Numerals.{add-one}
 use native.Mathlib.Omega.{arith}
@@ -8,11 +8,13 @@ use lib.ListN.{length}
 use Rattle.input.specs.Bytes.{byteAt, two}
 use Rattle.terms.specs.Sections.{sectionsOf}
 use Rattle.terms.specs.Schema.{schema, relationAt, moveAt}
+use Rattle.terms.specs.Agree.{SameSchema}
+use Rattle.terms.proofs.Agree.{same-by-bytes}
 use Rattle.limits.specs.Limits.{headerSize, maxLength}
 use Rattle.format.specs.Records.{stepsIn, body, recordAt}
 use Rattle.jobs.specs.Add.{added}
 use Rattle.lookover.proofs.Laws.{LookedOver}
-use Rattle.adding.specs.ReadBack.{oneMore, SchemaKept}
+use Rattle.adding.specs.ReadBack.{oneMore}
 use Rattle.adding.proofs.NewBook.{not-renewed, byte-kept, byte-added, header-added}
 
 module _ (s r : List ℕ) (old : ℕ) (was : LookedOver s old) (most : length s + length r ≤ maxLength) where
@@ -58,20 +60,9 @@ module _ (s r : List ℕ) (old : ℕ) (was : LookedOver s old) (most : length s 
   unfolding oneMore recordAt body
   record-either at = rw (schema-either, header)
 
-  pub schema-kept : SchemaKept (schema (sectionsOf s) s) (schema (sectionsOf s) (added s r))
-  unfolding schema relationAt moveAt
+  pub schema-kept : SameSchema (schema (sectionsOf s) s) (schema (sectionsOf s) (added s r))
   schema-kept =
       let o = was .sections .offsets in
-      let a = o .relations in
-      let b = o .moves in
-      let c = o .records in
-      let d = o .within in
-      record {
-        kinds = refl;
-        relations = refl;
-        moves = refl;
-        places = λ x low high. same _ (omega arith) (omega arith);
-        placeKind = λ x low high i l. same _ (omega arith) (omega arith);
-        params = λ m low high. same _ (omega arith) (omega arith);
-        paramKind = λ m low high p l. same _ (omega arith) (omega arith);
-      }
+      same-by-bytes (sectionsOf s) (sectionsOf s) s (added s r) refl refl
+      (λ i l. sym (same _ (omega (arith, o .relations)) (omega (arith, o .relations, o .moves, o .records, o .within))))
+      (λ i l. sym (same _ (omega (arith, o .moves)) (omega (arith, o .records, o .within))))

@@ -10,6 +10,8 @@ use Rattle.answer.specs.Answer.{kept}
 use Rattle.answer.specs.declared.Answer.the-variants.{Good}
 use Rattle.answer.specs.Laws.{passed, parted}
 use Rattle.terms.specs.Sections.{sectionsOf}
+use Rattle.terms.specs.Schema.{schema}
+use Rattle.terms.specs.Agree.{SameSchema}
 use Rattle.limits.specs.Limits.{maxLength}
 use Rattle.format.specs.Records.{stepsIn, recordAt}
 use Rattle.format.specs.LookOver.{lookOver}
@@ -19,7 +21,7 @@ use Rattle.jobs.specs.Add.{added, add, addBytes}
 use Rattle.format.proofs.Records.{record-within}
 use Rattle.lookover.proofs.Laws.{LookedOver, look-over-good}
 use Rattle.adding.specs.OneRecord.{lookRecord}
-use Rattle.adding.specs.ReadBack.{SchemaKept, AddedIsReadBack, AddedIsStored, RefusedIsUntouched}
+use Rattle.adding.specs.ReadBack.{oneMore, AddedIsReadBack, AddedIsStored, RefusedIsUntouched}
 use Rattle.adding.proofs.Formed.{length-added}
 use Rattle.adding.proofs.NewBook.{byte-kept, byte-added, bytes-behind}
 use Rattle.adding.proofs.Kept.{header, same, from, count-more, start-same, schema-either, schema-kept}
@@ -62,9 +64,13 @@ module _ (s r : List ℕ) (old : ℕ) (was : LookedOver s old) (most : length s 
       rw (count-more s r old was most, start-same s r old was most)
       (records-more s (added s r) (same s r old was most) (sectionsOf s) _ _ (from s r old was most) (was .records))
 
-  schema-of : SchemaKept (schemaOf s) (schemaOf (added s r))
+  schema-of : SameSchema (schemaOf s) (schemaOf (added s r))
   unfolding schemaOf
   schema-of = rw (schema-either s r old was most) (schema-kept s r old was most)
+
+  kinds-of : schemaOf (added s r) .kinds ≡ schemaOf s .kinds
+  unfolding schemaOf schema oneMore
+  kinds-of = rw (header s r old was most)
 
 -- the record is good to the end of the book, and its steps come behind the old ones
 module _ (s r : List ℕ) (old new : ℕ) (was : lookOver s ≡ Good old) (is : lookOver (added s r) ≡ Good new) (most : length s + length r ≤ maxLength) where
@@ -96,6 +102,7 @@ read-back s r size n e =
       is = rw (← new .1) (g .is);
       kept = byte-kept s r long;
       header = rw (g .place) (header s r _ was (g .most));
+      kinds = kinds-of s r _ was (g .most);
       schema = schema-of s r _ was (g .most);
       behind = bytes-behind s r long;
       whole = rw (g .place) (new .0);

@@ -1,5 +1,5 @@
 -- What adding does to a book, where it succeeds: the record is read back as it was filed, and the rest of the book stays.
-use Prim.Native.Nat.{ℕ, _+_, _≤_, _<_}
+use Prim.Native.Nat.{ℕ, _+_, _<_}
 use mathlib.Core.Path.{_≡_}
 use mathlib.Core.Bool.{Bool, false, _||_}
 use mathlib.Core.List.{List, _++_, map}
@@ -7,13 +7,9 @@ use lib.Dec.{eqb}
 use lib.ListN.{length, take, drop}
 use Rattle.answer.specs.declared.Answer.the-variants.{Good, Refused}
 use Rattle.input.specs.Bytes.{byteAt}
-use Rattle.terms.specs.declared.Param.{Param}
-use Rattle.terms.specs.declared.Relation.{Relation}
-use Rattle.terms.specs.declared.Move.{Move}
 use Rattle.terms.specs.declared.Sections.{Sections}
 use Rattle.terms.specs.Sections.{sectionsOf}
-use Rattle.terms.specs.Schema.{Schema}
-use Rattle.limits.specs.Limits.{maxPlaces, maxParams}
+use Rattle.terms.specs.Agree.{SameSchema}
 use Rattle.format.specs.Records.{stepsIn, recordAt}
 use Rattle.format.specs.LookOver.{lookOver}
 use Rattle.format.specs.Decode.{Filed, recordFiled, filed}
@@ -39,16 +35,6 @@ oneMore h end =
 unfoldable pub movedBy : ℕ → List Filed → List Filed
 movedBy k = map (λ f. record { place = k + f .place; step = f .step; pre = f .pre; post = f .post })
 
--- two schemas say the same of each relation and each move
-pub record SchemaKept (old new : Schema) : Type 0 where
-  pub kinds : new .kinds ≡ old .kinds
-  pub relations : new .relations ≡ old .relations
-  pub moves : new .moves ≡ old .moves
-  pub places : (x : Relation) → 1 ≤ x .0 → x .0 ≤ old .relations → new .places x ≡ old .places x
-  pub placeKind : (x : Relation) → 1 ≤ x .0 → x .0 ≤ old .relations → (i : ℕ) → i ≤ maxPlaces → new .placeKind x i ≡ old .placeKind x i
-  pub params : (m : Move) → 1 ≤ m .0 → m .0 ≤ old .moves → new .params m ≡ old .params m
-  pub paramKind : (m : Move) → 1 ≤ m .0 → m .0 ≤ old .moves → (p : Param) → p .0 ≤ maxParams → new .paramKind m p ≡ old .paramKind m p
-
 -- `s` the old book, `r` the bytes of the record, n the place of the success
 pub record ReadBack (s r : List ℕ) (n : ℕ) : Type 0 where
   -- the place is the new length
@@ -61,7 +47,8 @@ pub record ReadBack (s r : List ℕ) (n : ℕ) : Type 0 where
   -- the old book's bytes stand where they stood, but for the record count and the end
   pub kept : (i : ℕ) → i < length s → renewed i ≡ false → byteAt (added s r) i ≡ byteAt s i
   pub header : sectionsOf (added s r) ≡ oneMore (sectionsOf s) n
-  pub schema : SchemaKept (schemaOf s) (schemaOf (added s r))
+  pub kinds : schemaOf (added s r) .kinds ≡ schemaOf s .kinds
+  pub schema : SameSchema (schemaOf s) (schemaOf (added s r))
   -- the record's bytes stand behind them, unchanged, and are one record of good form to their end
   pub behind : drop (length s) (added s r) ≡ r
   pub whole : recordAt (sectionsOf (added s r)) (added s r) (length s) ≡ Good n

@@ -11,7 +11,9 @@ use Rattle.terms.specs.declared.Binding.{Binding}
 use Rattle.terms.specs.declared.Fact.{Fact}
 use Rattle.terms.specs.Schema.{Schema, Hall}
 use Rattle.terms.specs.Steps.{objectOf, atomRelation, atomFirst, atomSecond, isAtom, ground}
+use Rattle.terms.specs.Agree.{SameSchema}
 use Rattle.terms.proofs.Atoms.{fact-path, first-range, second-range}
+use Rattle.terms.proofs.Agree.{atoms-same}
 use Rattle.limits.specs.Limits.{maxObjects}
 use Rattle.format.specs.Decode.{Filed}
 use Rattle.model.specs.Quantify.{Mem, here, there}
@@ -22,7 +24,7 @@ use Rattle.wellformed.specs.Grounding.{objectIn, factOf}
 use Rattle.wellformed.proofs.Records.{filed-right}
 use Rattle.wellformed.proofs.Values.{holds-in, holds-out}
 use Rattle.demand.specs.TwoBooks.{Renumbering, renumbered, RenumberedFacts, RenumberedStep, RenumberedSteps, RenumberedSameSheet}
-use Rattle.demand.proofs.Agree.{Agree, fact-same, atom-same, schemas-agree}
+use Rattle.demand.proofs.Agree.{fact-same}
 use Rattle.demand.proofs.Sheet.{rows-same}
 use Rattle.demand.proofs.TwoBooks.{AlikeFiled, same-row}
 
@@ -46,7 +48,7 @@ renumbered-fact sch to numbering b c objects n =
     place true p low high = objects (p .0) low high
     place false p low high = numbering .none
 
-module _ (s t : List ℕ) (agree : Agree (schemaOf s) (schemaOf t)) where
+module _ (s t : List ℕ) (agree : SameSchema (schemaOf s) (schemaOf t)) where
   -- a bound fact holds in a state exactly if it holds in the renumbered one, under the renumbered step
   value-same : (f g : Filed) (h : RenumberedStep f g) → (hl : Hall) → hl .count ≤ maxObjects → RightStep (schemaOf s) hl (f .step)
       → (k : Hall) → k .count ≤ maxObjects → RightStep (schemaOf t) k (g .step)
@@ -55,7 +57,7 @@ module _ (s t : List ℕ) (agree : Agree (schemaOf s) (schemaOf t)) where
       → holding fs (ground (schemaOf s) (f .step .binding) n) ≡ holding gs (ground (schemaOf t) (g .step .binding) n)
   value-same f g h hl few right k few′ right′ fs gs state state′ facts n atom =
       let there-atom : isAtom (schemaOf t) (g .step .action .0) n ≡ true =
-      sym (atom-same (schemaOf s) (schemaOf t) agree (g .step .action .0) n) ∙ subst (λ x. isAtom (schemaOf s) (x .0) n ≡ true) (h .action) atom
+      sym (atoms-same (schemaOf s) (schemaOf t) agree (g .step .action .0) n) ∙ subst (λ x. isAtom (schemaOf s) (x .0) n ≡ true) (h .action) atom
       in
       let fact : renumbered (h .to) (factOf (schemaOf s) (f .step .binding) n) ≡ factOf (schemaOf t) (g .step .binding) n =
       ap (renumbered (h .to)) (fact-same (schemaOf s) (schemaOf t) agree (f .step .binding) (f .step .action .0) n atom)
@@ -95,8 +97,7 @@ renumbered-back (f ∷ fs) (g ∷ gs) h (there m) = let (x, k, e) = renumbered-b
 -- Objects renumbered: the same sheet.
 pub renumbered-same-sheet : RenumberedSameSheet
 unfolding ruleSheet
-renumbered-same-sheet s t m n good good′ same steps =
-    let agree = schemas-agree s t m n good good′ same in
+renumbered-same-sheet s t m n good good′ agree steps =
     rows-same (learnedFrom s) (learnedFrom t)
     (λ a.
     same-row s t agree a

@@ -4,6 +4,8 @@ use mathlib.Core.Path.{_≡_, sym, ap, ap₂, _∙_, subst}
 use mathlib.Core.List.{List}
 use native.Mathlib.Omega.{arith}
 use Rattle.terms.specs.Steps.{ground}
+use Rattle.terms.specs.Agree.{SameSchema}
+use Rattle.terms.proofs.Agree.{ground-same}
 use Rattle.format.specs.Decode.{Filed}
 use Rattle.model.specs.Quantify.{Mem}
 use Rattle.model.specs.Domain.{Domain, Transition}
@@ -14,10 +16,10 @@ use Rattle.jobs.specs.Planning.{domain, holding, groundAction, transition, sche
 use Rattle.jobs.specs.Learn.{learnedFrom, ruleRow, ruleSheet}
 use Rattle.wellformed.proofs.Lists.{mem-map-out, mem-map-in}
 use Rattle.demand.specs.TwoBooks.{SameStep, SameSteps, rowOf, SameStepsSameRow}
-use Rattle.demand.proofs.Agree.{Agree, ground-same, domain-same, schemas-agree}
+use Rattle.demand.proofs.Agree.{domain-same}
 use Rattle.demand.proofs.Sheet.{row-part, row-same}
 
-module _ (s t : List ℕ) (agree : Agree (schemaOf s) (schemaOf t)) where
+module _ (s t : List ℕ) (agree : SameSchema (schemaOf s) (schemaOf t)) where
   -- a filed step of the one book shows what a filed step of the other shows
   abbrev pub AlikeFiled : Filed → Filed → Type 0
   AlikeFiled f g = Alike (domain (schemaOf s)) (transition (schemaOf s) f) (transition (schemaOf t) g)
@@ -86,7 +88,6 @@ row-of-sheet s a low high =
 
 -- The same steps of one move, states included: the same 128 bytes.
 pub same-steps-same-row : SameStepsSameRow
-same-steps-same-row s t m n good good′ same a low high steps =
-    let agree = schemas-agree s t m n good good′ same in
+same-steps-same-row s t m n good good′ agree a low high steps =
     let high′ : a ≤ schemaOf t .moves = omega (arith, agree .moves) in
     row-of-sheet s a low high ∙ same-row s t agree a (alike-of-steps s t agree a steps) ∙ sym (row-of-sheet t a low high′)

@@ -8,6 +8,7 @@ use Rattle.input.specs.Bytes.{byteAt}
 use Rattle.terms.specs.declared.Fact.{Fact}
 use Rattle.terms.specs.Sections.{sectionsOf}
 use Rattle.terms.specs.Steps.{objectOf}
+use Rattle.terms.specs.Agree.{SameSchema}
 use Rattle.limits.specs.Limits.{headerSize, relationSize, moveSize, maxParams, ruleSize}
 use Rattle.format.specs.Decode.{Filed}
 use Rattle.format.specs.LookOver.{lookOver}
@@ -15,12 +16,17 @@ use Rattle.model.specs.Quantify.{Mem}
 use Rattle.jobs.specs.Planning.{schemaOf, filedIn}
 use Rattle.jobs.specs.Learn.{ruleSheet}
 
--- equal relations and moves: their counts, and each byte of the two sections
-pub record SameSchema (s t : List ℕ) : Type 0 where
+-- equal relations and moves, byte by byte: their counts, and each byte of the two sections
+pub record SameSections (s t : List ℕ) : Type 0 where
   pub relations : sectionsOf s .relations .count ≡ sectionsOf t .relations .count
   pub moves : sectionsOf s .moves .count ≡ sectionsOf t .moves .count
   pub bytes : (i : ℕ) → i < relationSize * sectionsOf s .relations .count + moveSize * sectionsOf s .moves .count
       → byteAt s (headerSize + i) ≡ byteAt t (headerSize + i)
+
+-- Books of good form with such sections have schemas that say the same, which is what the two sentences below ask: bytes are one way to it.
+abbrev pub SameSectionsSameSchema : Type 0
+SameSectionsSameSchema = (s t : List ℕ) (m n : ℕ) → lookOver s ≡ Good m → lookOver t ≡ Good n → SameSections s t
+    → SameSchema (schemaOf s) (schemaOf t)
 
 -- ---- the same steps of one move
 
@@ -42,7 +48,7 @@ rowOf s a = take ruleSize (drop (ruleSize * (a - 1)) (ruleSheet s))
 -- Two books with equal relations and moves that hold the same steps of one move, states included, give that move the same 128 bytes.
 -- Asked is good form alone: accepted books, which learning does not refuse, are among these.
 abbrev pub SameStepsSameRow : Type 0
-SameStepsSameRow = (s t : List ℕ) (m n : ℕ) → lookOver s ≡ Good m → lookOver t ≡ Good n → SameSchema s t
+SameStepsSameRow = (s t : List ℕ) (m n : ℕ) → lookOver s ≡ Good m → lookOver t ≡ Good n → SameSchema (schemaOf s) (schemaOf t)
     → (a : ℕ) → 1 ≤ a → a ≤ schemaOf s .moves → SameSteps s t a → rowOf s a ≡ rowOf t a
 
 -- ---- objects renumbered
@@ -79,5 +85,5 @@ RenumberedSteps (f ∷ fs) (g ∷ gs) = RenumberedStep f g × RenumberedSteps fs
 
 -- Two books with equal relations and moves whose records differ by the numbers of their objects alone give the same rule sheet.
 abbrev pub RenumberedSameSheet : Type 0
-RenumberedSameSheet = (s t : List ℕ) (m n : ℕ) → lookOver s ≡ Good m → lookOver t ≡ Good n → SameSchema s t
+RenumberedSameSheet = (s t : List ℕ) (m n : ℕ) → lookOver s ≡ Good m → lookOver t ≡ Good n → SameSchema (schemaOf s) (schemaOf t)
     → RenumberedSteps (filedIn s) (filedIn t) → ruleSheet s ≡ ruleSheet t

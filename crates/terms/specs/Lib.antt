@@ -3,3 +3,4 @@ pub mod Sections
 pub mod Schema
 pub mod Facts
 pub mod Steps
+pub mod Agree
