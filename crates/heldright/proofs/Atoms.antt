@@ -34,8 +34,8 @@ module _ (sch : Schema) (hl : Hall) (st : Step) (right : RightStep sch hl st) wh
           → (placeBound (st .binding) (record { 0 = cond used (objectOf (st .binding) p .0) 0 }) ≡ true)
           × (paramOf (st .binding) (record { 0 = cond used (objectOf (st .binding) p .0) 0 }) - 1 ≡ p .0 - 1)
       go true u =
-          let (own, kind) = fills-used sch (st .action) r i p fills u in
-          let (some, most, same) = argument-used sch hl st right (p .0) low high own in
+          let (own, fits) = fills-used sch (st .action) r i p fills u in
+          let (some, most, suits) = argument-used sch hl st right (p .0) low high own in
           let (bound, found) = bound-in sch hl st right (objectOf (st .binding) p) some (p .0) low high refl in
           (bound, ap (λ (k : ℕ). k - 1) found)
       go false u =

@@ -66,8 +66,9 @@ unfolding orderObjects
 objects-fit o objects e l = rw e (omega arith, omega arith)
 
 -- the tables are those of the order's own objects
-pub own-kinds : (o ks : List ℕ) (objects : Objects) → objects ≡ orderObjects o → Kinds (hall objects o) ks → Kinds (hall (orderObjects o) o) ks
-own-kinds o ks objects e right = rw e at right
+pub own-kinds : (sch : Schema) (o ks : List ℕ) (objects : Objects) → objects ≡ orderObjects o
+    → Kinds sch (hall objects o) ks → Kinds sch (hall (orderObjects o) o) ks
+own-kinds sch o ks objects e right = rw e at right
 
 pub kinds-are : (h : Sections) (s : List ℕ) → h .kinds ≡ schema h s .kinds
 unfolding schema

@@ -107,7 +107,7 @@ fn goal(o: &[u8], table: &[u32; 512]) -> Answer
 // Row 18, of the step at an offset.
 fn step_bad(book: &[u8], h: Sections, kinds: &[u32; 256], o: &[u8], at: usize) -> bool
     requires { ⌜ at ≤ 1000000 ⌝ }
-    ensures { λ r. ⌜ ForKinds (now (kinds .entry)) (λ hl. r ≡ planStepBad (schema h (now (book .entry))) hl (now (o .entry)) at) ⌝ }
+    ensures { λ r. ⌜ ForKinds (schema h (now (book .entry))) (now (kinds .entry)) (λ hl. r ≡ planStepBad (schema h (now (book .entry))) hl (now (o .entry)) at) ⌝ }
 {
     let step = Step::read(o, at);
     tables::step_bad(book, h, kinds, step) | step.repeats()
@@ -115,7 +115,7 @@ fn step_bad(book: &[u8], h: Sections, kinds: &[u32; 256], o: &[u8], at: usize) -
 
 // Row 18 of each plan step.
 fn plan(book: &[u8], h: Sections, kinds: &[u32; 256], o: &[u8]) -> Answer
-    ensures { λ r. ⌜ ForKinds (now (kinds .entry)) (λ hl. r ≡ walk (planStep (schema h (now (book .entry))) hl (now (o .entry))) (stepCount (now (o .entry))) (stepsAt (now (o .entry)))) ⌝ }
+    ensures { λ r. ⌜ ForKinds (schema h (now (book .entry))) (now (kinds .entry)) (λ hl. r ≡ walk (planStep (schema h (now (book .entry))) hl (now (o .entry))) (stepCount (now (o .entry))) (stepsAt (now (o .entry)))) ⌝ }
 {
     let mut left = orderhead::step_count(o);
     let mut at = orderhead::steps_at(o);
@@ -132,7 +132,7 @@ fn plan(book: &[u8], h: Sections, kinds: &[u32; 256], o: &[u8]) -> Answer
 // Rows 17 and 18.
 fn from_goal(book: &[u8], h: Sections, kinds: &[u32; 256], table: &[u32; 512], o: &[u8]) -> Answer
     requires { ⌜ Follows (schema h (now book)) (now kinds) (now table) ⌝ }
-    ensures { λ r. ⌜ ForKinds (now (kinds .entry)) (λ hl. r ≡ fromGoal (schema h (now (book .entry))) hl (now (o .entry))) ⌝ }
+    ensures { λ r. ⌜ ForKinds (schema h (now (book .entry))) (now (kinds .entry)) (λ hl. r ≡ fromGoal (schema h (now (book .entry))) hl (now (o .entry))) ⌝ }
 {
     let wanted = goal(o, table);
     if answer::is_refused(wanted) {
@@ -146,7 +146,7 @@ fn from_start(book: &[u8], h: Sections, o: &[u8]) -> Answer
     requires { ⌜ (objectCount (now o) ≤ maxObjects) × (startCount (now o) ≤ maxFacts) ⌝ }
     ensures { λ r. ⌜ r ≡ fromStart (schema h (now (book .entry))) (hall (orderObjects (now (o .entry))) (now (o .entry))) (now (o .entry)) ⌝ }
 {
-    let kinds = tables::kinds_of(o, orderhead::objects_of(o));
+    let kinds = tables::kinds_of(book, h, o, orderhead::objects_of(o));
     let table = tables::table_of(book, h, &kinds);
     let begun = start(o, &table);
     if answer::is_refused(begun) {

@@ -10,5 +10,5 @@ use Rattle.records.specs.declared.Scope.{Scope}
 pub record Readable (s : List ℕ) (c : Scope) (ks t : List ℕ) : Type 0 where
   pub within : c .end ≤ length s
   pub short : c .end ≤ 90000
-  pub kinds : Kinds (hall (c .objects) s) ks
+  pub kinds : Kinds (schema (c .h) s) (hall (c .objects) s) ks
   pub table : Tabled (schema (c .h) s) (hall (c .objects) s) t

@@ -69,7 +69,7 @@ fn read(book: &[u8], at: usize) -> Step
 // Row 9.
 fn step_refused(book: &[u8], h: Sections, kinds: &[u32; 256], end: usize, at: usize) -> bool
     requires { ⌜ (end ≤ length (now book)) × (at ≤ 90000) ⌝ }
-    ensures { λ r. ⌜ ForKinds (now (kinds .entry)) (λ hl. r ≡ stepRefused (schema h (now (book .entry))) hl (now (book .entry)) end at) ⌝ }
+    ensures { λ r. ⌜ ForKinds (schema h (now (book .entry))) (now (kinds .entry)) (λ hl. r ≡ stepRefused (schema h (now (book .entry))) hl (now (book .entry)) end at) ⌝ }
 {
     if end < at + limits::STEP_SIZE {
         return true;
@@ -158,7 +158,7 @@ fn body(s: &[u8], h: Sections, at: usize, end: usize) -> Answer
     if answer::is_refused(first) {
         return first;
     }
-    let kinds = tables::kinds_of(s, hall);
+    let kinds = tables::kinds_of(s, h, s, hall);
     let table = tables::table_of(s, h, &kinds);
     let n = input::byte_at(s, at + 1) as usize;
     let scope = Scope {

@@ -1,7 +1,7 @@
 -- Laws of sets and tables for the functions that make them: an object put in, a relation stored, and what the whole table then says.
 use Prim.Native.Nat.{ℕ, _+_, _*_, _^_, _%_, _<_, _≤_}
 use mathlib.Core.Path.{_≡_, refl, sym, ap, _∙_}
-use mathlib.Core.Bool.{Bool, true, false, cond, _&&_, _||_, not, and-false, or-true, or-false}
+use mathlib.Core.Bool.{Bool, true, false, cond, _&&_, _||_, not, and-true, and-false, or-false}
 use mathlib.Core.List.{List}
 use native.Mathlib.Nat.{one-mul}
 use native.Mathlib.Decide.{ℕ-discrete}
@@ -18,8 +18,9 @@ use Rattle.mask.proofs.Numbers.{bit-or, bit-power, bit-none}
 use Rattle.mask.proofs.Bytes.{zeros}
 use Rattle.mask.proofs.Laws.{length-empty}
 use Rattle.mask.proofs.Whole.{ltb-next}
-use Rattle.terms.specs.Schema.{numberBad}
-use Rattle.tables.specs.Tables.{member, entry, put, stored}
+use Rattle.terms.specs.Schema.{Schema, numberBad, kindSuits}
+use Rattle.terms.proofs.Suits.{suits-own, suits-no-other}
+use Rattle.tables.specs.Tables.{member, entry, put, stored, Joined}
 
 pub one-shl : (k : ℕ) → k < 32 → 1 * 2 ^ k % 4294967296 ≡ 2 ^ k
 one-shl k h = shl-exact {a = 1} 1 k 32 (lit< tt) (omega arith) ∙ one-mul (2 ^ k)
@@ -104,8 +105,8 @@ unfolding numberBad
 below-all count n x g i = below-bools count n x (ltb x 1) (ltb count x) refl refl g i
 
 -- ---- the table by kind, when the objects below n are in it
-unfoldable pub KindsTo : (ℕ → ℕ) → ℕ → List ℕ → Type 0
-KindsTo kind n ks = (length ks ≡ 256) × ((k x : ℕ) → member (entry ks k) x ≡ (below n x && eqb (kind x) k))
+unfoldable pub KindsTo : Schema → (ℕ → ℕ) → ℕ → List ℕ → Type 0
+KindsTo sch kind n ks = (length ks ≡ 256) × ((k x : ℕ) → member (entry ks k) x ≡ (below n x && kindSuits sch k (kind x)))
 
 put-same : (t : List ℕ) (i x : ℕ) → i < length t → entry (put t i x) i ≡ bitOr (entry t i) (2 ^ x)
 unfolding put entry
@@ -123,27 +124,27 @@ entry-empty : (n i : ℕ) → entry (empty n) i ≡ 0
 unfolding entry empty
 entry-empty n i = zeros n i
 
-module _ (kind : ℕ → ℕ) where
-  pub kinds-none : (ks : List ℕ) → ks ≡ empty 256 → KindsTo kind 1 ks
-  unfolding KindsTo
-  kinds-none ks e =
-      rw e (length-empty 256, λ k x. ap (λ (m : ℕ). member m x) (entry-empty 256 k) ∙ member-none x ∙ sym (ap (λ (b : Bool). b && eqb (kind x) k) (below-one x)))
+-- an object put into the set of its own kind is in the set of each kind that this suits
+pub put-joined : (sch : Schema) (kind x : ℕ) (t new : List ℕ) → x < 32 → kind < length t → new ≡ put t kind x → Joined sch kind x t new
+unfolding Joined
+put-joined sch kind x t new l h e = rw e (length-put t kind x, λ k y. by k y (ℕ-discrete kind k))
+  where
+    by : (k y : ℕ) → Dec (kind ≡ k) → member (entry (put t kind x) k) y ≡ (member (entry t k) y || eqb x y && kindSuits sch k kind)
+    by k y (yes p) = rw (← p, put-same t kind x h, suits-own sch kind, and-true (eqb x y)) (member-put (entry t kind) x y l)
+    by k y (no d) = rw (put-other t kind x k d, suits-no-other sch k kind d, and-false (eqb x y)) (sym (or-false (member (entry t k) y)))
 
-  turn-at : (n j : ℕ) (ks : List ℕ) → KindsTo kind n ks → 1 ≤ n → n < 32 → j ≡ kind n → j < 256 → (k x : ℕ)
-      → Dec (j ≡ k) → Dec (n ≡ x) → member (entry (put ks j n) k) x ≡ (below (n + 1) x && eqb (kind x) k)
+module _ (sch : Schema) (kind : ℕ → ℕ) where
+  pub kinds-none : (ks : List ℕ) → ks ≡ empty 256 → KindsTo sch kind 1 ks
   unfolding KindsTo
-  turn-at n j ks i h l e f k x (yes p) (yes q) =
-      rw (← p, put-same ks j n (omega arith), member-put (entry ks j) n x l, eq-eqb n x q, or-true (member (entry ks j) x), ← q, below-new n h, ← e, eq-eqb j j refl) refl
-  turn-at n j ks i h l e f k x (yes p) (no q) =
-      rw (← p, put-same ks j n (omega arith), member-put (entry ks j) n x l, ne-eqb n x q, or-false (member (entry ks j) x), below-other n x q) (i .1 j x)
-  turn-at n j ks i h l e f k x (no p) (yes q) =
-      rw (put-other ks j n k p, ← q, i .1 k n, below-self n, below-new n h, ← e, ne-eqb j k p) refl
-  turn-at n j ks i h l e f k x (no p) (no q) = rw (put-other ks j n k p, below-other n x q) (i .1 k x)
+  kinds-none ks e = rw e (length-empty 256, λ k x. rw (entry-empty 256 k, below-one x) (member-none x))
 
-  pub kinds-turn : (n j : ℕ) (ks new : List ℕ) → KindsTo kind n ks → 1 ≤ n → n < 32 → j ≡ kind n → j < 256 → new ≡ put ks j n → KindsTo kind (n + 1) new
-  unfolding KindsTo
-  kinds-turn n j ks new i h l e f g =
-      rw g (length-put ks j n ∙ i .0, λ k x. turn-at n j ks i h l e f k x (ℕ-discrete j k) (ℕ-discrete n x))
+  pub kinds-turn : (n j : ℕ) (ks new : List ℕ) → KindsTo sch kind n ks → 1 ≤ n → j ≡ kind n → Joined sch j n ks new → KindsTo sch kind (n + 1) new
+  unfolding KindsTo Joined
+  kinds-turn n j ks new i h e g = (g .0 ∙ i .0, λ k x. g .1 k x ∙ by k x (ℕ-discrete n x))
+    where
+      by : (k x : ℕ) → Dec (n ≡ x) → (member (entry ks k) x || eqb n x && kindSuits sch k j) ≡ (below (n + 1) x && kindSuits sch k (kind x))
+      by k x (yes q) = rw (← q, i .1 k n, below-self n, below-new n h, eq-eqb n n refl, e) refl
+      by k x (no d) = rw (ne-eqb n x d, or-false (member (entry ks k) x), below-other n x d) (i .1 k x)
 
 -- ---- the table by relation, when the relations below n are in it
 unfoldable pub RowsTo : (ℕ → ℕ) → (ℕ → ℕ) → ℕ → List ℕ → Type 0

@@ -5,12 +5,12 @@ use mathlib.Core.Bool.{Bool, cond, _&&_, _||_, not}
 use mathlib.Core.List.{List}
 use lib.Bits.{bitOr}
 use lib.Dec.{eqb, ltb, leb}
-use lib.ListN.{getD, set}
+use lib.ListN.{getD, length, set}
 use Rattle.mask.specs.Bits.{bitOf}
 use Rattle.terms.specs.declared.Object.{Object}
 use Rattle.terms.specs.declared.Relation.{Relation}
 use Rattle.terms.specs.declared.Fact.{Fact}
-use Rattle.terms.specs.Schema.{Schema, Hall, numberBad}
+use Rattle.terms.specs.Schema.{Schema, Hall, numberBad, kindSuits}
 use Rattle.terms.specs.Facts.{factBad}
 
 -- object x is in the set: the bit of value 2 ^ x is 1. A set has objects 0 to 31; object 0 stands for an unused place
@@ -29,9 +29,13 @@ put t i x = set t i (bitOr (entry t i) (2 ^ x))
 unfoldable pub stored : List ℕ → ℕ → ℕ → List ℕ
 stored t i m = set t i m
 
--- the table by kind is right for a hall: at each kind, the objects of that kind
-unfoldable pub Kinds : Hall → List ℕ → Type 0
-Kinds hl ks = (k : ℕ) (x : Object) → member (entry ks k) (x .0) ≡ (not (numberBad (hl .count) (x .0)) && eqb (hl .kind x) k)
+-- object x of a kind is put into the set of each kind that its own suits, and nothing else is changed
+unfoldable pub Joined : Schema → ℕ → ℕ → List ℕ → List ℕ → Type 0
+Joined sch kind x old new = (length new ≡ length old) × ((k y : ℕ) → member (entry new k) y ≡ (member (entry old k) y || eqb x y && kindSuits sch k kind))
+
+-- the table by kind is right for a schema and a hall: at each kind, the objects whose kind suits it
+unfoldable pub Kinds : Schema → Hall → List ℕ → Type 0
+Kinds sch hl ks = (k : ℕ) (x : Object) → member (entry ks k) (x .0) ≡ (not (numberBad (hl .count) (x .0)) && kindSuits sch k (hl .kind x))
 
 -- what stands where an object of the kind named belongs is wrong, by the table
 unfoldable pub kindsBad : List ℕ → Bool → ℕ → Object → Bool
@@ -51,12 +55,12 @@ Tabled sch hl t = (f : Fact) → f .relation .0 < 256 → tableBad t f ≡ factB
 
 -- and follows from the table by kind, for every hall that one is right for
 unfoldable pub Follows : Schema → List ℕ → List ℕ → Type 0
-Follows sch ks t = (hl : Hall) → Kinds hl ks → Tabled sch hl t
+Follows sch ks t = (hl : Hall) → Kinds sch hl ks → Tabled sch hl t
 
 -- what holds for every schema and hall that the table by relation is right for
 unfoldable pub ForTabled : List ℕ → (Schema → Hall → Type 0) → Type 0
 ForTabled t P = (sch : Schema) (hl : Hall) → Tabled sch hl t → P sch hl
 
--- what holds for every hall that the table by kind is right for
-unfoldable pub ForKinds : List ℕ → (Hall → Type 0) → Type 0
-ForKinds ks P = (hl : Hall) → Kinds hl ks → P hl
+-- what holds for every hall that the table by kind is right for, under a schema
+unfoldable pub ForKinds : Schema → List ℕ → (Hall → Type 0) → Type 0
+ForKinds sch ks P = (hl : Hall) → Kinds sch hl ks → P hl

@@ -1,6 +1,5 @@
 // Tables of what suits, made once for a record or an order: each fact and each step is then tested by a few reads. A set of objects is one
 // number, whose bit x stands for object x, and bit 0 for an unused place. Uses input, terms, and the bits of mask.
-use terms::Binding;
 use terms::Fact;
 use terms::Object;
 use terms::Objects;
@@ -9,14 +8,13 @@ use terms::Relation;
 use terms::Sections;
 use terms::Step;
 ghost use mathlib.Core.Path.{_≡_};
-ghost use Prim.Native.Nat.{_+_, _≤_, _<_};
-ghost use lib.Dec.{leb};
+ghost use Prim.Native.Nat.{_≤_, _<_};
+ghost use lib.ListN.{length};
 ghost use Rattle.limits.specs.Limits.{maxParams};
-ghost use Rattle.input.specs.Bytes.{byteAt};
 ghost use Rattle.mask.specs.Sets.{empty};
 ghost use Rattle.terms.specs.Schema.{schema, hall};
-ghost use Rattle.terms.specs.Steps.{objectOf, stepBad};
-ghost use Rattle.tables.specs.Tables.{member, entry, put, stored, Kinds, kindsBad, placeSet, tableBad, Follows, ForKinds};
+ghost use Rattle.terms.specs.Steps.{argumentBad, stepBad};
+ghost use Rattle.tables.specs.Tables.{member, entry, put, stored, Joined, Kinds, kindsBad, placeSet, tableBad, Follows, ForKinds};
 
 fn member(set: u32, x: u8) -> bool
     ensures { λ r. ⌜ r ≡ member set x ⌝ }
@@ -43,10 +41,10 @@ fn put(t: &mut [u32], i: usize, x: u8)
     t[i] = t[i] | (1u32 << x);
 }
 
-// Puts an object into the set of its kind.
-fn put_kind(kinds: &mut [u32; 256], kind: u8, x: u8)
-    requires { ⌜ x < 32 ⌝ }
-    ensures { λ _. ⌜ now (kinds .exit) ≡ put (now (kinds .entry)) kind x ⌝ }
+// Puts an object into the set of each kind that its own kind suits: its own, as long as no kind lies under another.
+fn put_object(book: &[u8], h: Sections, kinds: &mut [u32; 256], kind: u8, x: u8)
+    requires { ⌜ (x < 32) × (length (now kinds) ≡ 256) ⌝ }
+    ensures { λ _. ⌜ Joined (schema h (now (book .entry))) kind x (now (kinds .entry)) (now (kinds .exit)) ⌝ }
 {
     put(kinds, kind as usize, x);
 }
@@ -63,16 +61,18 @@ fn no_places() -> [u32; 512]
     [0u32; 512]
 }
 
-// The table by kind.
-pub fn kinds_of(s: &[u8], objects: Objects) -> [u32; 256]
+// The table by kind, of the objects in `s`.
+pub fn kinds_of(book: &[u8], h: Sections, s: &[u8], objects: Objects) -> [u32; 256]
     requires { ⌜ (objects .at ≤ 100000) × (objects .count < 32) ⌝ }
-    ensures { λ r. ⌜ Kinds (hall objects (now (s .entry))) r ⌝ }
+    ensures { λ r. ⌜ Kinds (schema h (now (book .entry))) (hall objects (now (s .entry))) r ⌝ }
 {
     let n = objects.count;
     let mut kinds = no_kinds();
     let mut x: u8 = 1;
     while x <= n {
-        put_kind(
+        put_object(
+            book,
+            h,
             &mut kinds,
             input::byte_at(s, objects.at + (x as usize - 1)),
             x,
@@ -92,9 +92,8 @@ fn object_bad(kinds: &[u32; 256], used: bool, named: u8, x: Object) -> bool
 fn place_set(book: &[u8], h: Sections, kinds: &[u32; 256], r: Relation, i: u8) -> u32
     ensures { λ m. ⌜ m ≡ placeSet (schema h (now (book .entry))) (now (kinds .entry)) r i ⌝ }
 {
-    let at = h.relation_at(r);
-    if i <= input::byte_at(book, at) {
-        return entry(kinds, input::byte_at(book, at + i as usize) as usize);
+    if i <= h.places(book, r) {
+        return entry(kinds, h.place_kind(book, r, i) as usize);
     }
     1
 }
@@ -140,29 +139,27 @@ pub fn fact_bad(table: &[u32; 512], f: Fact) -> bool
     !(member(entry(table, r), f.first.0) & member(entry(table, 256 + r), f.second.0))
 }
 
-// Row 9 of one parameter. The move's entry is at an offset, and has so many parameters.
-fn argument_bad(book: &[u8], kinds: &[u32; 256], at: usize, params: u8, b: Binding, i: u8) -> bool
-    requires { ⌜ (at ≤ 70000) × (i ≤ maxParams) ⌝ }
-    ensures { λ r. ⌜ r ≡ kindsBad (now (kinds .entry)) (leb i params) (byteAt (now (book .entry)) (at + i)) (objectOf b (record { 0 = i })) ⌝ }
+// Row 9 of one parameter.
+fn argument_bad(book: &[u8], h: Sections, kinds: &[u32; 256], st: Step, i: u8) -> bool
+    requires { ⌜ i ≤ maxParams ⌝ }
+    ensures { λ r. ⌜ ForKinds (schema h (now (book .entry))) (now (kinds .entry)) (λ hl. r ≡ argumentBad (schema h (now (book .entry))) hl st i) ⌝ }
 {
+    let b = st.binding;
     object_bad(
         kinds,
-        i <= params,
-        input::byte_at(book, at + i as usize),
+        i <= h.params(book, st.action),
+        h.param_kind(book, st.action, Param(i)),
         b.object(Param(i)),
     )
 }
 
 // Rows 9 and 18 of a step's move and objects: the move is there, and its parameters have objects that suit.
 pub fn step_bad(book: &[u8], h: Sections, kinds: &[u32; 256], st: Step) -> bool
-    ensures { λ r. ⌜ ForKinds (now (kinds .entry)) (λ hl. r ≡ stepBad (schema h (now (book .entry))) hl st) ⌝ }
+    ensures { λ r. ⌜ ForKinds (schema h (now (book .entry))) (now (kinds .entry)) (λ hl. r ≡ stepBad (schema h (now (book .entry))) hl st) ⌝ }
 {
-    let at = h.move_at(st.action);
-    let params = input::byte_at(book, at);
-    let b = st.binding;
     terms::number_bad(h.moves.count, st.action.0)
-        | argument_bad(book, kinds, at, params, b, 1)
-        | argument_bad(book, kinds, at, params, b, 2)
-        | argument_bad(book, kinds, at, params, b, 3)
-        | argument_bad(book, kinds, at, params, b, 4)
+        | argument_bad(book, h, kinds, st, 1)
+        | argument_bad(book, h, kinds, st, 2)
+        | argument_bad(book, h, kinds, st, 3)
+        | argument_bad(book, h, kinds, st, 4)
 }

@@ -88,31 +88,33 @@ case-right : (u x y v w : Bool) → (u && x && y || v && w) ≡ true → u ≡ f
 case-right u x y v w e h = and-out v w (rw h at e) .1
 
 module _ (sch : Schema) (m : Move) (r : Relation) (i : ℕ) (p : Param) where
-  -- a parameter in a used place is one of the move's, of the kind named; in an unused place it is 1
-  pub fills-used : parameterFills sch m r i p ≡ true → leb i (sch .places r) ≡ true → (p .0 ≤ sch .params m) × (sch .paramKind m p ≡ sch .placeKind r i)
-  unfolding parameterFills kindSuits
+  -- a parameter in a used place is one of the move's, of a kind that suits; in an unused place it is 1
+  pub fills-used : parameterFills sch m r i p ≡ true → leb i (sch .places r) ≡ true
+      → (p .0 ≤ sch .params m) × (kindSuits sch (sch .placeKind r i) (sch .paramKind m p) ≡ true)
+  unfolding parameterFills
   fills-used e u =
       let off = le-ltb (sch .places r) i (leb-true i (sch .places r) u) in
-      let (own, kind) = case-left (leb i (sch .places r)) (leb (p .0) (sch .params m)) (eqb (sch .paramKind m p) (sch .placeKind r i))
+      let (own, suits) = case-left (leb i (sch .places r)) (leb (p .0) (sch .params m)) (kindSuits sch (sch .placeKind r i) (sch .paramKind m p))
       (ltb (sch .places r) i) (eqb (p .0) 1) e off
       in
-      (leb-true (p .0) (sch .params m) own, eqb-true (sch .paramKind m p) (sch .placeKind r i) kind)
+      (leb-true (p .0) (sch .params m) own, suits)
 
   pub fills-unused : parameterFills sch m r i p ≡ true → leb i (sch .places r) ≡ false → p .0 ≡ 1
-  unfolding parameterFills kindSuits
+  unfolding parameterFills
   fills-unused e u =
       eqb-true (p .0) 1
-      (case-right (leb i (sch .places r)) (leb (p .0) (sch .params m)) (eqb (sch .paramKind m p) (sch .placeKind r i)) (ltb (sch .places r) i)
+      (case-right (leb i (sch .places r)) (leb (p .0) (sch .params m)) (kindSuits sch (sch .placeKind r i) (sch .paramKind m p)) (ltb (sch .places r) i)
       (eqb (p .0) 1) e u)
 
-  pub fills-in-used : leb i (sch .places r) ≡ true → p .0 ≤ sch .params m → sch .paramKind m p ≡ sch .placeKind r i → parameterFills sch m r i p ≡ true
-  unfolding parameterFills kindSuits
-  fills-in-used u own kind = rw (u, le-leb (p .0) (sch .params m) own, eq-eqb (sch .paramKind m p) (sch .placeKind r i) kind)
+  pub fills-in-used : leb i (sch .places r) ≡ true → p .0 ≤ sch .params m → kindSuits sch (sch .placeKind r i) (sch .paramKind m p) ≡ true
+      → parameterFills sch m r i p ≡ true
+  unfolding parameterFills
+  fills-in-used u own suits = rw (u, le-leb (p .0) (sch .params m) own, suits)
 
   pub fills-in-unused : leb i (sch .places r) ≡ false → p .0 ≡ 1 → parameterFills sch m r i p ≡ true
-  unfolding parameterFills kindSuits
+  unfolding parameterFills
   fills-in-unused u one =
-      or-right (leb i (sch .places r) && leb (p .0) (sch .params m) && eqb (sch .paramKind m p) (sch .placeKind r i)) _
+      or-right (leb i (sch .places r) && leb (p .0) (sch .params m) && kindSuits sch (sch .placeKind r i) (sch .paramKind m p)) _
       (and-in (ltb (sch .places r) i) (eqb (p .0) 1) (lt-ltb (sch .places r) i (leb-false i (sch .places r) u)) (eq-eqb (p .0) 1 one))
 
 -- ---- which numbers are bound facts of a move

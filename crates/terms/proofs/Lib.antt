@@ -1,2 +1,3 @@
+pub mod Suits
 pub mod Atoms
 pub mod Agree

@@ -14,6 +14,7 @@ use Rattle.terms.specs.Facts.{factBad, factNumber}
 use Rattle.terms.specs.Steps.{objectOf, atomRelation, atomFirst, atomSecond, parameterFills, isAtom, placed, ground}
 use Rattle.terms.proofs.Atoms.{number-in, first-range, second-range, relation-from-1, atom-same, fills-used, fills-unused, atom-out}
 use Rattle.terms.proofs.Atoms.{atom-below}
+use Rattle.terms.proofs.Suits.{suits-through}
 use Rattle.limits.specs.Limits.{maxObjects}
 use Rattle.model.specs.Formed.{Proper}
 use Rattle.jobs.specs.Planning.{domain, groundAction}
@@ -41,9 +42,9 @@ module _ (sch : Schema) (hl : Hall) (st : Step) (right : RightStep sch hl st) wh
       go : (used : Bool) → leb i (sch .places r) ≡ used
           → objectBad sch hl used (sch .placeKind r i) (record { 0 = cond used (objectOf (st .binding) p .0) 0 }) ≡ false
       go true u =
-          let (own, kind) = fills-used sch (st .action) r i p fills u in
-          let (some, most, same) = argument-used sch hl st right (p .0) low high own in
-          used-in sch hl (sch .placeKind r i) (objectOf (st .binding) p) true refl some most (same ∙ kind)
+          let (own, fits) = fills-used sch (st .action) r i p fills u in
+          let (some, most, suits) = argument-used sch hl st right (p .0) low high own in
+          used-in sch hl (sch .placeKind r i) (objectOf (st .binding) p) true refl some most (suits-through sch _ _ _ fits suits)
       go false u = unused-in sch hl (sch .placeKind r i) (record { 0 = 0 }) false refl refl
 
   -- A bound fact becomes a right fact.
@@ -66,8 +67,8 @@ module _ (sch : Schema) (hl : Hall) (st : Step) (right : RightStep sch hl st) wh
     where
       go : (used : Bool) → leb i (sch .places r) ≡ used → cond used (objectOf (st .binding) p .0) 0 ≡ cond used (objectOf (st .binding) q .0) 0 → p .0 ≡ q .0
       go true u e =
-          let (own, kind) = fills-used sch (st .action) r i p fills u in
-          let (some, most, same) = argument-used sch hl st right (p .0) low high own in
+          let (own, fits) = fills-used sch (st .action) r i p fills u in
+          let (some, most, suits) = argument-used sch hl st right (p .0) low high own in
           parameters-apart sch hl st right (p .0) (q .0) low high low′ high′ some e
       go false u e = fills-unused sch (st .action) r i p fills u ∙ sym (fills-unused sch (st .action) r i q fills′ u)
 

@@ -13,6 +13,7 @@ use Rattle.terms.specs.Schema.{Schema, Hall, objectBad}
 use Rattle.terms.specs.Facts.{factBad, factNumber}
 use Rattle.terms.specs.Steps.{parameterFills, isAtom, ground}
 use Rattle.terms.proofs.Atoms.{number-out, fact-path, atomNumber, number-relation, number-first, number-second, fills-in-used, fills-in-unused, atom-in}
+use Rattle.terms.proofs.Suits.{parameter-suits}
 use Rattle.limits.specs.Limits.{maxObjects}
 use Rattle.wellformed.specs.Right.{RightStep}
 use Rattle.wellformed.specs.Grounding.{objectIn, factOf, BoundBy, Covered}
@@ -38,12 +39,12 @@ module _ (sch : Schema) (hl : Hall) (few : hl .count ≤ maxObjects) (st : Step)
       go true u =
           let b = bound u in
           let (some, most, own) = argument-used sch hl st right (b .param) (b .from-1) (b .to-4) (b .used) in
-          let (some′, most′, kind) = used-out sch hl _ x _ good u in
+          let (some′, most′, here) = used-out sch hl _ x _ good u in
           record {
             param = b .param;
             low = b .from-1;
             high = b .to-4;
-            fills = fills-in-used sch (st .action) r i (record { 0 = b .param }) u (b .used) (sym own ∙ ap (hl .kind) (b .object) ∙ kind);
+            fills = fills-in-used sch (st .action) r i (record { 0 = b .param }) u (b .used) (parameter-suits sch _ _ _ here (rw (b .object) at own));
             object = rw u (ap (λ (o : Object). o .0) (b .object));
           }
       go false u =

@@ -16,14 +16,15 @@ use Rattle.terms.proofs.Atoms.{number-out, number-in}
 use Rattle.wellformed.specs.Right.{RightStep}
 
 module _ (sch : Schema) (hl : Hall) (named : ℕ) (x : Object) where
-  -- a used place has the number of an object of the kind named; an unused one has 0
-  pub used-out : (used : Bool) → objectBad sch hl used named x ≡ false → used ≡ true → (1 ≤ x .0) × (x .0 ≤ hl .count) × (hl .kind x ≡ named)
-  unfolding objectBad kindSuits
+  -- a used place has the number of an object of a kind that suits; an unused one has 0
+  pub used-out : (used : Bool) → objectBad sch hl used named x ≡ false → used ≡ true
+      → (1 ≤ x .0) × (x .0 ≤ hl .count) × (kindSuits sch named (hl .kind x) ≡ true)
+  unfolding objectBad
   used-out true e u =
-      let (wrong, unused) = neither (numberBad (hl .count) (x .0) || not (eqb (hl .kind x) named)) (not true && not (eqb (x .0) 0)) e in
-      let (number, kind) = neither (numberBad (hl .count) (x .0)) (not (eqb (hl .kind x) named)) wrong in
+      let (wrong, unused) = neither (numberBad (hl .count) (x .0) || not (kindSuits sch named (hl .kind x))) (not true && not (eqb (x .0) 0)) e in
+      let (number, suits) = neither (numberBad (hl .count) (x .0)) (not (kindSuits sch named (hl .kind x))) wrong in
       let (low, high) = number-out (hl .count) (x .0) number in
-      (low, high, eqb-true (hl .kind x) named (not-false _ kind))
+      (low, high, not-false _ suits)
   used-out false e u = clash false u refl
 
   pub unused-out : (used : Bool) → objectBad sch hl used named x ≡ false → used ≡ false → x .0 ≡ 0
@@ -36,13 +37,13 @@ module _ (sch : Schema) (hl : Hall) (named : ℕ) (x : Object) where
   object-most true e = used-out true e refl .1
   object-most false e = omega (arith, unused-out false e refl)
 
-  pub used-in : (used : Bool) → used ≡ true → 1 ≤ x .0 → x .0 ≤ hl .count → hl .kind x ≡ named → objectBad sch hl used named x ≡ false
-  unfolding objectBad kindSuits
-  used-in true u low high kind = rw (number-in (hl .count) (x .0) low high, eq-eqb (hl .kind x) named kind)
-  used-in false u low high kind = clash false u refl
+  pub used-in : (used : Bool) → used ≡ true → 1 ≤ x .0 → x .0 ≤ hl .count → kindSuits sch named (hl .kind x) ≡ true → objectBad sch hl used named x ≡ false
+  unfolding objectBad
+  used-in true u low high suits = rw (number-in (hl .count) (x .0) low high, suits)
+  used-in false u low high suits = clash false u refl
 
   pub unused-in : (used : Bool) → used ≡ false → x .0 ≡ 0 → objectBad sch hl used named x ≡ false
-  unfolding objectBad kindSuits
+  unfolding objectBad
   unused-in true u none = clash true refl u
   unused-in false u none = rw (eq-eqb (x .0) 0 none)
 
@@ -81,9 +82,10 @@ module _ (sch : Schema) (hl : Hall) (st : Step) (right : RightStep sch hl st) wh
   pub argument-right : (i : ℕ) → 1 ≤ i → i ≤ 4 → argumentBad sch hl st i ≡ false
   argument-right = step-parts .1
 
-  -- its parameters have objects of their kinds,
+  -- its parameters have objects that suit,
   pub argument-used : (i : ℕ) → 1 ≤ i → i ≤ 4 → i ≤ sch .params (st .action)
-      → (1 ≤ objectAt st i .0) × (objectAt st i .0 ≤ hl .count) × (hl .kind (objectAt st i) ≡ sch .paramKind (st .action) (record { 0 = i }))
+      → (1 ≤ objectAt st i .0) × (objectAt st i .0 ≤ hl .count)
+      × (kindSuits sch (sch .paramKind (st .action) (record { 0 = i })) (hl .kind (objectAt st i)) ≡ true)
   unfolding argumentBad
   argument-used i low high used = used-out sch hl _ (objectAt st i) _ (step-parts .1 i low high) (le-leb i (sch .params (st .action)) used)
 

@@ -29,7 +29,7 @@ returns c =
     let d = c .before .before in
     let t = d .before .before in
     let k = t .before .before in
-    let right = own-kinds _ _ _ (k .before .objects-of .ensures) (k .kinds-of .ensures) in
+    let right = own-kinds _ _ _ _ (k .before .objects-of .ensures) (k .kinds-of .ensures) in
     part-stays _ _ _ _ (d .start .ensures _ _ (t .table-of .ensures _ right)) (c .before .is-refused .ensures) (c .if1 .taken)
 
 from-goal-requires : tie.Need-from-goal-requires
@@ -42,7 +42,7 @@ returns-2 c =
     let d = e .before .before in
     let t = d .before .before in
     let k = t .before .before in
-    let right = own-kinds _ _ _ (k .before .objects-of .ensures) (k .kinds-of .ensures) in
+    let right = own-kinds _ _ _ _ (k .before .objects-of .ensures) (k .kinds-of .ensures) in
     c .from-goal .ensures _ right
     ∙ part-then _ _ _ _ (d .start .ensures _ _ (t .table-of .ensures _ right)) (e .before .is-refused .ensures) (e .if1 .left)
 

@@ -18,7 +18,7 @@ use Rattle.orders.proofs.plan.Tie as tie
 abbrev Inv-loop : tie.InvT-loop
 Inv-loop book h kinds o left₀ at₀ left at =
     (at + stepSize * left ≤ 1000000)
-    × ForKinds kinds (λ hl. walk (planStep (schema h book) hl o) left at ≡ walk (planStep (schema h book) hl o) (stepCount o) (stepsAt o))
+    × ForKinds (schema h book) kinds (λ hl. walk (planStep (schema h book) hl o) left at ≡ walk (planStep (schema h book) hl o) (stepCount o) (stepsAt o))
 
 abbrev μ-loop : tie.MeasureT-loop
 μ-loop book h kinds o left₀ at₀ left at = left

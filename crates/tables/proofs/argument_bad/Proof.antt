@@ -1,23 +1,19 @@
 -- `argument_bad` meets its contract, by what each call says.
+use mathlib.Core.Path.{_∙_}
+use Rattle.terms.specs.Steps.{argumentBad}
+use Rattle.tables.specs.Tables.{ForKinds}
+use Rattle.tables.proofs.Laws.{kinds-bad}
 use borrow.Author.Needs.{needs}
 use Rattle.tables.proofs.argument_bad.Statement.{statement}
 use Rattle.tables.proofs.argument_bad.Tie as tie
 
-add-byte-at : tie.Need-add-byte-at
-add-byte-at c = search needs
-
-byte-at-requires : tie.Need-byte-at-requires
-byte-at-requires c κs = search needs
-
-object-requires : tie.Need-object-requires
-object-requires c κs = search needs
-
-object-bad-requires : tie.Need-object-bad-requires
-object-bad-requires c κs = search needs
-
 returns : tie.Need-returns
-returns c = cc
+unfolding ForKinds argumentBad
+returns c hl right =
+    let d = c .before in
+    c .object-bad .ensures ∙ rw (d .before .before .params .ensures, d .before .param-kind .ensures, d .object .ensures) (kinds-bad _ hl _ right _ _ _)
 
 pub argument-bad-spec : {M : Type 1} → statement M
 argument-bad-spec =
-    tie.close (tie.spec add-byte-at byte-at-requires object-requires object-bad-requires returns)
+    tie.close
+    (tie.spec (λ c κs. search needs) (λ c κs. search needs) (λ c κs. search needs) (λ c κs. search needs) returns)
