@@ -180,8 +180,7 @@ module _ (s : List ℕ) (n : ℕ) (good : lookOver s ≡ Good n) where
             (start-under (schemaOf s) o m form) (plan-under (schemaOf s) o m form) (stepCount o) end h in
             rw (long, check-runs e, answer) shown
 
--- Demand 3: of every book of good form.
-pub demand3 : (s : List ℕ) (n : ℕ) → lookOver s ≡ Good n → Demand3 s
+pub demand3 : Demand3
 demand3 s n good =
     record {
       unfit = λ o. (λ h. h, λ h. h);

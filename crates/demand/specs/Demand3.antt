@@ -11,6 +11,7 @@ use Rattle.answer.specs.declared.Answer.{Answer}
 use Rattle.answer.specs.declared.Answer.the-variants.{Good}
 use Rattle.answer.specs.Answer.{number, place}
 use Rattle.mask.specs.Bits.{testBit}
+use Rattle.format.specs.LookOver.{lookOver}
 use Rattle.format.specs.Order.{stepCount, orderForm}
 use Rattle.model.specs.Domain.{State}
 use Rattle.model.specs.Model.{Model}
@@ -42,7 +43,8 @@ pub record Shows (sheet : List ℕ) (end : State) : Type 0 where
   -- a fact that has no bit in the sheet does not hold
   pub others : (n : ℕ) → maxFactNumbers ≤ n → end n ≡ false
 
-pub record Demand3 (s : List ℕ) : Type 0 where
+-- the calls and the judge agree on a book
+pub record JudgeAgrees (s : List ℕ) : Type 0 where
   -- The judge says impossible exactly when no model fits the book, whatever the order.
   pub unfit : (o : List ℕ) → OrderVerdict s o impossible ↔ NoneFits s
   -- Learning answers 11 or 12 exactly then, whatever lent output comes with the book.
@@ -57,3 +59,7 @@ pub record Demand3 (s : List ℕ) : Type 0 where
   -- The judge has a verdict on every order of good form, and only one: so the lines above do not hold for want of a verdict.
   pub some : (o : List ℕ) (n : ℕ) → orderForm (schemaOf s) o ≡ Good n → (v : Verdict) × OrderVerdict s o v
   pub one : (o : List ℕ) (v w : Verdict) → OrderVerdict s o v → OrderVerdict s o w → v ≡ w
+
+-- Demand 3: of every book of good form.
+abbrev pub Demand3 : Type 0
+Demand3 = (s : List ℕ) (n : ℕ) → lookOver s ≡ Good n → JudgeAgrees s
