@@ -3,7 +3,6 @@ use Prim.Native.Nat.{ℕ, zero, suc}
 use mathlib.Core.Path.{_≡_, refl, sym, ap, _∙_}
 use mathlib.Core.List.{List}
 use Rattle.answer.specs.declared.Answer.the-variants.{Good, Refused}
-use Rattle.answer.specs.Laws.{good-refused}
 use Rattle.terms.specs.Schema.{Schema}
 use Rattle.format.specs.Order.{GoalEntry, stepCount, stepsAt, goalCount, goalAt, goal, goalFrom, plan, planFrom}
 use Rattle.jobs.specs.Check.{goalAnswer}
@@ -43,7 +42,6 @@ module _ (sch : Schema) (l o old new : List ℕ) (steps at k : ℕ)
       record {
         says = stop-answer _ _ _ k (sym stops) h;
         mask = leaves;
-        ends = λ m e. good-refused _ _ _ (sym e);
       }
 
   module _ (none : k ≡ 0) (n g i : ℕ) (r : n ≡ goalCount o) (t : g ≡ goalAt o) (first : i ≡ missed new (goalFrom o n g)) where
@@ -56,7 +54,6 @@ module _ (sch : Schema) (l o old new : List ℕ) (steps at k : ℕ)
         record {
           says = miss-answer _ _ _ i (sym stops ∙ none) misses h;
           mask = leaves;
-          ends = λ m e. good-refused _ _ _ (sym e);
         }
 
     pub out-pass : i ≡ 0 → CarriedOut (carry sch l (plan o) old 1) (stepCount o) (goal o) new (Good steps)
@@ -64,5 +61,4 @@ module _ (sch : Schema) (l o old new : List ℕ) (steps at k : ℕ)
         record {
           says = ap Good p ∙ pass-answer _ _ _ (sym stops ∙ none) (misses ∙ h);
           mask = leaves;
-          ends = λ m e. sym stops ∙ none;
         }

@@ -1,5 +1,5 @@
 -- The rows of a check one after the other, by what the calls return, and what the lent end sheet holds.
-use Prim.Native.Nat.{ℕ}
+use Prim.Native.Nat.{ℕ, zero, suc}
 use mathlib.Core.Path.{_≡_, refl, sym, ap, _∙_}
 use mathlib.Core.Bool.{Bool, true, false, not}
 use mathlib.Core.List.{List}
@@ -7,100 +7,131 @@ use lib.ListN.{length}
 use borrow.Author.Tests.{eq-eqb, ne-eqb}
 use Rattle.answer.specs.declared.Answer.{Answer}
 use Rattle.answer.specs.declared.Answer.the-variants.{Good, Refused}
-use Rattle.answer.specs.Answer.{_>>=_, refuse, isRefused, kept}
+use Rattle.answer.specs.Answer.{_>>=_, refuse, isRefused, valueOf, kept}
 use Rattle.truth.specs.Bools.{clash}
-use Rattle.answer.specs.Laws.{stays, bind-good, refuse-unmet}
-use Rattle.limits.specs.Limits.{endSheetSize}
+use Rattle.answer.specs.Laws.{good-refused, stays, bind-good, refuse-unmet}
+use Rattle.answer.specs.Turns.{is-good}
+use Rattle.limits.specs.Limits.{endSheetSize, heldSize}
 use Rattle.terms.specs.declared.Sections.{Sections}
 use Rattle.terms.specs.Sections.{sectionsOf}
-use Rattle.terms.specs.Schema.{schema}
+use Rattle.terms.specs.Schema.{Schema, schema}
 use Rattle.format.specs.LookOver.{lookOver}
 use Rattle.format.specs.Decode.{factsAt}
-use Rattle.format.specs.Order.{startCount, startAt, stepCount, orderForm, startFacts, goal, plan}
-use Rattle.jobs.specs.Planning.{schemaOf, goalOf}
+use Rattle.format.specs.Order.{GoalEntry, startCount, startAt, stepCount, stepsAt, orderForm, startFacts, goal, plan}
+use Rattle.jobs.specs.Planning.{schemaOf}
 use Rattle.jobs.specs.Learn.{learnable}
-use Rattle.jobs.specs.Check.{orderRun, runAnswer, check, checkBytes, endSheet}
-use Rattle.statemask.specs.Statemask.{carry, startMask}
+use Rattle.jobs.specs.Check.{orderRun, check, endSheet, checkBytes}
+use Rattle.statemask.specs.Statemask.{Carried, carry, startMask}
 use Rattle.statemask.specs.Carrying.{carriedAnswer}
-use Rattle.answer.specs.Turns.{is-good}
-use Rattle.learner.specs.Learner.{heldOf}
+use Rattle.execution.specs.Execution.{Carriable}
+use Rattle.learner.specs.Learner.{heldOf, Noted}
 use Rattle.learner.proofs.Book.{schema-own, form-good}
-use Rattle.checker.specs.Checker.{CarriedOut, CheckOutcome}
-use Rattle.checker.proofs.Carried.{order-carried, order-sheet}
+use Rattle.checker.specs.Checker.{CarriedOut, RunOutcome, fromOrder, Ready, OrderOutcome, CheckOutcome}
+use Rattle.checker.proofs.Carried.{carriable, order-carried, order-sheet}
 
 -- a refusal leaves the sheet as it was
-refused-kept : (s o old : List ℕ) (r : Answer) → r ≡ check s o (length old) → isRefused r ≡ true → CheckOutcome s o old old r
-unfolding checkBytes kept isRefused
-refused-kept s o old r e f = record { says = e; bytes = go r f e }
-  where
-    go : (x : Answer) → isRefused x ≡ true → x ≡ check s o (length old) → old ≡ kept (check s o (length old)) (endSheet (orderRun s o)) old
-    go (Good n) i j = clash false i refl
-    go (Refused n p) i j = rw (← j)
+refused-kept : (a r : Answer) (new old : List ℕ) → r ≡ a → isRefused r ≡ true → old ≡ kept a new old
+unfolding kept isRefused
+refused-kept a (Good n) new old e f = clash false f refl
+refused-kept a (Refused n p) new old e f = rw (← e)
 
 -- the start facts as the code reads them
 pub start-by : (o : List ℕ) (n at : ℕ) {m : List ℕ} → n ≡ startCount o → at ≡ startAt o → m ≡ startMask (factsAt o n at) → m ≡ startMask (startFacts o)
 unfolding startFacts
 start-by o n at p q e = rw (p, q) at e
 
-module _ (s o old : List ℕ) where
-  -- rows 1 to 12
-  pub at-book : (a : Answer) (b : Bool) → a ≡ learnable s → b ≡ isRefused a → b ≡ true → CheckOutcome s o old old a
-  unfolding check
-  at-book a b e q r =
-      refused-kept s o old a (e ∙ stays (learnable s) _ (sym (ap isRefused e) ∙ sym q ∙ r)) (sym q ∙ r)
+-- ---- rows 19 and 20
+-- masks that come to a good answer have not stopped
+carried-ends : (c : Carried) (steps : ℕ) (goals : List GoalEntry) (m : ℕ) → carriedAnswer steps goals c ≡ Good m → c .stop ≡ 0
+unfolding carriedAnswer
+carried-ends c steps goals m e = go (c .stop) refl
+  where
+    go : (k : ℕ) → c .stop ≡ k → k ≡ 0
+    go zero h = refl
+    go (suc k) h = good-refused m 19 (suc k) (sym (rw h at e))
 
-  module _ (m : ℕ) (learns : learnable s ≡ Good m) where
+module _ (sch : Schema) (l o old state new : List ℕ) (r : Answer) (b : Bool) (start : state ≡ startMask (startFacts o))
+    (out : CarriedOut (carry sch l (plan o) state 1) (stepCount o) (goal o) new r) (told : b ≡ isRefused r) where
+  own-out : CarriedOut (carry sch l (plan o) (startMask (startFacts o)) 1) (stepCount o) (goal o) new r
+  own-out = rw start at out
+
+  pub at-plan : b ≡ true → RunOutcome (carry sch l (plan o) (startMask (startFacts o)) 1) o old old r
+  at-plan e = record { says = own-out .says; bytes = refused-kept r r _ old refl (sym told ∙ e) }
+
+  -- a pass: the sheet is the mask
+  pub at-end : b ≡ false → (sheet : List ℕ) → sheet ≡ new → RunOutcome (carry sch l (plan o) (startMask (startFacts o)) 1) o old sheet r
+  unfolding kept
+  at-end e sheet f = record { says = own-out .says; bytes = rw (is-good r (sym told ∙ e)) (f ∙ own-out .mask) }
+
+-- ---- rows 14 to 20
+module _ (s o old : List ℕ) (h : Sections) (held : List ℕ) (ready : Ready s h held old) (a : Answer) (b : Bool) (form : a ≡ orderForm (schema h s) o) (told : b ≡ isRefused a) where
+  form-own : a ≡ orderForm (schemaOf s) o
+  form-own = rw (schema-own s h (ready .own)) at form
+
+  -- rows 14 to 18
+  pub at-order : b ≡ true → OrderOutcome s o old old a
+  unfolding fromOrder
+  at-order r =
+      let says : a ≡ fromOrder s o = form-own ∙ stays (orderForm (schemaOf s) o) _ (sym (ap isRefused form-own) ∙ sym told ∙ r) in
+      record { says = says; bytes = refused-kept _ a _ old says (sym told ∙ r) }
+
+  module _ (passed : b ≡ false) where
+    formed : (n : ℕ) × (lookOver s ≡ Good n)
+    formed = form-good s _ (ready .learns)
+
+    order : orderForm (schemaOf s) o ≡ Good (valueOf a)
+    order = sym form-own ∙ is-good a (sym told ∙ passed)
+
+    pub order-carriable : Carriable held o (stepCount o) (stepsAt o)
+    order-carriable = carriable s (formed .0) _ (formed .1) (ready .learns) o _ order held (ready .room)
+
+    module _ (new : List ℕ) (r : Answer) (out : RunOutcome (carry (schema h s) held (plan o) (startMask (startFacts o)) 1) o old new r) where
+      abbrev own : Carried
+      own = carry (schemaOf s) (heldOf s .masks) (plan o) (startMask (startFacts o)) 1
+
+      ran : RunOutcome own o old new r
+      ran = rw (schema-own s h (ready .own), ready .holds) at out
+
+      says : r ≡ fromOrder s o
+      unfolding fromOrder
+      says = ran .says ∙ sym (order-carried s (formed .0) _ (formed .1) (ready .learns) o _ order) ∙ sym (bind-good _ _ _ order)
+
+      -- rows 19 and 20: the mask is asked only where no step stops
+      kept-sheet : (x : Answer) → x ≡ carriedAnswer (stepCount o) (goal o) own → kept x (own .mask) old ≡ kept x (endSheet (orderRun s o)) old
+      unfolding kept
+      kept-sheet (Good m) e = order-sheet s (formed .0) _ (formed .1) (ready .learns) o _ order (carried-ends own (stepCount o) (goal o) m (sym e))
+      kept-sheet (Refused m p) e = refl
+
+      pub at-run : OrderOutcome s o old new r
+      at-run = record { says = says; bytes = rw (← says) (ran .bytes ∙ kept-sheet r (ran .says)) }
+
+-- ---- the whole check
+module _ (s held : List ℕ) (a : Answer) (b : Bool) (noted : Noted s held a) (told : b ≡ isRefused a) where
+  learns : b ≡ false → learnable s ≡ Good (valueOf (learnable s))
+  learns passed = is-good _ (sym (ap isRefused (noted .says)) ∙ sym told ∙ passed)
+
+  pub ready-by : b ≡ false → (old : List ℕ) → length old ≡ endSheetSize → (h : Sections) → h ≡ sectionsOf s → length held ≡ heldSize → Ready s h held old
+  ready-by passed old size h own room =
+      record { own = own; learns = learns passed; holds = noted .holds _ (is-good a (sym told ∙ passed)); room = room; size = size }
+
+  module _ (o old : List ℕ) where
+    -- rows 1 to 12
+    pub at-book : b ≡ true → CheckOutcome s o old old a
+    unfolding check checkBytes
+    at-book r =
+        let says : a ≡ check s o (length old) = noted .says ∙ stays (learnable s) _ (sym (ap isRefused (noted .says)) ∙ sym told ∙ r) in
+        record { says = says; bytes = refused-kept _ a _ old says (sym told ∙ r) }
+
     -- row 13
-    pub at-size : (length old ≡ endSheetSize → ⊥) → CheckOutcome s o old old (Refused 13 0)
-    unfolding check refuse _>>=_ isRefused
-    at-size h =
-        let e : Refused 13 0 ≡ check s o (length old) = rw (learns, ne-eqb (length old) endSheetSize h) in
-        refused-kept s o old (Refused 13 0) e refl
+    pub at-size : b ≡ false → (length old ≡ endSheetSize → ⊥) → CheckOutcome s o old old (Refused 13 0)
+    unfolding check checkBytes refuse _>>=_ isRefused
+    at-size passed h =
+        let says : Refused 13 0 ≡ check s o (length old) = rw (learns passed, ne-eqb (length old) endSheetSize h) in
+        record { says = says; bytes = refused-kept _ (Refused 13 0) _ old says refl }
 
-    module _ (size : length old ≡ endSheetSize) (h : Sections) (own : h ≡ sectionsOf s) where
-      then : ℕ → Answer
-      then _ = runAnswer (stepCount o) (goalOf o) (orderRun s o)
-
-      reaches : check s o (length old) ≡ (orderForm (schemaOf s) o >>= then)
-      unfolding check then
-      reaches = bind-good _ _ m learns ∙ refuse-unmet _ 13 0 _ (ap not (eq-eqb (length old) endSheetSize size))
-
-      -- rows 14 to 18
-      pub at-order : (a : Answer) (b : Bool) → a ≡ orderForm (schema h s) o → b ≡ isRefused a → b ≡ true → CheckOutcome s o old old a
-      at-order a b e q r =
-          let f : a ≡ orderForm (schemaOf s) o = rw (schema-own s h own) at e in
-          refused-kept s o old a (stays a then (sym q ∙ r) ∙ ap (λ x. x >>= then) f ∙ sym reaches) (sym q ∙ r)
-
-      module _ (k : ℕ) (good : orderForm (schema h s) o ≡ Good k) (held state new : List ℕ) (c : Answer)
-          (l : held ≡ heldOf s .masks) (start : state ≡ startMask (startFacts o))
-          (out : CarriedOut (carry (schema h s) held (plan o) state 1) (stepCount o) (goal o) new c) where
-        order : orderForm (schemaOf s) o ≡ Good k
-        order = rw (schema-own s h own) at good
-
-        formed : (n : ℕ) × (lookOver s ≡ Good n)
-        formed = form-good s m learns
-
-        carried : carry (schema h s) held (plan o) state 1 ≡ carry (schemaOf s) (heldOf s .masks) (plan o) (startMask (startFacts o)) 1
-        carried = rw (schema-own s h own, l, start)
-
-        says : c ≡ check s o (length old)
-        unfolding then
-        says =
-            out .says
-            ∙ ap (λ x. carriedAnswer (stepCount o) (goal o) x) carried
-            ∙ sym (order-carried s (formed .0) m (formed .1) learns o k order)
-            ∙ sym (bind-good _ _ k order)
-            ∙ sym reaches
-
-        -- rows 19 and 20
-        pub at-plan : (b : Bool) → b ≡ isRefused c → b ≡ true → CheckOutcome s o old old c
-        at-plan b q r = refused-kept s o old c says (sym q ∙ r)
-
-        -- a pass: the sheet is the end state
-        pub at-end : (b : Bool) → b ≡ isRefused c → b ≡ false → (sheet : List ℕ) → sheet ≡ new → CheckOutcome s o old sheet c
-        unfolding checkBytes kept
-        at-end b q r sheet e =
-            let g = is-good c (sym q ∙ r) in
-            let ends : carry (schemaOf s) (heldOf s .masks) (plan o) (startMask (startFacts o)) 1 .stop ≡ 0 = ap (λ x. x .stop) (sym carried) ∙ out .ends _ g in
-            let end = e ∙ out .mask ∙ ap (λ x. x .mask) carried ∙ order-sheet s (formed .0) m (formed .1) learns o k order ends in
-            record { says = says; bytes = rw (sym says ∙ g) end }
+    -- rows 14 to 20
+    pub at-rest : b ≡ false → length old ≡ endSheetSize → (new : List ℕ) (r : Answer) → OrderOutcome s o old new r → CheckOutcome s o old new r
+    unfolding check fromOrder checkBytes
+    at-rest passed size new r out =
+        let rest : check s o (length old) ≡ fromOrder s o = bind-good _ _ _ (learns passed) ∙ refuse-unmet _ 13 0 _ (ap not (eq-eqb (length old) endSheetSize size)) in
+        record { says = out .says ∙ sym rest; bytes = rw rest (out .bytes) }

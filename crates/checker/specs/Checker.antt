@@ -1,20 +1,48 @@
--- What the functions of the checker say: rows 19 and 20 with the state mask, and the whole check with the lent end sheet.
+-- What the functions of the checker say: rows 19 and 20 with the state mask, rows 14 to 20 and the whole check with the lent end sheet.
 use Prim.Native.Nat.{ℕ}
 use mathlib.Core.Path.{_≡_}
 use mathlib.Core.List.{List}
 use lib.ListN.{length}
 use Rattle.answer.specs.declared.Answer.{Answer}
 use Rattle.answer.specs.declared.Answer.the-variants.{Good}
-use Rattle.format.specs.Order.{GoalEntry}
-use Rattle.jobs.specs.Check.{check, checkBytes}
+use Rattle.answer.specs.Answer.{_>>=_, valueOf, kept}
+use Rattle.limits.specs.Limits.{endSheetSize, heldSize}
+use Rattle.terms.specs.declared.Sections.{Sections}
+use Rattle.terms.specs.Sections.{sectionsOf}
+use Rattle.format.specs.Order.{GoalEntry, stepCount, orderForm, goal}
+use Rattle.jobs.specs.Planning.{schemaOf, goalOf}
+use Rattle.jobs.specs.Learn.{learnable}
+use Rattle.jobs.specs.Check.{orderRun, runAnswer, check, endSheet, checkBytes}
+use Rattle.learner.specs.Learner.{heldOf}
 use Rattle.statemask.specs.Statemask.{Carried}
 use Rattle.statemask.specs.Carrying.{carriedAnswer}
 
--- a plan carried out over a mask, and its goal: the answer, the mask, and that no step stopped where the answer is good
+-- a plan carried out over a mask, and its goal: the answer, and the mask
 pub record CarriedOut (c : Carried) (steps : ℕ) (goal : List GoalEntry) (new : List ℕ) (r : Answer) : Type 0 where
   pub says : r ≡ carriedAnswer steps goal c
   pub mask : new ≡ c .mask
-  pub ends : (m : ℕ) → r ≡ Good m → c .stop ≡ 0
+
+-- the same of an order's plan with a lent end sheet: the answer, and every byte of the sheet afterwards
+pub record RunOutcome (c : Carried) (o old new : List ℕ) (r : Answer) : Type 0 where
+  pub says : r ≡ carriedAnswer (stepCount o) (goal o) c
+  pub bytes : new ≡ kept r (c .mask) old
+
+-- rows 14 to 20
+unfoldable pub fromOrder : List ℕ → List ℕ → Answer
+fromOrder s o = orderForm (schemaOf s) o >>= λ _. runAnswer (stepCount o) (goalOf o) (orderRun s o)
+
+-- rows 1 to 13 are not met: the header that was read, what is held, and the lent end sheet
+pub record Ready (s : List ℕ) (h : Sections) (held end : List ℕ) : Type 0 where
+  pub own : h ≡ sectionsOf s
+  pub learns : learnable s ≡ Good (valueOf (learnable s))
+  pub holds : held ≡ heldOf s .masks
+  pub room : length held ≡ heldSize
+  pub size : length end ≡ endSheetSize
+
+-- rows 14 to 20 with a lent end sheet: the answer, and every byte of the sheet afterwards
+pub record OrderOutcome (s o old new : List ℕ) (r : Answer) : Type 0 where
+  pub says : r ≡ fromOrder s o
+  pub bytes : new ≡ kept (fromOrder s o) (endSheet (orderRun s o)) old
 
 -- a check with a lent end sheet: the answer, and every byte of the sheet afterwards
 pub record CheckOutcome (s o old new : List ℕ) (r : Answer) : Type 0 where

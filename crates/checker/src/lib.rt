@@ -6,10 +6,10 @@ ghost use mathlib.Core.Path.{_≡_};
 ghost use lib.ListN.{length};
 ghost use Rattle.limits.specs.Limits.{endSheetSize};
 ghost use Rattle.terms.specs.Schema.{schema};
-ghost use Rattle.format.specs.Order.{stepCount, stepsAt, goal, plan};
-ghost use Rattle.statemask.specs.Statemask.{carry};
+ghost use Rattle.format.specs.Order.{stepCount, stepsAt, startFacts, goal, plan};
+ghost use Rattle.statemask.specs.Statemask.{startMask, carry};
 ghost use Rattle.execution.specs.Execution.{Carriable};
-ghost use Rattle.checker.specs.Checker.{CarriedOut, CheckOutcome};
+ghost use Rattle.checker.specs.Checker.{CarriedOut, RunOutcome, Ready, OrderOutcome, CheckOutcome};
 
 // Rows 19 and 20, from the state of the start facts on.
 fn carry_out(
@@ -47,6 +47,43 @@ fn write_end(end: &mut [u8], state: [u8; limits::STATE_SIZE])
     output::write_bytes(end, 0, &state);
 }
 
+// The state of the start facts.
+fn start_of(o: &[u8]) -> [u8; limits::STATE_SIZE]
+    ensures { λ r. ⌜ r ≡ startMask (startFacts (now (o .entry))) ⌝ }
+{
+    execution::start_mask(
+        o,
+        orderhead::start_count(o) as usize,
+        orderhead::start_at(o),
+    )
+}
+
+// Rows 19 and 20 from the start facts on; where neither is met, the end sheet.
+fn run_order(book: &[u8], h: Sections, held: &[u8], o: &[u8], end: &mut [u8]) -> Answer
+    requires { ⌜ Carriable (now held) (now o) (stepCount (now o)) (stepsAt (now o)) × (length (now end) ≡ endSheetSize) ⌝ }
+    ensures { λ r. ⌜ RunOutcome (carry (schema h (now (book .entry))) (now (held .entry)) (plan (now (o .entry))) (startMask (startFacts (now (o .entry)))) 1) (now (o .entry)) (now (end .entry)) (now (end .exit)) r ⌝ }
+{
+    let mut state = start_of(o);
+    let a = carry_out(book, h, held, o, &mut state);
+    if answer::is_refused(a) {
+        return a;
+    }
+    write_end(end, state);
+    a
+}
+
+// Rows 14 to 20 for a book that learns, with an end sheet of its size.
+fn check_order(s: &[u8], h: Sections, held: &[u8], o: &[u8], end: &mut [u8]) -> Answer
+    requires { ⌜ Ready (now s) h (now held) (now end) ⌝ }
+    ensures { λ r. ⌜ OrderOutcome (now (s .entry)) (now (o .entry)) (now (end .entry)) (now (end .exit)) r ⌝ }
+{
+    let a = orders::order_form(s, h, o);
+    if answer::is_refused(a) {
+        return a;
+    }
+    run_order(s, h, held, o, end)
+}
+
 pub fn check(s: &[u8], o: &[u8], end: &mut [u8]) -> Answer
     ensures { λ r. ⌜ CheckOutcome (now (s .entry)) (now (o .entry)) (now (end .entry)) (now (end .exit)) r ⌝ }
 {
@@ -59,19 +96,5 @@ pub fn check(s: &[u8], o: &[u8], end: &mut [u8]) -> Answer
     if end.len() != limits::END_SHEET_SIZE {
         return Answer::Refused(13, 0);
     }
-    let b = orders::order_form(s, h, o);
-    if answer::is_refused(b) {
-        return b;
-    }
-    let mut state = execution::start_mask(
-        o,
-        orderhead::start_count(o) as usize,
-        orderhead::start_at(o),
-    );
-    let c = carry_out(s, h, &held, o, &mut state);
-    if answer::is_refused(c) {
-        return c;
-    }
-    write_end(end, state);
-    c
+    check_order(s, h, &held, o, end)
 }

@@ -8,21 +8,14 @@ use borrow.Author.Needs.{needs}
 use Rattle.checker.proofs.write_end.Statement.{statement}
 use Rattle.checker.proofs.write_end.Tie as tie
 
-slice-aggregate-write-bytes : tie.Need-slice-aggregate-write-bytes
-slice-aggregate-write-bytes c = search needs
-
-write-bytes-requires : tie.Need-write-bytes-requires
-write-bytes-requires c κs = search needs
-
-same-length : tie.Need-same-length
-same-length c = search needs
-
-returns : tie.Need-returns
-returns c =
-    let d = c .before .before .before .before .before .before in
-    let l : length (d .args .t2) ≡ length (now (d .args .end)) = omega (arith, d .pre) in
-    c .before .before .write-bytes .ensures ∙ written-whole _ _ l
-
 pub write-end-spec : {M : Type 1} → statement M
 write-end-spec =
-    tie.close (tie.spec slice-aggregate-write-bytes write-bytes-requires same-length returns)
+    tie.close
+    (tie.spec
+    (λ c. search needs)
+    (λ c κs. search needs)
+    (λ c. search needs)
+    (λ c.
+    let d = c .before .before .before .before .before .before in
+    let l : length (d .args .t2) ≡ length (now (d .args .end)) = omega (arith, d .pre) in
+    c .before .before .write-bytes .ensures ∙ written-whole _ _ l))
