@@ -1,47 +1,20 @@
--- The bound facts of a move: their tests, put together from what the calls in the code return, and their set, one number after the other.
+-- The set of the bound facts of a move, one number after the other.
 -- Uses mask's laws of the numbers below an end.
-use Prim.Native.Nat.{ℕ, _+_, _*_, _/_, _%_, _≤_, _<_}
+use Prim.Native.Nat.{ℕ, _+_, _*_, _/_, _≤_, _<_}
 use native.Mathlib.Decide.{decLt}
 use native.Mathlib.Omega.{arith}
 use mathlib.Core.Path.{_≡_, sym, _∙_}
-use mathlib.Core.Bool.{Bool, true, false, _&&_, _||_, not, and-false}
+use mathlib.Core.Bool.{Bool, true, false, _&&_, not, and-false}
 use mathlib.Core.List.{List}
-use lib.Dec.{eqb, ltb, leb}
+use lib.Dec.{ltb}
 use borrow.Author.Tests.{lt-ltb, le-ltb, lt-leb, not-true}
-use Rattle.input.specs.Bytes.{byteAt}
 use Rattle.mask.specs.Bits.{setBit}
 use Rattle.mask.specs.Sets.{empty, maskOf}
 use Rattle.mask.proofs.Whole.{below-none, below-put, below-skip, below-end}
-use Rattle.terms.specs.declared.Sections.{Sections}
-use Rattle.terms.specs.declared.Move.{Move}
-use Rattle.terms.specs.declared.Relation.{Relation}
-use Rattle.terms.specs.declared.Param.{Param}
-use Rattle.terms.specs.Schema.{Schema, schema, relationAt, moveAt, kindSuits}
-use Rattle.terms.specs.Steps.{parameterFills, isAtom, atomRelation, atomFirst, atomSecond}
+use Rattle.terms.specs.Schema.{Schema}
+use Rattle.terms.specs.Steps.{parameterFills, isAtom, atomRelation, atomFirst}
 use Rattle.atoms.specs.Atoms.{atomSet, atomsEnd}
 
-module _ (h : Sections) (s : List ℕ) (m : Move) where
-  pub parameter-fills-by : (r : Relation) (i : ℕ) (p : Param) {relation action places params named kind : ℕ} {suits : Bool}
-      → relation ≡ relationAt h r
-      → action ≡ moveAt h m
-      → places ≡ byteAt s relation
-      → params ≡ byteAt s action
-      → named ≡ byteAt s (relation + i)
-      → kind ≡ byteAt s (action + p .0)
-      → suits ≡ kindSuits (schema h s) named kind
-      → (leb i places && leb (p .0) params && suits || ltb places i && eqb (p .0) 1) ≡ parameterFills (schema h s) m r i p
-  unfolding parameterFills schema
-  parameter-fills-by r i p e f g j k l n = rw (n, k, l, g, j, e, f)
-
-  pub is-atom-by : (n : ℕ) {first second : Bool}
-      → first ≡ parameterFills (schema h s) m (atomRelation n) 1 (atomFirst n)
-      → second ≡ parameterFills (schema h s) m (record { 0 = n / 16 + 1 }) 2 (record { 0 = n % 4 + 1 })
-      → (leb 1 (m .0) && leb (m .0) (h .moves .count) && leb (n / 16 + 1) (h .relations .count) && first && second)
-      ≡ isAtom (schema h s) (m .0) n
-  unfolding isAtom schema atomRelation atomSecond
-  is-atom-by n e f = rw (e, f)
-
--- ---- the set of them
 module _ (sch : Schema) (a : ℕ) where
   -- the bound facts below n
   unfoldable pub atomsBelow : ℕ → List ℕ

@@ -1,2 +1,2 @@
--- Laws for the proofs of src/: the tests of a bound fact, and the set of them, one number after the other.
+-- Laws for the proofs of src/: the set of the bound facts, one number after the other.
 pub mod Atoms

@@ -1,5 +1,5 @@
 // Which bound facts (lifted atoms) a move has: the test of one number, and all of them as a set of 32 bytes.
-// Uses input and terms for the kinds in a book, mask for the set; each contract names its definition, of terms or of specs/Atoms.antt.
+// Uses terms for the kinds in a book, mask for the set; each contract names its definition, of terms or of specs/Atoms.antt.
 ghost use mathlib.Core.Path.{_≡_};
 ghost use Prim.Native.Nat.{_≤_, _<_};
 ghost use Rattle.limits.specs.Limits.{maxAtoms};
@@ -14,12 +14,10 @@ use terms::Sections;
 fn parameter_fills(book: &[u8], h: Sections, m: Move, r: Relation, i: u8, p: Param) -> bool
     ensures { λ b. ⌜ b ≡ parameterFills (schema h (now (book .entry))) m r i p ⌝ }
 {
-    let relation = h.relation_at(r);
-    let action = h.move_at(m);
-    let places = input::byte_at(book, relation);
-    let params = input::byte_at(book, action);
-    let named = input::byte_at(book, relation + i as usize);
-    let kind = input::byte_at(book, action + p.0 as usize);
+    let places = h.places(book, r);
+    let params = h.params(book, m);
+    let named = h.place_kind(book, r, i);
+    let kind = h.param_kind(book, m, p);
     let suits = terms::kind_suits(book, h, named, kind);
     ((i <= places) & (p.0 <= params) & suits) | ((places < i) & (p.0 == 1))
 }
@@ -29,24 +27,17 @@ fn first_fills(book: &[u8], h: Sections, m: Move, n: usize) -> bool
     requires { ⌜ n < maxAtoms ⌝ }
     ensures { λ r. ⌜ r ≡ parameterFills (schema h (now (book .entry))) m (atomRelation n) 1 (atomFirst n) ⌝ }
 {
-    parameter_fills(
-        book,
-        h,
-        m,
-        Relation((n / 16 + 1) as u8),
-        1,
-        Param((n / 4 % 4 + 1) as u8),
-    )
+    parameter_fills(book, h, m, terms::atom_relation(n), 1, terms::atom_first(n))
 }
 
 pub fn is_atom(book: &[u8], h: Sections, m: Move, n: usize) -> bool
     requires { ⌜ n < maxAtoms ⌝ }
     ensures { λ r. ⌜ r ≡ isAtom (schema h (now (book .entry))) (m .0) n ⌝ }
 {
-    let r = (n / 16 + 1) as u8;
+    let r = terms::atom_relation(n);
     let first = first_fills(book, h, m, n);
-    let second = parameter_fills(book, h, m, Relation(r), 2, Param((n % 4 + 1) as u8));
-    (1 <= m.0) & (m.0 as u16 <= h.moves.count) & (r as u16 <= h.relations.count) & first & second
+    let second = parameter_fills(book, h, m, r, 2, terms::atom_second(n));
+    (1 <= m.0) & (m.0 as u16 <= h.moves.count) & (r.0 as u16 <= h.relations.count) & first & second
 }
 
 // From here on there are no bound facts.

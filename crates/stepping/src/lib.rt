@@ -21,8 +21,7 @@ fn placed(book: &[u8], h: Sections, b: Binding, r: Relation, i: u8, p: Param) ->
     requires { ⌜ p .0 ≤ maxParams ⌝ }
     ensures { λ x. ⌜ (x ≡ placed (schema h (now (book .entry))) b r i p) × (x ≤ 254) ⌝ }
 {
-    let places = input::byte_at(book, h.relation_at(r));
-    if places < i {
+    if h.places(book, r) < i {
         return 0;
     }
     let x = b.object(p);
@@ -33,10 +32,10 @@ fn ground(book: &[u8], h: Sections, b: Binding, n: usize) -> usize
     requires { ⌜ n < maxAtoms ⌝ }
     ensures { λ r. ⌜ (r ≡ ground (schema h (now (book .entry))) b n) × (r < 70000) ⌝ }
 {
-    let r = (n / 16 + 1) as u8;
-    let first = placed(book, h, b, Relation(r), 1, Param((n / 4 % 4 + 1) as u8));
-    let second = placed(book, h, b, Relation(r), 2, Param((n % 4 + 1) as u8));
-    256 * terms::index(r) + 16 * first + second
+    let r = terms::atom_relation(n);
+    let first = placed(book, h, b, r, 1, terms::atom_first(n));
+    let second = placed(book, h, b, r, 2, terms::atom_second(n));
+    256 * terms::index(r.0) + 16 * first + second
 }
 
 // ---- needs
