@@ -1,6 +1,6 @@
 -- Demand 2, proved: the bits of the sheet are those of the learned model, which bounds every fitting one.
-use Prim.Native.Nat.{ℕ, _+_, _-_, _*_, _≤_, _<_}
-use mathlib.Core.Path.{_≡_, refl, sym, ap, _∙_}
+use Prim.Native.Nat.{ℕ, _*_, _≤_, _<_}
+use mathlib.Core.Path.{_≡_, refl, sym, _∙_}
 use mathlib.Core.Logic.{_↔_}
 use mathlib.Core.Bool.{Bool, true, false, not, not-eq-not}
 use mathlib.Core.List.{List}
@@ -12,7 +12,6 @@ use Rattle.limits.specs.Limits.{ruleSize}
 use Rattle.answer.specs.declared.Answer.the-variants.{Good}
 use Rattle.truth.specs.Bools.{clash, not-self, is-false}
 use Rattle.answer.specs.Laws.{bind-good, refuse-unmet}
-use Rattle.mask.specs.Bits.{testBit}
 use Rattle.terms.specs.Steps.{isAtom}
 use Rattle.format.specs.Decode.{Filed}
 use Rattle.format.specs.LookOver.{lookOver}
@@ -21,12 +20,12 @@ use Rattle.model.specs.Learned.{learned}
 use Rattle.model.proofs.Seen.{before-in, before-out, turned-in, turned-out, need-in, need-out, effect-in, effect-out}
 use Rattle.model.proofs.Bounds.{precondition-iff-some, effect-iff-every}
 use Rattle.jobs.specs.Planning.{domain, schemaOf, filedIn, transitionsOf}
-use Rattle.jobs.specs.Learn.{learnable, learnedFrom, ruleRow, ruleSheet, learn, learnBytes}
+use Rattle.jobs.specs.Learn.{learnable, learnedFrom, ruleSheet, learn, learnBytes}
+use Rattle.jobs.proofs.Sheet.{length-rows, learned-need-bit, learned-effect-bit}
 use Rattle.wellformed.proofs.Formed.{formed}
-use Rattle.demand.specs.Demand2.{needBit, effectBit, valueIn, Bits, Demand2}
+use Rattle.demand.specs.Demand2.{valueIn, Bits, Demand2}
 use Rattle.wellformed.proofs.Learnable.{inconsistentIn, learnable-inconsistent}
 use Rattle.demand.proofs.Demand3.{demand3}
-use Rattle.demand.proofs.Sheet.{length-rows, sheet-bit, bit-held, bit-unheld, bit-added, bit-removed}
 use Rattle.demand.proofs.Filed.{sight-of-filed, filed-of-sight}
 
 module _ (s : List ℕ) (b : Bool) (a n : ℕ) where
@@ -71,22 +70,6 @@ module _ (s : List ℕ) (b : Bool) (a n : ℕ) where
 
 -- ---- the bits
 module _ (s : List ℕ) (a n : ℕ) (low : 1 ≤ a) (high : a ≤ schemaOf s .moves) (small : n < 256) where
-  row-bit : (j : ℕ) → j < 1024 → testBit (ruleSheet s) (1024 * (a - 1) + j) ≡ testBit (ruleRow (learnedFrom s) a) j
-  unfolding ruleSheet
-  row-bit j l =
-      let e : 1 + (a - 1) ≡ a = omega arith in
-      sheet-bit (learnedFrom s) (schemaOf s .moves) 1 (a - 1) j (omega arith) l ∙ ap (λ (k : ℕ). testBit (ruleRow (learnedFrom s) k) j) e
-
-  need-bit : (b : Bool) → needBit s b a n ≡ learnedFrom s .precondition b a n
-  need-bit true =
-      let e : 0 + n ≡ n = omega arith in
-      row-bit (0 + n) (omega arith) ∙ ap (testBit (ruleRow (learnedFrom s) a)) e ∙ bit-held (learnedFrom s) a n small
-  need-bit false = row-bit (256 + n) (omega arith) ∙ bit-unheld (learnedFrom s) a n small
-
-  effect-bit : (b : Bool) → effectBit s b a n ≡ learnedFrom s .effect b a n
-  effect-bit true = row-bit (512 + n) (omega arith) ∙ bit-added (learnedFrom s) a n small
-  effect-bit false = row-bit (768 + n) (omega arith) ∙ bit-removed (learnedFrom s) a n small
-
   need-none : (b : Bool) → isAtom (schemaOf s) a n ≡ false → learnedFrom s .precondition b a n ≡ false
   unfolding learnedFrom learned domain
   need-none b e = rw e
@@ -98,12 +81,14 @@ module _ (s : List ℕ) (a n : ℕ) (low : 1 ≤ a) (high : a ≤ schemaOf s .mo
   bits : (m : ℕ) → lookOver s ≡ Good m → inconsistentIn s ≡ false → (b : Bool) → Bits s b a n
   unfolding learnedFrom
   bits m good clean b =
+      let need = learned-need-bit s a n low high small b in
+      let effect = learned-effect-bit s a n low high small b in
       record {
-        needed-by-some = rw (need-bit b) (precondition-iff-some (domain (schemaOf s)) (transitionsOf s) (formed s m good) clean b a n);
-        needed-by-record = rw (need-bit b) (need-filed s b a n);
-        given-by-every = rw (effect-bit b) (effect-iff-every (domain (schemaOf s)) (transitionsOf s) (formed s m good) clean b a n);
-        given-by-record = rw (effect-bit b) (effect-filed s b a n);
-        of-none = λ e. (need-bit b ∙ need-none b e, effect-bit b ∙ effect-none b e);
+        needed-by-some = rw need (precondition-iff-some (domain (schemaOf s)) (transitionsOf s) (formed s m good) clean b a n);
+        needed-by-record = rw need (need-filed s b a n);
+        given-by-every = rw effect (effect-iff-every (domain (schemaOf s)) (transitionsOf s) (formed s m good) clean b a n);
+        given-by-record = rw effect (effect-filed s b a n);
+        of-none = λ e. (need ∙ need-none b e, effect ∙ effect-none b e);
       }
 
 -- ---- the whole

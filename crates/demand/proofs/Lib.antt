@@ -1,6 +1,5 @@
--- The demands, proved: Demand3 and Demand2 for one book, TwoBooks and Renumbered for two. Sheet, Filed and Agree serve them.
+-- The demands, proved: Demand3 and Demand2 for one book, TwoBooks and Renumbered for two. Filed and Agree serve them.
 pub mod Demand3
-pub mod Sheet
 pub mod Filed
 pub mod Demand2
 pub mod Agree

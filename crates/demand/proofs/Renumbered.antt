@@ -25,7 +25,7 @@ use Rattle.wellformed.proofs.Records.{filed-right}
 use Rattle.wellformed.proofs.Values.{holds-in, holds-out}
 use Rattle.demand.specs.TwoBooks.{Renumbering, renumbered, RenumberedFacts, RenumberedStep, RenumberedSteps, RenumberedSameSheet}
 use Rattle.demand.proofs.Agree.{fact-same}
-use Rattle.demand.proofs.Sheet.{rows-same}
+use Rattle.jobs.proofs.Sheet.{rows-same}
 use Rattle.demand.proofs.TwoBooks.{AlikeFiled, same-row}
 
 -- facts that are one when renumbered are one

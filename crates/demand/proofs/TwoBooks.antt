@@ -17,7 +17,7 @@ use Rattle.jobs.specs.Learn.{learnedFrom, ruleRow, ruleSheet}
 use Rattle.wellformed.proofs.Lists.{mem-map-out, mem-map-in}
 use Rattle.demand.specs.TwoBooks.{SameStep, SameSteps, rowOf, SameStepsSameRow}
 use Rattle.demand.proofs.Agree.{domain-same}
-use Rattle.demand.proofs.Sheet.{row-part, row-same}
+use Rattle.jobs.proofs.Sheet.{row-part, row-same}
 
 module _ (s t : List ℕ) (agree : SameSchema (schemaOf s) (schemaOf t)) where
   -- a filed step of the one book shows what a filed step of the other shows

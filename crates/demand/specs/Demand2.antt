@@ -1,14 +1,13 @@
 -- Demand 2: each bit of the rule sheet is what every fitting model says of it, and what the recorded steps show of it.
 -- The models are those that the judge holds (`FitsBook` of jobs/specs/Judge.antt); `ruleSheet` is what learning writes.
-use Prim.Native.Nat.{ℕ, _+_, _-_, _*_, _≤_, _<_}
+use Prim.Native.Nat.{ℕ, _*_, _≤_, _<_}
 use mathlib.Core.Path.{_≡_}
 use mathlib.Core.Logic.{_↔_}
 use mathlib.Core.Bool.{Bool, true, false, not}
 use mathlib.Core.List.{List}
 use lib.ListN.{length}
-use Rattle.limits.specs.Limits.{ruleSize, maxAtoms, ruleBits}
+use Rattle.limits.specs.Limits.{ruleSize, maxAtoms}
 use Rattle.answer.specs.declared.Answer.the-variants.{Good}
-use Rattle.mask.specs.Bits.{testBit}
 use Rattle.terms.specs.declared.Fact.{Fact}
 use Rattle.terms.specs.Steps.{isAtom, ground}
 use Rattle.format.specs.Decode.{Filed}
@@ -16,25 +15,9 @@ use Rattle.model.specs.Quantify.{Mem}
 use Rattle.model.specs.Model.{Model}
 use Rattle.jobs.specs.Planning.{holding, schemaOf, filedIn}
 use Rattle.jobs.specs.Learn.{learnable, ruleSheet, learn, learnBytes}
+use Rattle.jobs.specs.SheetBits.{needSet, effectSet, sheetBit}
 use Rattle.jobs.specs.Judge.{FitsBook}
 use Rattle.demand.specs.Demand3.{NoneFits, Impossible}
-
--- where a set begins in the bits of a move: needed to hold, needed not to hold, added, removed
-abbrev pub needAt : Bool → ℕ
-needAt true = 0
-needAt false = maxAtoms
-
-abbrev pub effectAt : Bool → ℕ
-effectAt true = 2 * maxAtoms
-effectAt false = 3 * maxAtoms
-
--- the bit of bound fact n in the row of move a: needed to hold (true) or not to (false)
-abbrev pub needBit : List ℕ → Bool → ℕ → ℕ → Bool
-needBit s b a n = testBit (ruleSheet s) (ruleBits * (a - 1) + (needAt b + n))
-
--- added (true) or removed (false)
-abbrev pub effectBit : List ℕ → Bool → ℕ → ℕ → Bool
-effectBit s b a n = testBit (ruleSheet s) (ruleBits * (a - 1) + (effectAt b + n))
 
 -- whether bound fact n, with the objects of the filed step in, holds among the facts given
 abbrev pub valueIn : List ℕ → Filed → List Fact → ℕ → Bool
@@ -43,18 +26,18 @@ valueIn s f fs n = holding fs (ground (schemaOf s) (f .step .binding) n)
 -- what the bits of bound fact n of move a say, `b` being the value needed or given
 pub record Bits (s : List ℕ) (b : Bool) (a n : ℕ) : Type 0 where
   -- It is set among the needs exactly if some fitting model needs it so,
-  pub needed-by-some : needBit s b a n ≡ true ↔ ((M : Model) × FitsBook s M × (M .precondition b a n ≡ true))
+  pub needed-by-some : sheetBit (ruleSheet s) (needSet b) a n ≡ true ↔ ((M : Model) × FitsBook s M × (M .precondition b a n ≡ true))
   -- exactly if n is a bound fact of the move that had the value before every recorded step of it (formula 1).
-  pub needed-by-record : needBit s b a n ≡ true
+  pub needed-by-record : sheetBit (ruleSheet s) (needSet b) a n ≡ true
       ↔ ((isAtom (schemaOf s) a n ≡ true) × ((f : Filed) → Mem f (filedIn s) → f .step .action .0 ≡ a → valueIn s f (f .pre) n ≡ b))
   -- It is set among the effects exactly if every fitting model has the effect,
-  pub given-by-every : effectBit s b a n ≡ true ↔ ((M : Model) → FitsBook s M → M .effect b a n ≡ true)
+  pub given-by-every : sheetBit (ruleSheet s) (effectSet b) a n ≡ true ↔ ((M : Model) → FitsBook s M → M .effect b a n ≡ true)
   -- exactly if n is a bound fact of the move that some recorded step of it changed to the value (formula 2).
-  pub given-by-record : effectBit s b a n ≡ true
+  pub given-by-record : sheetBit (ruleSheet s) (effectSet b) a n ≡ true
       ↔ ((isAtom (schemaOf s) a n ≡ true)
       × ((f : Filed) × Mem f (filedIn s) × (f .step .action .0 ≡ a) × (valueIn s f (f .pre) n ≡ not b) × (valueIn s f (f .post) n ≡ b)))
   -- Bits of no bound fact are 0.
-  pub of-none : isAtom (schemaOf s) a n ≡ false → (needBit s b a n ≡ false) × (effectBit s b a n ≡ false)
+  pub of-none : isAtom (schemaOf s) a n ≡ false → (sheetBit (ruleSheet s) (needSet b) a n ≡ false) × (sheetBit (ruleSheet s) (effectSet b) a n ≡ false)
 
 -- of a book that is learned
 pub record SheetRight (s : List ℕ) : Type 0 where

@@ -1,20 +1,25 @@
 -- A bound fact's line, piece by piece.
-use Prim.Native.Nat.{ℕ, _+_, _/_, _%_}
+use Prim.Native.Nat.{ℕ}
 use mathlib.Core.Path.{_≡_}
 use mathlib.Core.Bool.{true, false}
 use mathlib.Core.List.{List, [], _∷_, _++_, append-assoc}
+use Rattle.terms.specs.declared.Relation.{Relation}
+use Rattle.terms.specs.declared.Param.{Param}
 use Rattle.terms.specs.Schema.{Schema}
 use Rattle.terms.specs.Steps.{atomRelation, atomFirst, atomSecond}
 use Rattle.model.specs.Model.{Model}
 use Rattle.jobs.specs.Listing.{decimal, space, newline, needLetter, effectLetter, paramShown, atomFront, atomLine}
 
 -- four numbers, each with a space, are a line's front
-pub front-by : (sch : Schema) (text : List ℕ) (a n first second : ℕ)
-    → first ≡ paramShown sch (record { 0 = n / 16 + 1 }) 1 (n / 4 % 4 + 1)
-    → second ≡ paramShown sch (record { 0 = n / 16 + 1 }) 2 (n % 4 + 1)
-    → text ++ decimal a ++ space ++ decimal (n / 16 + 1) ++ space ++ decimal first ++ space ++ decimal second ++ space ≡ text ++ atomFront sch a n
-unfolding atomFront atomRelation atomFirst atomSecond
-front-by sch text a n first second p q = rw (p, q) (behind text _ _ _ _)
+pub front-by : (sch : Schema) (text : List ℕ) (a n first second : ℕ) (r : Relation) (p q : Param)
+    → r ≡ atomRelation n
+    → p ≡ atomFirst n
+    → q ≡ atomSecond n
+    → first ≡ paramShown sch r 1 (p .0)
+    → second ≡ paramShown sch r 2 (q .0)
+    → text ++ decimal a ++ space ++ decimal (r .0) ++ space ++ decimal first ++ space ++ decimal second ++ space ≡ text ++ atomFront sch a n
+unfolding atomFront
+front-by sch text a n first second r p q e f g h k = rw (h, k, e, f, g) (behind text _ _ _ _)
   where
     behind : (text a b c d : List ℕ) → text ++ a ++ space ++ b ++ space ++ c ++ space ++ d ++ space ≡ text ++ (a ++ space ++ b ++ space ++ c ++ space ++ d ++ space)
     behind text a b c d = simp (append-assoc)

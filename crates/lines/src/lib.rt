@@ -9,8 +9,9 @@ ghost use Rattle.limits.specs.Limits.{maxAtoms};
 ghost use Rattle.io.specs.Counts.{Counts};
 ghost use Rattle.terms.specs.Schema.{schema};
 ghost use Rattle.jobs.specs.Listing.{decimal, space, refusedLine, countsLine, needLetter, effectLetter, paramShown, atomFront, atomLine};
-ghost use Rattle.lines.specs.SheetBits.{ruleBit, modelOn};
+ghost use Rattle.jobs.specs.SheetBits.{sheetBit, modelOn};
 use terms::Move;
+use terms::Param;
 use terms::Relation;
 use terms::Sections;
 
@@ -38,12 +39,12 @@ pub fn put_decimal(line: &mut [u8], at: usize, n: usize) -> usize
 }
 
 // A number of at most three digits and a space.
-fn put_number(line: &mut [u8], at: usize, n: usize) -> usize
-    requires { ⌜ (at + 21 ≤ length (now line)) × (n < 1000) ⌝ }
+fn put_number(line: &mut [u8], at: usize, n: u8) -> usize
+    requires { ⌜ at + 21 ≤ length (now line) ⌝ }
     ensures { λ r. ⌜ (r ≤ at + 4) × Counts r (now (line .exit)) ⌝ }
     ensures { λ r. ⌜ take r (now (line .exit)) ≡ take at (now (line .entry)) ++ decimal n ++ space ⌝ }
 {
-    let end = put_decimal(line, at, n);
+    let end = put_decimal(line, at, n as usize);
     put(line, end, b" ")
 }
 
@@ -75,13 +76,14 @@ pub fn counts_line(moves: usize, records: usize, steps: usize, line: &mut [u8]) 
 
 // ---- the line of a bound fact
 
-fn rule_bit(sheet: &[u8], m: Move, k: usize, n: usize) -> bool
-    requires { ⌜ (1 ≤ m .0) × (k < 4) × (n < maxAtoms) ⌝ }
-    ensures { λ r. ⌜ r ≡ ruleBit (now (sheet .entry)) (m .0) k n ⌝ }
+// Bound fact n in a set of a move.
+fn sheet_bit(sheet: &[u8], set: usize, m: Move, n: usize) -> bool
+    requires { ⌜ (1 ≤ m .0) × (set < 4) × (n < maxAtoms) ⌝ }
+    ensures { λ r. ⌜ r ≡ sheetBit (now (sheet .entry)) set (m .0) n ⌝ }
 {
     mask::test_bit(
         sheet,
-        limits::RULE_BITS * (m.0 as usize - 1) + limits::MAX_ATOMS * k + n,
+        limits::RULE_BITS * (m.0 as usize - 1) + limits::MAX_ATOMS * set + n,
     )
 }
 
@@ -90,8 +92,8 @@ fn need_letter(sheet: &[u8], m: Move, n: usize) -> u8
     requires { ⌜ (1 ≤ m .0) × (n < maxAtoms) ⌝ }
     ensures { λ r. ⌜ r ≡ needLetter (modelOn (now (sheet .entry)) .precondition true (m .0) n) (modelOn (now (sheet .entry)) .precondition false (m .0) n) ⌝ }
 {
-    let unwanted = rule_bit(sheet, m, 1, n);
-    if rule_bit(sheet, m, 0, n) {
+    let unwanted = sheet_bit(sheet, jobs::PRE_NEG, m, n);
+    if sheet_bit(sheet, jobs::PRE_POS, m, n) {
         if unwanted {
             return b'B';
         }
@@ -108,21 +110,21 @@ fn effect_letter(sheet: &[u8], m: Move, n: usize) -> u8
     requires { ⌜ (1 ≤ m .0) × (n < maxAtoms) ⌝ }
     ensures { λ r. ⌜ r ≡ effectLetter (modelOn (now (sheet .entry)) .effect true (m .0) n) (modelOn (now (sheet .entry)) .effect false (m .0) n) ⌝ }
 {
-    if rule_bit(sheet, m, 2, n) {
+    if sheet_bit(sheet, jobs::ADD, m, n) {
         return b'A';
     }
-    if rule_bit(sheet, m, 3, n) {
+    if sheet_bit(sheet, jobs::DELETE, m, n) {
         return b'R';
     }
     b'K'
 }
 
 // A parameter's number, 0 where the relation has no such place.
-fn param_shown(book: &[u8], h: Sections, r: Relation, i: u8, p: usize) -> usize
-    ensures { λ x. ⌜ (x ≡ paramShown (schema h (now (book .entry))) r i p) × (x ≤ p) ⌝ }
+fn param_shown(book: &[u8], h: Sections, r: Relation, i: u8, p: Param) -> u8
+    ensures { λ x. ⌜ x ≡ paramShown (schema h (now (book .entry))) r i (p .0) ⌝ }
 {
-    if i <= input::byte_at(book, h.relation_at(r)) {
-        return p;
+    if i <= h.places(book, r) {
+        return p.0;
     }
     0
 }
@@ -132,11 +134,11 @@ fn atom_front(book: &[u8], h: Sections, m: Move, n: usize, out: &mut [u8], at: u
     requires { ⌜ (n < maxAtoms) × (at + 128 ≤ length (now out)) ⌝ }
     ensures { λ r. ⌜ (r ≤ at + 16) × (take r (now (out .exit)) ≡ take at (now (out .entry)) ++ atomFront (schema h (now (book .entry))) (m .0) n) ⌝ }
 {
-    let r = Relation((n / 16 + 1) as u8);
-    let first = param_shown(book, h, r, 1, n / 4 % 4 + 1);
-    let second = param_shown(book, h, r, 2, n % 4 + 1);
-    let a = put_number(out, at, m.0 as usize);
-    let b = put_number(out, a, r.0 as usize);
+    let r = terms::atom_relation(n);
+    let first = param_shown(book, h, r, 1, terms::atom_first(n));
+    let second = param_shown(book, h, r, 2, terms::atom_second(n));
+    let a = put_number(out, at, m.0);
+    let b = put_number(out, a, r.0);
     let c = put_number(out, b, first);
     put_number(out, c, second)
 }

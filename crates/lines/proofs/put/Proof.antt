@@ -6,19 +6,12 @@ use Rattle.lines.proofs.Text.{counts, text-put}
 use Rattle.lines.proofs.put.Statement.{statement}
 use Rattle.lines.proofs.put.Tie as tie
 
-write-bytes-requires : tie.Need-write-bytes-requires
-write-bytes-requires c κs = search needs
-
-add-result : tie.Need-add-result
-add-result c = search needs
-
-same-length : tie.Need-same-length
-same-length c = search needs
-
 returns : tie.Need-returns
 returns c =
     let w = c .before .before .write-bytes in
     ((refl, counts _ _ (omega arith)), text-put _ _ _ _ (c .before .before .before .before .before .before .pre) (w .ensures))
 
 pub put-spec : {M : Type 1} → statement M
-put-spec = tie.close (tie.spec write-bytes-requires add-result same-length returns)
+put-spec =
+    tie.close
+    (tie.spec (λ c κs. search needs) (λ c. search needs) (λ c. search needs) returns)

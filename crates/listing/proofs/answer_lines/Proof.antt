@@ -3,21 +3,8 @@ use native.Mathlib.Omega.{arith}
 use Rattle.jobs.specs.Listing.{rulesLines}
 use borrow.Author.Needs.{needs}
 use Rattle.listing.proofs.Printed.{learned-by, printed-by}
-use borrow.Author.Needs.{needs}
 use Rattle.listing.proofs.answer_lines.Statement.{statement}
 use Rattle.listing.proofs.answer_lines.Tie as tie
-
-learn-requires : tie.Need-learn-requires
-learn-requires c κs = search needs
-
-enum-known-number : tie.Need-enum-known-number
-enum-known-number c = search needs
-
-refused-line-requires : tie.Need-refused-line-requires
-refused-line-requires c κs = search needs
-
-enum-known-steps : tie.Need-enum-known-steps
-enum-known-steps c = search needs
 
 learned-lines-requires : tie.Need-learned-lines-requires
 learned-lines-requires c κs =
@@ -25,12 +12,6 @@ learned-lines-requires c κs =
     let learn = steps .before .before .before .before in
     let start = learn .before .before .before .before .before in
     (learned-by _ _ _ _ _ _ (start .pre .0) (learn .learn .ensures) (steps .steps .given .1), omega arith)
-
-same-length : tie.Need-same-length
-same-length c = search needs
-
-same-length-2 : tie.Need-same-length-2
-same-length-2 c = search needs
 
 returns : tie.Need-returns
 unfolding rulesLines
@@ -41,12 +22,6 @@ returns c =
     let (own, fits, room) = learn .before .before .before .before .before .pre in
     let e = line .refused-line .ensures in
     (e .0, printed-by _ _ _ _ _ _ _ own fits (learn .learn .ensures) (number .number .given .1) (e .1))
-
-same-length-3 : tie.Need-same-length-3
-same-length-3 c = search needs
-
-same-length-4 : tie.Need-same-length-4
-same-length-4 c = search needs
 
 returns-2 : tie.Need-returns-2
 returns-2 c =
@@ -61,14 +36,5 @@ pub answer-lines-spec : {M : Type 1} → statement M
 answer-lines-spec =
     tie.close
     (tie.spec
-    learn-requires
-    enum-known-number
-    refused-line-requires
-    enum-known-steps
-    learned-lines-requires
-    same-length
-    same-length-2
-    returns
-    same-length-3
-    same-length-4
-    returns-2)
+    (λ c κs. search needs) (λ c. search needs) (λ c κs. search needs) (λ c. search needs) learned-lines-requires (λ c. search needs)
+    (λ c. search needs) returns (λ c. search needs) (λ c. search needs) returns-2)

@@ -29,25 +29,10 @@ Inv-loop book h sheet m out₀ from end at₀ n₀ out at n =
 abbrev μ-loop : tie.MeasureT-loop
 μ-loop book h sheet m out₀ from end at₀ n₀ out at n = end - n
 
-cast-end : tie.Need-cast-end Inv-loop μ-loop
-cast-end c = search needs
-
-mul-end : tie.Need-mul-end Inv-loop μ-loop
-mul-end c = search needs
-
-loop-holds : tie.Need-loop-holds Inv-loop μ-loop
-loop-holds c = (omega arith, omega arith, counts _ _ (omega arith), refl, first _ _ (atoms-each _ _ _) _ _ _)
-
 line-if-atom-requires : tie.Need-line-if-atom-requires Inv-loop μ-loop
 line-if-atom-requires c κs =
     let (learned, from-one, there, room) = c .before .before .before .before .before .before .before .pre in
     (learned, from-one, there, omega (arith, learned .few-relations), omega (arith, learned .few-relations))
-
-add-n : tie.Need-add-n Inv-loop μ-loop
-add-n c = omega arith
-
-loop-less : tie.Need-loop-less Inv-loop μ-loop
-loop-less c = omega arith
 
 loop-again : tie.Need-loop-again Inv-loop μ-loop
 loop-again c =
@@ -55,9 +40,6 @@ loop-again c =
     let e = put .line-if-atom .ensures in
     let left = put .before .before .before .loop .inv .4 in
     (omega arith, omega (arith, e .0 .0), e .0 .1, omega arith, turn _ _ (atoms-each _ _ _) _ _ _ _ _ _ _ left (e .1) (omega arith) (omega arith))
-
-same-length : tie.Need-same-length Inv-loop μ-loop
-same-length c = c .before .loop .inv .3
 
 returns : tie.Need-returns Inv-loop μ-loop
 returns c =
@@ -69,14 +51,6 @@ pub atom-lines-spec : {M : Type 1} → statement M
 atom-lines-spec =
     tie.close
     (tie.spec
-    Inv-loop
-    μ-loop
-    cast-end
-    mul-end
-    loop-holds
-    line-if-atom-requires
-    add-n
-    loop-less
-    loop-again
-    same-length
-    returns)
+    Inv-loop μ-loop (λ c. search needs) (λ c. search needs)
+    (λ c. (omega arith, omega arith, counts _ _ (omega arith), refl, first _ _ (atoms-each _ _ _) _ _ _))
+    line-if-atom-requires (λ c. omega arith) (λ c. omega arith) loop-again (λ c. c .before .loop .inv .3) returns)

@@ -1,24 +1,8 @@
 -- `listing::learned_lines` meets its contract: the first line, and the moves' lines behind it.
 use borrow.Author.Needs.{needs}
 use Rattle.listing.proofs.Printed.{listing-by}
-use borrow.Author.Needs.{needs}
 use Rattle.listing.proofs.learned_lines.Statement.{statement}
 use Rattle.listing.proofs.learned_lines.Tie as tie
-
-cast-counts-line : tie.Need-cast-counts-line
-cast-counts-line c = search needs
-
-cast-counts-line-2 : tie.Need-cast-counts-line-2
-cast-counts-line-2 c = search needs
-
-counts-line-requires : tie.Need-counts-line-requires
-counts-line-requires c κs = search needs
-
-move-lines-requires : tie.Need-move-lines-requires
-move-lines-requires c κs = search needs
-
-same-length : tie.Need-same-length
-same-length c = search needs
 
 returns : tie.Need-returns
 returns c =
@@ -32,9 +16,4 @@ pub learned-lines-spec : {M : Type 1} → statement M
 learned-lines-spec =
     tie.close
     (tie.spec
-    cast-counts-line
-    cast-counts-line-2
-    counts-line-requires
-    move-lines-requires
-    same-length
-    returns)
+    (λ c. search needs) (λ c. search needs) (λ c κs. search needs) (λ c κs. search needs) (λ c. search needs) returns)

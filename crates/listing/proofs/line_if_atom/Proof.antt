@@ -8,15 +8,6 @@ use Rattle.lines.proofs.Text.{counts}
 use Rattle.listing.proofs.line_if_atom.Statement.{statement}
 use Rattle.listing.proofs.line_if_atom.Tie as tie
 
-is-atom-requires : tie.Need-is-atom-requires
-is-atom-requires c κs = search needs
-
-atom-line-requires : tie.Need-atom-line-requires
-atom-line-requires c κs = search needs
-
-same-length : tie.Need-same-length
-same-length c = search needs
-
 returns : tie.Need-returns
 returns c =
     let line = c .before .before in
@@ -35,4 +26,5 @@ returns-2 c =
 
 pub line-if-atom-spec : {M : Type 1} → statement M
 line-if-atom-spec =
-    tie.close (tie.spec is-atom-requires atom-line-requires same-length returns returns-2)
+    tie.close
+    (tie.spec (λ c κs. search needs) (λ c κs. search needs) (λ c. search needs) returns returns-2)

@@ -30,28 +30,10 @@ Inv-loop book h sheet out₀ from moves at₀ i₀ out at i =
 abbrev μ-loop : tie.MeasureT-loop
 μ-loop book h sheet out₀ from moves at₀ i₀ out at i = moves - i
 
-cast-moves : tie.Need-cast-moves Inv-loop μ-loop
-cast-moves c = search needs
-
-loop-holds : tie.Need-loop-holds Inv-loop μ-loop
-loop-holds c = (omega arith, omega arith, counts _ _ (omega arith), refl, first _ _ (moves-each _ _ _ (c .before .before .before .before .pre .0)) _ _ _)
-
-add-t10 : tie.Need-add-t10 Inv-loop μ-loop
-add-t10 c = omega arith
-
-cast-t11 : tie.Need-cast-t11 Inv-loop μ-loop
-cast-t11 c = omega (arith, c .before .before .before .before .before .before .pre .0 .few-moves)
-
 atom-lines-requires : tie.Need-atom-lines-requires Inv-loop μ-loop
 atom-lines-requires c κs =
     let learned = c .before .before .before .before .before .before .before .pre .0 in
     (learned, omega arith, omega arith, omega (arith, learned .few-moves))
-
-add-i : tie.Need-add-i Inv-loop μ-loop
-add-i c = omega arith
-
-loop-less : tie.Need-loop-less Inv-loop μ-loop
-loop-less c = omega arith
 
 loop-again : tie.Need-loop-again Inv-loop μ-loop
 loop-again c =
@@ -60,9 +42,6 @@ loop-again c =
     let left = put .before .before .before .loop .inv .4 in
     let learned = put .before .before .before .before .before .before .before .before .pre .0 in
     (omega arith, omega (arith, e .0 .0), e .0 .1, omega arith, turn _ _ (moves-each _ _ _ learned) _ _ _ _ _ _ _ left (e .1) (omega arith) (omega arith))
-
-same-length : tie.Need-same-length Inv-loop μ-loop
-same-length c = c .before .loop .inv .3
 
 returns : tie.Need-returns Inv-loop μ-loop
 returns c =
@@ -73,15 +52,8 @@ pub move-lines-spec : {M : Type 1} → statement M
 move-lines-spec =
     tie.close
     (tie.spec
-    Inv-loop
-    μ-loop
-    cast-moves
-    loop-holds
-    add-t10
-    cast-t11
-    atom-lines-requires
-    add-i
-    loop-less
-    loop-again
-    same-length
-    returns)
+    Inv-loop μ-loop (λ c. search needs)
+    (λ c. (omega arith, omega arith, counts _ _ (omega arith), refl, first _ _ (moves-each _ _ _ (c .before .before .before .before .pre .0)) _ _ _))
+    (λ c. omega arith)
+    (λ c. omega (arith, c .before .before .before .before .before .before .pre .0 .few-moves))
+    atom-lines-requires (λ c. omega arith) (λ c. omega arith) loop-again (λ c. c .before .loop .inv .3) returns)

@@ -5,21 +5,8 @@ use mathlib.Core.Path.{sym, _∙_}
 use lib.ListN.{length}
 use lib.Seq.{length-take-le}
 use borrow.Author.Needs.{needs}
-use borrow.Author.Needs.{needs}
 use Rattle.listing.proofs.rules_listing.Statement.{statement}
 use Rattle.listing.proofs.rules_listing.Tie as tie
-
-read-requires : tie.Need-read-requires
-read-requires c κs = search needs
-
-sheet-size-requires : tie.Need-sheet-size-requires
-sheet-size-requires c κs = search needs
-
-blank-sheet-requires : tie.Need-blank-sheet-requires
-blank-sheet-requires c κs = search needs
-
-array-borrow-prefix-sheet : tie.Need-array-borrow-prefix-sheet
-array-borrow-prefix-sheet c = search needs
 
 slice-aggregate-answer-lines : tie.Need-slice-aggregate-answer-lines
 slice-aggregate-answer-lines c =
@@ -32,17 +19,9 @@ answer-lines-requires c κs =
     let room : size .sheet-size .result ≤ length (c .before .before .blank-sheet .result) = omega arith in
     (size .before .read .ensures, (λ few. length-take-le _ _ room ∙ size .sheet-size .ensures .1 few), omega arith)
 
-returns : tie.Need-returns
-returns c = search needs
-
 pub rules-listing-spec : {M : Type 1} → statement M
 rules-listing-spec =
     tie.close
     (tie.spec
-    read-requires
-    sheet-size-requires
-    blank-sheet-requires
-    array-borrow-prefix-sheet
-    slice-aggregate-answer-lines
-    answer-lines-requires
-    returns)
+    (λ c κs. search needs) (λ c κs. search needs) (λ c κs. search needs) (λ c. search needs) slice-aggregate-answer-lines
+    answer-lines-requires (λ c. search needs))

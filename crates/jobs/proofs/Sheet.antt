@@ -1,5 +1,5 @@
--- The rule sheet of a model, row by row and bit by bit.
-use Prim.Native.Nat.{ℕ, zero, suc, _+_, _*_, _<_}
+-- The rule sheet of a model, row by row and bit by bit: what its bits say.
+use Prim.Native.Nat.{ℕ, zero, suc, _+_, _-_, _*_, _≤_, _<_}
 use mathlib.Core.Path.{_≡_, refl, sym, ap, ap₂, _∙_}
 use mathlib.Core.Bool.{Bool, true, false}
 use mathlib.Core.List.{List, _++_}
@@ -12,7 +12,9 @@ use Rattle.mask.specs.Sets.{maskOf}
 use Rattle.mask.proofs.Whole.{length-maskOf, test-maskOf, maskOf-same}
 use Rattle.mask.proofs.Joined.{test-left, test-right}
 use Rattle.model.specs.Model.{Model}
-use Rattle.jobs.specs.Learn.{ruleRow, ruleRows}
+use Rattle.jobs.specs.Planning.{schemaOf}
+use Rattle.jobs.specs.Learn.{ruleRow, ruleRows, learnedFrom, ruleSheet}
+use Rattle.jobs.specs.SheetBits.{needSet, effectSet, sheetBit}
 
 module _ (M : Model) where
   pub length-row : (a : ℕ) → length (ruleRow M a) ≡ ruleSize
@@ -44,7 +46,7 @@ module _ (M : Model) where
       ∙ ap (ruleRow M) e
 
   -- a bit of the sheet is that of the move's row
-  pub sheet-bit : (n a i j : ℕ) → i < n → j < 1024 → testBit (ruleRows M n a) (1024 * i + j) ≡ testBit (ruleRow M (a + i)) j
+  sheet-bit : (n a i j : ℕ) → i < n → j < 1024 → testBit (ruleRows M n a) (1024 * i + j) ≡ testBit (ruleRow M (a + i)) j
   unfolding ruleRows
   sheet-bit zero a i j h l = absurd (omega arith)
   sheet-bit (suc n) a zero j h l =
@@ -79,29 +81,52 @@ module _ (M : Model) where
     unfolding P N A
     sizes = (length-maskOf setSize _, simp (length-append, length-maskOf), simp (length-append, length-maskOf))
 
-    pub bit-held : testBit (ruleRow M a) n ≡ M .precondition true a n
+    row-need : (b : Bool) → testBit (ruleRow M a) (256 * needSet b + n) ≡ M .precondition b a n
     unfolding ruleRow P N A R
-    bit-held =
-        test-left (P ++ N ++ A) R n (omega (arith, sizes)) ∙ test-left (P ++ N) A n (omega (arith, sizes)) ∙ test-left P N n (omega (arith, sizes))
+    row-need true =
+        let e : 256 * 0 + n ≡ n = omega arith in
+        ap (testBit (P ++ N ++ A ++ R)) e
+        ∙ test-left (P ++ N ++ A) R n (omega (arith, sizes)) ∙ test-left (P ++ N) A n (omega (arith, sizes)) ∙ test-left P N n (omega (arith, sizes))
         ∙ test-maskOf setSize (M .precondition true a) n h
-
-    pub bit-unheld : testBit (ruleRow M a) (256 + n) ≡ M .precondition false a n
-    unfolding ruleRow P N A R
-    bit-unheld =
+    row-need false =
         test-left (P ++ N ++ A) R (256 + n) (omega (arith, sizes)) ∙ test-left (P ++ N) A (256 + n) (omega (arith, sizes)) ∙ test-right P N 256 n (omega (arith, sizes))
         ∙ test-maskOf setSize (M .precondition false a) n h
 
-    pub bit-added : testBit (ruleRow M a) (512 + n) ≡ M .effect true a n
+    row-effect : (b : Bool) → testBit (ruleRow M a) (256 * effectSet b + n) ≡ M .effect b a n
     unfolding ruleRow P N A R
-    bit-added =
+    row-effect true =
         test-left (P ++ N ++ A) R (512 + n) (omega (arith, sizes)) ∙ test-right (P ++ N) A 512 n (omega (arith, sizes))
         ∙ test-maskOf setSize (M .effect true a) n h
+    row-effect false = test-right (P ++ N ++ A) R 768 n (omega (arith, sizes)) ∙ test-maskOf setSize (M .effect false a) n h
 
-    pub bit-removed : testBit (ruleRow M a) (768 + n) ≡ M .effect false a n
-    unfolding ruleRow P N A R
-    bit-removed =
-        test-right (P ++ N ++ A) R 768 n (omega (arith, sizes))
-        ∙ test-maskOf setSize (M .effect false a) n h
+  -- A bit of the sheet is what the model says of the bound fact.
+  module _ (moves a n : ℕ) (low : 1 ≤ a) (high : a ≤ moves) (small : n < 256) where
+    set-bit : (set : ℕ) → set < 4 → sheetBit (ruleRows M moves 1) set a n ≡ testBit (ruleRow M a) (256 * set + n)
+    unfolding sheetBit
+    set-bit set l =
+        let e : 1024 * (a - 1) + 256 * set + n ≡ 1024 * (a - 1) + (256 * set + n) = omega arith in
+        let b : 1 + (a - 1) ≡ a = omega arith in
+        ap (testBit (ruleRows M moves 1)) e
+        ∙ sheet-bit moves 1 (a - 1) (256 * set + n) (omega arith) (omega arith)
+        ∙ ap (λ (i : ℕ). testBit (ruleRow M i) (256 * set + n)) b
+
+    pub need-bit : (b : Bool) → sheetBit (ruleRows M moves 1) (needSet b) a n ≡ M .precondition b a n
+    need-bit true = set-bit (needSet true) (omega arith) ∙ row-need a n small true
+    need-bit false = set-bit (needSet false) (omega arith) ∙ row-need a n small false
+
+    pub effect-bit : (b : Bool) → sheetBit (ruleRows M moves 1) (effectSet b) a n ≡ M .effect b a n
+    effect-bit true = set-bit (effectSet true) (omega arith) ∙ row-effect a n small true
+    effect-bit false = set-bit (effectSet false) (omega arith) ∙ row-effect a n small false
+
+-- of the sheet that is learned from a book
+module _ (s : List ℕ) (a n : ℕ) (low : 1 ≤ a) (high : a ≤ schemaOf s .moves) (small : n < 256) (b : Bool) where
+  pub learned-need-bit : sheetBit (ruleSheet s) (needSet b) a n ≡ learnedFrom s .precondition b a n
+  unfolding ruleSheet
+  learned-need-bit = need-bit (learnedFrom s) (schemaOf s .moves) a n low high small b
+
+  pub learned-effect-bit : sheetBit (ruleSheet s) (effectSet b) a n ≡ learnedFrom s .effect b a n
+  unfolding ruleSheet
+  learned-effect-bit = effect-bit (learnedFrom s) (schemaOf s .moves) a n low high small b
 
 -- models with the same sets for a move have the same row
 pub row-same : (M L : Model) (a : ℕ) → ((b : Bool) (n : ℕ) → M .precondition b a n ≡ L .precondition b a n) → ((b : Bool) (n : ℕ) → M .effect b a n ≡ L .effect b a n)

@@ -1,2 +1,0 @@
--- What the contracts of a bound fact's line cite.
-pub mod SheetBits
