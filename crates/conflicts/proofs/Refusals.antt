@@ -17,6 +17,7 @@ use Rattle.terms.specs.Schema.{Schema}
 use Rattle.model.specs.Quantify.{any}
 use Rattle.jobs.specs.Learn.{conflictAnswer}
 use Rattle.atoms.specs.Atoms.{atomSet}
+use Rattle.held.specs.Held.{alwaysAfter, everAfter, added, deleted}
 use Rattle.held.specs.Rules.{heldSet, unboundAnswer, conflictHeld, inUse, conflictSet}
 
 -- ---- something is in a set
@@ -42,15 +43,15 @@ any-common (x ∷ m) (suc y ∷ n) e = clash true refl (sym (ap (λ (t : Bool). 
 
 -- ---- row 12 of one move, put together from what the calls in the code return
 module _ (l : List ℕ) (a : ℕ) where
-  pub conflict-set-by : {x₄ added x₅ removed r : List ℕ}
-      → x₄ ≡ heldSet l a 4
-      → added ≡ difference x₄ (heldSet l a 2)
-      → x₅ ≡ heldSet l a 5
-      → removed ≡ intersection x₅ (heldSet l a 3)
-      → r ≡ union added removed
+  pub conflict-set-by : {x unkept y kept r : List ℕ}
+      → x ≡ heldSet l a added
+      → unkept ≡ difference x (heldSet l a alwaysAfter)
+      → y ≡ heldSet l a deleted
+      → kept ≡ intersection y (heldSet l a everAfter)
+      → r ≡ union unkept kept
       → r ≡ conflictSet l a
   unfolding conflictSet
-  conflict-set-by e₄ f e₅ g u = rw (u, f, g, e₄, e₅)
+  conflict-set-by e f g h u = rw (u, f, h, e, g)
 
   module _ (sch : Schema) {either : List ℕ} (e : either ≡ conflictSet l a) where
     pub conflicting-by : {atoms named : List ℕ} {r : Bool} → atoms ≡ atomSet sch a → named ≡ intersection atoms either → r ≡ inUse named → r ≡ conflictHeld sch l a

@@ -40,8 +40,18 @@ fn conflict_set(held: &[u8], m: Move) -> [u8; 32]
     requires { ⌜ MoveHeld (now held) (m .0) ⌝ }
     ensures { λ r. ⌜ r ≡ conflictSet (now (held .entry)) (m .0) ⌝ }
 {
-    let added = rulesheet::outside_held(rulesheet::held_set(held, m, 4), held, m, 2);
-    let removed = rulesheet::within_held(rulesheet::held_set(held, m, 5), held, m, 3);
+    let added = rulesheet::outside_held(
+        rulesheet::held_set(held, m, held::ADDED),
+        held,
+        m,
+        held::ALWAYS_AFTER,
+    );
+    let removed = rulesheet::within_held(
+        rulesheet::held_set(held, m, held::DELETED),
+        held,
+        m,
+        held::EVER_AFTER,
+    );
     mask::union32(added, removed)
 }
 

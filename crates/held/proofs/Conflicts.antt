@@ -21,6 +21,7 @@ use Rattle.model.specs.Learned.{after, turned, conflicting}
 use Rattle.model.proofs.Quantify.{below-in, below-out, below-cong, below-wide, least-same}
 use Rattle.jobs.specs.Planning.{domain}
 use Rattle.jobs.specs.Learn.{conflictAnswer, conflictingMove}
+use Rattle.held.specs.Held.{alwaysAfter, everAfter, added, deleted}
 use Rattle.held.specs.Rules.{heldSet, conflictHeld, conflictAmong, inUse, conflictSet}
 use Rattle.held.specs.Seen.{inSet, Seen}
 use Rattle.held.proofs.Noted.{length-heldSet}
@@ -77,17 +78,17 @@ module _ (sch : Schema) (few : sch .relations ≤ 16) (ts : List Transition) (l 
       sized k hk = length-heldSet l a k (seen .sized) h h′ hk
 
       says : (n : ℕ) → n < 256 → isAtom sch a n ≡ true
-          → testBit (union (difference (heldSet l a 4) (heldSet l a 2)) (intersection (heldSet l a 5) (heldSet l a 3))) n ≡ clashes n
+          → testBit (union (difference (heldSet l a added) (heldSet l a alwaysAfter)) (intersection (heldSet l a deleted) (heldSet l a everAfter))) n ≡ clashes n
       says n hn atom =
-          test-union (difference (heldSet l a 4) (heldSet l a 2)) (intersection (heldSet l a 5) (heldSet l a 3)) n
-          (omega (arith, length-difference (heldSet l a 4) (heldSet l a 2), length-intersection (heldSet l a 5) (heldSet l a 3), sized 4 (omega arith), sized 5 (omega arith)))
+          test-union (difference (heldSet l a added) (heldSet l a alwaysAfter)) (intersection (heldSet l a deleted) (heldSet l a everAfter)) n
+          (omega (arith, length-difference (heldSet l a added) (heldSet l a alwaysAfter), length-intersection (heldSet l a deleted) (heldSet l a everAfter), sized added (omega arith), sized deleted (omega arith)))
           ∙ rw (
             test-difference,
             test-intersection,
-            seen .says 2 (omega arith) a h h′ n hn atom,
-            seen .says 3 (omega arith) a h h′ n hn atom,
-            seen .says 4 (omega arith) a h h′ n hn atom,
-            seen .says 5 (omega arith) a h h′ n hn atom,
+            seen .says alwaysAfter (omega arith) a h h′ n hn atom,
+            seen .says everAfter (omega arith) a h h′ n hn atom,
+            seen .says added (omega arith) a h h′ n hn atom,
+            seen .says deleted (omega arith) a h h′ n hn atom,
             Bool·not-not,
           )
 

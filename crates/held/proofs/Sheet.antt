@@ -16,6 +16,7 @@ use Rattle.model.specs.Learned.{learned}
 use Rattle.jobs.specs.Planning.{domain}
 use Rattle.jobs.specs.Learn.{ruleRow, ruleRows}
 use Rattle.atoms.specs.Atoms.{atomSet}
+use Rattle.held.specs.Held.{alwaysBefore, everBefore, added, deleted}
 use Rattle.held.specs.Rules.{heldSet, ruleSet, rulesHeld, sheetHeld}
 use Rattle.held.specs.Seen.{inSet, Seen}
 
@@ -39,10 +40,10 @@ module _ (sch : Schema) (ts : List Transition) (l : List ℕ) (seen : Seen sch t
   pub rules-row : (a : ℕ) → 1 ≤ a → a ≤ 32 → rulesHeld sch l a ≡ ruleRow (learned (domain sch) ts) a
   unfolding rulesHeld ruleSet ruleRow learned domain inSet
   rules-row a h h′ = rw (
-    atoms-in sch a (heldSet l a 0) (inSet ts 0 a) (λ n. seen .says 0 (omega arith) a h h′ n),
-    atoms-out sch a (heldSet l a 1) (inSet ts 1 a) (λ n. seen .says 1 (omega arith) a h h′ n),
-    atoms-in sch a (heldSet l a 4) (inSet ts 4 a) (λ n. seen .says 4 (omega arith) a h h′ n),
-    atoms-in sch a (heldSet l a 5) (inSet ts 5 a) (λ n. seen .says 5 (omega arith) a h h′ n),
+    atoms-in sch a (heldSet l a alwaysBefore) (inSet ts alwaysBefore a) (λ n. seen .says alwaysBefore (omega arith) a h h′ n),
+    atoms-out sch a (heldSet l a everBefore) (inSet ts everBefore a) (λ n. seen .says everBefore (omega arith) a h h′ n),
+    atoms-in sch a (heldSet l a added) (inSet ts added a) (λ n. seen .says added (omega arith) a h h′ n),
+    atoms-in sch a (heldSet l a deleted) (inSet ts deleted a) (λ n. seen .says deleted (omega arith) a h h′ n),
   )
 
   -- and so is the whole sheet.

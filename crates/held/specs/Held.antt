@@ -9,8 +9,32 @@ use Rattle.mask.specs.Sets.{maskOf, intersection, union, difference}
 use Rattle.format.specs.Decode.{Filed, recordFiled}
 use Rattle.held.specs.Inverse.{atomsIn, unboundChanged}
 
--- The sets, in order: 0 held before every step of the move, 1 before some; 2 held after every step, 3 after some; 4 added, 5 removed.
--- `named` is 0 where no step is named.
+-- ---- the six sets of a move, numbered in their order; src/lib.rt has the numbers for code
+
+-- what held before every step of the move, and before some
+abbrev pub alwaysBefore : ℕ
+alwaysBefore = 0
+
+abbrev pub everBefore : ℕ
+everBefore = 1
+
+-- what held after every step, and after some
+abbrev pub alwaysAfter : ℕ
+alwaysAfter = 2
+
+abbrev pub everAfter : ℕ
+everAfter = 3
+
+-- what some step added, and what some step removed
+abbrev pub added : ℕ
+added = 4
+
+abbrev pub deleted : ℕ
+deleted = 5
+
+-- ---- what is held
+
+-- `named` is 0 where no step is named
 pub record Held : Type 0 where
   pub masks : List ℕ
   pub named : ℕ
@@ -26,12 +50,12 @@ onSet at f l = take at l ++ f (take setSize (drop at l)) ++ drop (at + setSize) 
 -- one step of a move, by its bound facts that hold before and after
 unfoldable pub noted : ℕ → List ℕ → List ℕ → List ℕ → List ℕ
 noted a before after l =
-    onSet (setAt a 5) (λ m. union m (difference before after))
-    (onSet (setAt a 4) (λ m. union m (difference after before))
-    (onSet (setAt a 3) (λ m. union m after)
-    (onSet (setAt a 2) (λ m. intersection m after)
-    (onSet (setAt a 1) (λ m. union m before)
-    (onSet (setAt a 0) (λ m. intersection m before) l)))))
+    onSet (setAt a deleted) (λ m. union m (difference before after))
+    (onSet (setAt a added) (λ m. union m (difference after before))
+    (onSet (setAt a everAfter) (λ m. union m after)
+    (onSet (setAt a alwaysAfter) (λ m. intersection m after)
+    (onSet (setAt a everBefore) (λ m. union m before)
+    (onSet (setAt a alwaysBefore) (λ m. intersection m before) l)))))
 
 -- the offset of the first step that row 11 names, by what it named before and whether it names the step at an offset
 unfoldable pub firstNamed : ℕ → Bool → ℕ → ℕ
@@ -56,4 +80,4 @@ heldAfter s at h = holdAll (recordFiled s at) h
 
 -- before any record: what holds at every one of no steps is everything
 unfoldable pub nothingSeen : Held
-nothingSeen = record { masks = maskOf heldSize (λ i. eqb (i / maxAtoms % heldSets) 0 || eqb (i / maxAtoms % heldSets) 2); named = 0 }
+nothingSeen = record { masks = maskOf heldSize (λ i. eqb (i / maxAtoms % heldSets) alwaysBefore || eqb (i / maxAtoms % heldSets) alwaysAfter); named = 0 }

@@ -12,7 +12,7 @@ use Rattle.model.specs.Domain.{Transition}
 use Rattle.model.specs.Learned.{before, after, turned}
 use Rattle.held.specs.Rules.{heldSet}
 
--- whether bound fact n is in set k of the move: held before every step, before some, after every step, after some; added; removed
+-- whether bound fact n is in set k of the move, the sets in their order: alwaysBefore, everBefore, alwaysAfter, everAfter, added, deleted (Held.antt)
 unfoldable pub inSet : List Transition → ℕ → ℕ → ℕ → Bool
 inSet ts zero a n = not (before ts false a n)
 inSet ts (suc zero) a n = before ts true a n

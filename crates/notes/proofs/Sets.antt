@@ -1,15 +1,14 @@
 -- Sets in the bytes of what is held: a part that was lent and came back, and a step's six sets. Uses the definitions of held, and the kit's for
 -- a part of a slice.
 use Prim.Native.Nat.{ℕ, _+_, _-_, _*_}
-use mathlib.Core.Path.{_≡_, refl, sym, _∙_}
+use mathlib.Core.Path.{_≡_, sym}
 use mathlib.Core.List.{List, append-assoc}
-use native.Mathlib.Nat.{add-zero}
 use native.Mathlib.Omega.{arith}
 use borrow.Rule.Slice.PartMut.{midOf, putMid}
 use lib.ListN.{take, drop}
 use lib.Seq.{drop-drop}
 use Rattle.mask.specs.Sets.{intersection, union, difference}
-use Rattle.held.specs.Held.{setAt, onSet, noted}
+use Rattle.held.specs.Held.{alwaysBefore, everBefore, alwaysAfter, everAfter, added, deleted, setAt, onSet, noted}
 use Rattle.notes.specs.Notes.{narrowed, widened}
 
 set-back : (f : List ℕ → List ℕ) (at k : ℕ) (l m : List ℕ) → k ≡ 32 → m ≡ f (midOf at k l) → putMid at k l m ≡ onSet at f l
@@ -27,26 +26,21 @@ module _ (at : ℕ) (l m other : List ℕ) where
   unfolding widened
   widened-back e = set-back (λ x. union x other) at (at + 32 - at) l m (omega arith) e
 
-place : (a at n k : ℕ) → at ≡ 192 * (a - 1) → n ≡ 32 * k → at + n ≡ setAt a k
+set-place : (a at k : ℕ) → at ≡ 192 * (a - 1) → at + 32 * k ≡ setAt a k
 unfolding setAt
-place a at n k e d = omega arith
+set-place a at k e = omega arith
 
 module _ (a : ℕ) (before after l l₁ l₂ l₃ l₄ l₅ l₆ : List ℕ) where
   pub noted-by : (at : ℕ)
       → at ≡ 192 * (a - 1)
-      → l₁ ≡ narrowed at before l
-      → l₂ ≡ widened (at + 32) before l₁
-      → l₃ ≡ narrowed (at + 64) after l₂
-      → l₄ ≡ widened (at + 96) after l₃
-      → l₅ ≡ widened (at + 128) (difference after before) l₄
-      → l₆ ≡ widened (at + 160) (difference before after) l₅
+      → l₁ ≡ narrowed (at + 32 * alwaysBefore) before l
+      → l₂ ≡ widened (at + 32 * everBefore) before l₁
+      → l₃ ≡ narrowed (at + 32 * alwaysAfter) after l₂
+      → l₄ ≡ widened (at + 32 * everAfter) after l₃
+      → l₅ ≡ widened (at + 32 * added) (difference after before) l₄
+      → l₆ ≡ widened (at + 32 * deleted) (difference before after) l₅
       → l₆ ≡ noted a before after l
   unfolding noted narrowed widened
   noted-by at e e₁ e₂ e₃ e₄ e₅ e₆ =
-      let o₀ : at ≡ setAt a 0 = sym (add-zero at) ∙ place a at 0 0 e refl in
-      let o₁ = place a at 32 1 e refl in
-      let o₂ = place a at 64 2 e refl in
-      let o₃ = place a at 96 3 e refl in
-      let o₄ = place a at 128 4 e refl in
-      let o₅ = place a at 160 5 e refl in
-      rw (e₆, e₅, e₄, e₃, e₂, e₁, o₅, o₄, o₃, o₂, o₁, o₀)
+      let place : (k : ℕ) → at + 32 * k ≡ setAt a k = λ k. set-place a at k e in
+      rw (e₆, e₅, e₄, e₃, e₂, e₁, place deleted, place added, place everAfter, place alwaysAfter, place everBefore, place alwaysBefore)

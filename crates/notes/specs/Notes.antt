@@ -7,7 +7,7 @@ use lib.Dec.{eqb}
 use Rattle.limits.specs.Limits.{setSize, heldSets}
 use Rattle.mask.specs.Sets.{intersection, union}
 use Rattle.format.specs.Decode.{filedStep}
-use Rattle.held.specs.Held.{Held, onSet, hold}
+use Rattle.held.specs.Held.{alwaysBefore, alwaysAfter, Held, onSet, hold}
 
 -- the set at an offset, intersected and united with another
 unfoldable pub narrowed : ℕ → List ℕ → List ℕ → List ℕ
@@ -25,6 +25,6 @@ pub record Holds (h : Held) (bytes : List ℕ) (offset : ℕ) : Type 0 where
   pub masks : bytes ≡ h .masks
   pub named : offset ≡ h .named
 
--- byte i of what is held before any record: sets 0 and 2 of each move, which hold what is so at every step, have everything
+-- byte i of what is held before any record: the two sets of each move that hold what is so at every step have everything
 unfoldable pub firstByte : ℕ → ℕ
-firstByte i = cond (eqb (i / setSize % heldSets) 0 || eqb (i / setSize % heldSets) 2) 255 0
+firstByte i = cond (eqb (i / setSize % heldSets) alwaysBefore || eqb (i / setSize % heldSets) alwaysAfter) 255 0

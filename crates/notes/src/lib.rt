@@ -45,12 +45,12 @@ fn note(held: &mut [u8], a: Move, before: [u8; 32], after: [u8; 32])
     ensures { λ _. ⌜ now (held .exit) ≡ noted (a .0) before after (now (held .entry)) ⌝ }
 {
     let at = limits::HELD_PER_MOVE * (a.0 as usize - 1);
-    narrow(held, at, before);
-    widen(held, at + limits::SET_SIZE, before);
-    narrow(held, at + 2 * limits::SET_SIZE, after);
-    widen(held, at + 3 * limits::SET_SIZE, after);
-    widen_by_change(held, at + 4 * limits::SET_SIZE, before, after);
-    widen_by_change(held, at + 5 * limits::SET_SIZE, after, before);
+    narrow(held, at + limits::SET_SIZE * held::ALWAYS_BEFORE, before);
+    widen(held, at + limits::SET_SIZE * held::EVER_BEFORE, before);
+    narrow(held, at + limits::SET_SIZE * held::ALWAYS_AFTER, after);
+    widen(held, at + limits::SET_SIZE * held::EVER_AFTER, after);
+    widen_by_change(held, at + limits::SET_SIZE * held::ADDED, before, after);
+    widen_by_change(held, at + limits::SET_SIZE * held::DELETED, after, before);
 }
 
 // The offset of the first step that row 11 names, 0 for none: `named` of the steps before, and the step at `at` if it is `unbound`.
@@ -88,7 +88,7 @@ fn first_byte(i: usize) -> u8
     ensures { λ r. ⌜ r ≡ firstByte i ⌝ }
 {
     let set = i / limits::SET_SIZE % limits::HELD_SETS;
-    if (set == 0) | (set == 2) {
+    if (set == held::ALWAYS_BEFORE) | (set == held::ALWAYS_AFTER) {
         return 255;
     }
     0

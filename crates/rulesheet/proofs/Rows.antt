@@ -11,6 +11,7 @@ use Rattle.mask.proofs.Whole.{length-maskOf}
 use Rattle.terms.specs.Schema.{Schema}
 use Rattle.terms.specs.Steps.{isAtom}
 use Rattle.atoms.specs.Atoms.{atomSet}
+use Rattle.held.specs.Held.{alwaysBefore, everBefore, added, deleted}
 use Rattle.held.specs.Rules.{heldSet, ruleSet, rulesHeld, sheetHeld}
 use Rattle.output.specs.Written.{written}
 use Rattle.rulesheet.specs.Sheet.{ruleSets, row}
@@ -34,10 +35,10 @@ row-by d a b c e {p} {q} {r} {t} h (f, la) (g, lb) (j, lc) (k, le) =
 module _ (sch : Schema) (l : List ℕ) where
   pub rules-by : (a : ℕ) {atoms pos neg add delete : List ℕ}
       → atoms ≡ atomSet sch a
-      → pos ≡ intersection atoms (heldSet l a 0)
-      → neg ≡ difference atoms (heldSet l a 1)
-      → add ≡ intersection atoms (heldSet l a 4)
-      → delete ≡ intersection atoms (heldSet l a 5)
+      → pos ≡ intersection atoms (heldSet l a alwaysBefore)
+      → neg ≡ difference atoms (heldSet l a everBefore)
+      → add ≡ intersection atoms (heldSet l a added)
+      → delete ≡ intersection atoms (heldSet l a deleted)
       → _≡_ {A = List (List ℕ)} (pos ∷ neg ∷ add ∷ delete ∷ []) (ruleSets sch l a)
   unfolding ruleSets ruleSet
   rules-by a e f g j k = rw (f, g, j, k, e)

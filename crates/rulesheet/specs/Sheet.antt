@@ -1,10 +1,12 @@
 -- Rules in memory: a move's four sets as an array, and as the 128 bytes of its row. Uses the sets of held.
 use Prim.Native.Nat.{ℕ, _≤_}
 use mathlib.Core.Path.{_≡_}
+use mathlib.Core.Bool.{true, false}
 use mathlib.Core.List.{List, [], _∷_, _++_}
 use lib.ListN.{length, getD}
 use Rattle.limits.specs.Limits.{heldSize, maxMoves}
 use Rattle.terms.specs.Schema.{Schema}
+use Rattle.jobs.specs.SheetBits.{needSet, effectSet}
 use Rattle.held.specs.Rules.{ruleSet}
 
 -- what is held has its size, and the move is one of those that it has sets of
@@ -12,8 +14,9 @@ abbrev pub MoveHeld : List ℕ → ℕ → Type 0
 MoveHeld l a = (length l ≡ heldSize) × (1 ≤ a) × (a ≤ maxMoves)
 
 unfoldable pub ruleSets : Schema → List ℕ → ℕ → List (List ℕ)
-ruleSets sch l a = ruleSet sch l a 0 ∷ ruleSet sch l a 1 ∷ ruleSet sch l a 2 ∷ ruleSet sch l a 3 ∷ []
+ruleSets sch l a =
+    ruleSet sch l a (needSet true) ∷ ruleSet sch l a (needSet false) ∷ ruleSet sch l a (effectSet true) ∷ ruleSet sch l a (effectSet false) ∷ []
 
 -- the four sets one after the other
 unfoldable pub row : List (List ℕ) → List ℕ
-row r = getD r 0 [] ++ getD r 1 [] ++ getD r 2 [] ++ getD r 3 []
+row r = getD r (needSet true) [] ++ getD r (needSet false) [] ++ getD r (effectSet true) [] ++ getD r (effectSet false) []

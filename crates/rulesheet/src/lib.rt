@@ -55,10 +55,10 @@ pub fn rules_of(book: &[u8], h: Sections, held: &[u8], m: Move) -> [[u8; 32]; 4]
     ensures { λ r. ⌜ r ≡ ruleSets (schema h (now (book .entry))) (now (held .entry)) (m .0) ⌝ }
 {
     let atoms = atoms::atom_set(book, h, m);
-    let pre_pos = within_held(atoms, held, m, 0);
-    let pre_neg = outside_held(atoms, held, m, 1);
-    let add = within_held(atoms, held, m, 4);
-    let delete = within_held(atoms, held, m, 5);
+    let pre_pos = within_held(atoms, held, m, held::ALWAYS_BEFORE);
+    let pre_neg = outside_held(atoms, held, m, held::EVER_BEFORE);
+    let add = within_held(atoms, held, m, held::ADDED);
+    let delete = within_held(atoms, held, m, held::DELETED);
     [pre_pos, pre_neg, add, delete]
 }
 
@@ -83,10 +83,10 @@ fn write_rules(part: &mut [u8], rules: [[u8; 32]; 4])
     requires { ⌜ ruleSize ≤ length (now part) ⌝ }
     ensures { λ _. ⌜ now (part .exit) ≡ written (now (part .entry)) 0 (row rules) ⌝ }
 {
-    let pre_pos = rules[0];
-    let pre_neg = rules[1];
-    let add = rules[2];
-    let delete = rules[3];
+    let pre_pos = rules[jobs::PRE_POS];
+    let pre_neg = rules[jobs::PRE_NEG];
+    let add = rules[jobs::ADD];
+    let delete = rules[jobs::DELETE];
     write_set(part, 0, pre_pos);
     write_set(part, PRE_NEG_AT, pre_neg);
     write_set(part, ADD_AT, add);

@@ -7,13 +7,11 @@ use Rattle.conflicts.proofs.Refusals.{conflicting-named}
 use Rattle.conflicts.proofs.conflict_among.Statement.{statement}
 use Rattle.conflicts.proofs.conflict_among.Tie as tie
 
-returns : tie.Need-returns
-unfolding conflictAmong conflictAnswer
-returns c = rw (sym (c .before .first-conflict .ensures) ∙ c .if1 .taken)
-
-returns-2 : tie.Need-returns-2
-unfolding conflictAmong
-returns-2 c = conflicting-named _ (c .if1 .left) ∙ ap conflictAnswer (c .before .first-conflict .ensures)
-
 pub conflict-among-spec : {M : Type 1} → statement M
-conflict-among-spec = tie.close (tie.spec (λ c κs. search needs) returns returns-2)
+unfolding conflictAmong conflictAnswer
+conflict-among-spec =
+    tie.close
+    (tie.spec
+    (λ c κs. search needs)
+    (λ c. rw (sym (c .before .first-conflict .ensures) ∙ c .if1 .taken))
+    (λ c. conflicting-named _ (c .if1 .left) ∙ ap conflictAnswer (c .before .first-conflict .ensures)))

@@ -8,12 +8,5 @@ pub conflicting-spec : {M : Type 1} → statement M
 conflicting-spec =
     tie.close
     (tie.spec
-    (λ c κs. search needs)
-    (λ c. search needs)
-    (λ c κs. search needs)
-    (λ c. search conflicting-none)
-    (λ c κs. search needs)
-    (λ c κs. search needs)
-    (λ c. search needs)
-    (λ c κs. search needs)
-    (λ c. search conflicting-by))
+    (λ c κs. search needs) (λ c. search needs) (λ c κs. search needs) (λ c. search conflicting-none) (λ c κs. search needs)
+    (λ c κs. search needs) (λ c. search needs) (λ c κs. search needs) (λ c. search conflicting-by))

@@ -35,14 +35,5 @@ pub first-conflict-spec : {M : Type 1} → statement M
 first-conflict-spec =
     tie.close
     (tie.spec
-    Inv-loop
-    μ-loop
-    (λ c. search needs)
-    (λ c. (omega arith, least-first _))
-    (λ c. omega arith)
-    (λ c. omega arith)
-    (λ c κs. search needs)
-    returns
-    (λ c. omega arith)
-    loop-again
-    returns-2)
+    Inv-loop μ-loop (λ c. search needs) (λ c. (omega arith, least-first _)) (λ c. omega arith) (λ c. omega arith) (λ c κs. search needs)
+    returns (λ c. omega arith) loop-again returns-2)

@@ -24,19 +24,9 @@ loop-again c =
     let d = c .before .before in
     sym (in-use-later _ _ (d .loop-test .taken) (c .if1 .left)) ∙ d .before .loop .inv
 
-returns-2 : tie.Need-returns-2 Inv-loop μ-loop
-returns-2 c = sym (in-use-none _ _ (c .loop-test .left)) ∙ c .before .loop .inv
-
 pub in-use-spec : {M : Type 1} → statement M
 in-use-spec =
     tie.close
     (tie.spec
-    Inv-loop
-    μ-loop
-    (λ c. refl)
-    (λ c. omega arith)
-    returns
-    (λ c. omega arith)
-    (λ c. omega arith)
-    loop-again
-    returns-2)
+    Inv-loop μ-loop (λ c. refl) (λ c. omega arith) returns (λ c. omega arith) (λ c. omega arith) loop-again
+    (λ c. sym (in-use-none _ _ (c .loop-test .left)) ∙ c .before .loop .inv))

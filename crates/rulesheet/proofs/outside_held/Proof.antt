@@ -13,8 +13,4 @@ returns c =
 pub outside-held-spec : {M : Type 1} → statement M
 outside-held-spec =
     tie.close
-    (tie.spec
-    (λ c κs. search needs)
-    (λ c κs. search needs)
-    (λ c κs. search needs)
-    returns)
+    (tie.spec (λ c κs. search needs) (λ c κs. search needs) (λ c κs. search needs) returns)

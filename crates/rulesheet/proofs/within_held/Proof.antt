@@ -7,6 +7,5 @@ pub within-held-spec : {M : Type 1} → statement M
 within-held-spec =
     tie.close
     (tie.spec
-    (λ c κs. search needs)
-    (λ c κs. search needs)
+    (λ c κs. search needs) (λ c κs. search needs)
     (λ c. rw (← c .before .held-set .ensures) (c .intersection32 .ensures)))
