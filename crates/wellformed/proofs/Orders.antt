@@ -2,7 +2,7 @@
 use Prim.Native.Nat.{ℕ, zero, suc, _+_, _*_, _≤_, _<_}
 use mathlib.Core.Path.{_≡_, refl, ap, subst}
 use mathlib.Core.Bool.{true, false}
-use mathlib.Core.List.{List}
+use mathlib.Core.List.{List, map}
 use native.Mathlib.Omega.{arith}
 use lib.ListN.{length}
 use Rattle.answer.specs.declared.Answer.the-variants.{Good}
@@ -14,7 +14,7 @@ use Rattle.terms.specs.declared.Step.{Step}
 use Rattle.terms.specs.Schema.{Schema, Hall, hall}
 use Rattle.terms.specs.Facts.{factAt, factBad, noFact}
 use Rattle.terms.specs.Steps.{stepAt, stepBad, repeats, isAtom}
-use Rattle.limits.specs.Limits.{entrySize, stepSize}
+use Rattle.limits.specs.Limits.{maxObjects, entrySize, stepSize}
 use Rattle.format.specs.Order.{GoalEntry, startCount, goalCount, stepCount, startAt, goalAt, stepsAt, orderObjects, entries, planStep, orderForm, startFacts, goalFrom, goal, planFrom, plan, entryAt, planStepBad}
 use Rattle.format.proofs.Chains.{chain-parted}
 use Rattle.format.proofs.Orders.{plan-step-entry, goal-chain, goal-entry-suits}
@@ -82,27 +82,31 @@ order-right sch o n e =
       steps = plan-right sch hl o (stepCount o) (stepsAt o) (length o) (g .plan);
     }
 
--- The plan of an order of good form meets the hypothesis of `model`.
-pub grounded : (sch : Schema) (o : List ℕ) (n : ℕ) → orderForm sch o ≡ Good n → Grounded (domain sch) (planOf sch o)
-unfolding planOf
-grounded sch o n e t m =
-    let right = order-right sch o n e in
-    let (st, k, q) = mem-map-out (groundAction sch) (plan o) m in
-    subst (λ (u : GroundAction). Proper (domain sch) u) q (step-proper sch (orderHall o) st (right .steps st k) (right .few))
+-- Steps that are right over some objects, wherever they stand, meet the hypothesis of `model`,
+module _ (sch : Schema) (hl : Hall) (few : hl .count ≤ maxObjects) (steps : List Step) (right : (st : Step) → Mem st steps → RightStep sch hl st) where
+  pub steps-grounded : Grounded (domain sch) (map (groundAction sch) steps)
+  steps-grounded t m =
+      let (st, k, q) = mem-map-out (groundAction sch) steps m in
+      subst (λ (u : GroundAction). Proper (domain sch) u) q (step-proper sch hl st (right st k) few)
 
--- The atoms of its steps become facts that the domain counts,
-pub plan-under : (sch : Schema) (o : List ℕ) (n : ℕ) → orderForm sch o ≡ Good n
-    → (t : GroundAction) → Mem t (planOf sch o) → (k : ℕ) → isAtom sch (t .action) k ≡ true → t .ground k < 256 * sch .relations
-unfolding planOf groundAction
-plan-under sch o n e t m =
-    let right = order-right sch o n e in
-    let (st, k, q) = mem-map-out (groundAction sch) (plan o) m in
-    subst (λ (u : GroundAction). (k : ℕ) → isAtom sch (u .action) k ≡ true → u .ground k < 256 * sch .relations) q
-    (ground-below sch (orderHall o) st (right .steps st k) (right .few))
+  -- and their atoms become facts that the domain counts.
+  pub steps-under : (t : GroundAction) → Mem t (map (groundAction sch) steps) → (k : ℕ) → isAtom sch (t .action) k ≡ true → t .ground k < 256 * sch .relations
+  unfolding groundAction
+  steps-under t m =
+      let (st, k, q) = mem-map-out (groundAction sch) steps m in
+      subst (λ (u : GroundAction). (k : ℕ) → isAtom sch (u .action) k ≡ true → u .ground k < 256 * sch .relations) q (ground-below sch hl st (right st k) few)
 
--- and so are its start facts.
-pub start-under : (sch : Schema) (o : List ℕ) (n : ℕ) → orderForm sch o ≡ Good n → (k : ℕ) → 256 * sch .relations ≤ k → startState o k ≡ false
-unfolding startState
-start-under sch o n e =
-    let right = order-right sch o n e in
-    holding-below sch (orderHall o) (right .few) (startFacts o) (right .start)
+-- So does the plan of an order of good form,
+module _ (sch : Schema) (o : List ℕ) (n : ℕ) (e : orderForm sch o ≡ Good n) where
+  pub grounded : Grounded (domain sch) (planOf sch o)
+  unfolding planOf
+  grounded = let right = order-right sch o n e in steps-grounded sch (orderHall o) (right .few) (plan o) (right .steps)
+
+  pub plan-under : (t : GroundAction) → Mem t (planOf sch o) → (k : ℕ) → isAtom sch (t .action) k ≡ true → t .ground k < 256 * sch .relations
+  unfolding planOf
+  plan-under = let right = order-right sch o n e in steps-under sch (orderHall o) (right .few) (plan o) (right .steps)
+
+  -- and its start facts are counted too.
+  pub start-under : (k : ℕ) → 256 * sch .relations ≤ k → startState o k ≡ false
+  unfolding startState
+  start-under = let right = order-right sch o n e in holding-below sch (orderHall o) (right .few) (startFacts o) (right .start)
