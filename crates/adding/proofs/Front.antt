@@ -1,6 +1,6 @@
 -- Rows 1 to 5 of the new book, where the old one is of good form: only the record count can be refused.
-use Prim.Native.Nat.{ℕ, _+_, _*_, _≤_, _<_}
-use mathlib.Core.Path.{_≡_, _∙_}
+use Prim.Native.Nat.{ℕ, _+_, _-_, _*_, _≤_, _<_}
+use mathlib.Core.Path.{_≡_, refl, _∙_}
 use mathlib.Core.Bool.{false}
 use mathlib.Core.List.{List}
 use native.Mathlib.Omega.{arith}
@@ -17,28 +17,31 @@ use Rattle.limits.specs.Limits.{headerSize, maxLength, maxKinds, maxRelations, 
 use Rattle.format.specs.Header.{lengthBad, countsBad, offsetsBad, relationBad, moveBad, relation, move, sections}
 use Rattle.jobs.specs.Add.{added}
 use Rattle.format.proofs.Header.{relation-entry, move-entry}
-use Rattle.lookover.proofs.Laws.{LookedOver}
+use Rattle.format.proofs.Reading.{Copied, relation-copied, move-copied}
+use Rattle.format.proofs.LookOver.{LookedOver}
 use Rattle.adding.specs.ReadBack.{oneMore}
 use Rattle.adding.proofs.Formed.{length-added}
-use Rattle.adding.proofs.Kept.{long, same}
-use Rattle.adding.proofs.Reading.{relation-same, move-same}
+use Rattle.adding.proofs.Kept.{long, kept}
 
 -- for an old book of good form
 module _ (s r : List ℕ) (n : ℕ) (was : LookedOver s n) (most : length s + length r ≤ maxLength) where
+  behind-header : Copied s headerSize (added s r) headerSize (length s - headerSize)
+  behind-header = kept s r n was most headerSize (omega arith) (long s r n was most)
+
   relations-good : (i : ℕ)
       → i < sectionsOf s .relations .count
       → relationBad (added s r) (sectionsOf s .kinds) (sectionsOf s .relations .at + relationSize * i) ≡ false
   relations-good i l =
       let o = was .sections .offsets in
-      relation-same s (added s r) (same s r n was most) (sectionsOf s .kinds) (sectionsOf s .relations .at + relationSize * i)
-      (omega (arith, o .relations)) (omega (arith, o .relations, o .moves, o .records, o .within))
+      relation-copied behind-header (sectionsOf s .relations .at + relationSize * i) (sectionsOf s .relations .at + relationSize * i)
+      (record { low = omega (arith, o .relations); level = refl }) (sectionsOf s .kinds) (omega (arith, o .relations, o .moves, o .records, o .within))
       ∙ was .sections .relations i l
 
   moves-good : (i : ℕ) → i < sectionsOf s .moves .count → moveBad (added s r) (sectionsOf s .kinds) (sectionsOf s .moves .at + moveSize * i) ≡ false
   moves-good i l =
       let o = was .sections .offsets in
-      move-same s (added s r) (same s r n was most) (sectionsOf s .kinds) (sectionsOf s .moves .at + moveSize * i)
-      (omega (arith, o .moves)) (omega (arith, o .records, o .within))
+      move-copied behind-header (sectionsOf s .moves .at + moveSize * i) (sectionsOf s .moves .at + moveSize * i)
+      (record { low = omega (arith, o .moves); level = refl }) (sectionsOf s .kinds) (omega (arith, o .records, o .within))
       ∙ was .sections .moves i l
 
   length-unmet : lengthBad (added s r) ≡ false

@@ -1,20 +1,28 @@
 -- What the new book keeps of an old one of good form: header, relations, moves and the bytes of the records.
-use Prim.Native.Nat.{ℕ, suc, _+_, _≤_, _<_}
-use mathlib.Core.Path.{_≡_, refl, sym}
-use mathlib.Core.List.{List}
+use Prim.Native.Nat.{ℕ, suc, _+_, _-_, _≤_, _<_}
+use mathlib.Core.Path.{_≡_, refl, sym, ap₂, _∙_}
+use mathlib.Core.List.{List, _++_}
 use native.Mathlib.Numerals.{add-one}
 use native.Mathlib.Omega.{arith}
 use lib.ListN.{length}
+use Rattle.answer.specs.declared.Answer.the-variants.{Good}
+use Rattle.answer.specs.Walk.{walk, walk-last}
 use Rattle.input.specs.Bytes.{byteAt, two}
 use Rattle.terms.specs.Sections.{sectionsOf}
-use Rattle.terms.specs.Schema.{schema, relationAt, moveAt}
+use Rattle.terms.specs.Schema.{schema}
 use Rattle.terms.specs.Agree.{SameSchema}
 use Rattle.terms.proofs.Agree.{same-by-bytes}
 use Rattle.limits.specs.Limits.{headerSize, maxLength}
-use Rattle.format.specs.Records.{stepsIn, body, recordAt}
+use Rattle.format.specs.Records.{stepsIn, recordAt}
+use Rattle.format.specs.LookOver.{stepTotal}
+use Rattle.format.specs.Decode.{recordFiled, recordsFiled, filed}
+use Rattle.jobs.specs.Planning.{schemaOf}
 use Rattle.jobs.specs.Add.{added}
-use Rattle.lookover.proofs.Laws.{LookedOver}
+use Rattle.format.proofs.Reading.{Copied}
+use Rattle.format.proofs.Copies.{placed-same, records-copied, all-filed-copied, filed-last}
+use Rattle.format.proofs.LookOver.{LookedOver}
 use Rattle.adding.specs.ReadBack.{oneMore}
+use Rattle.adding.proofs.Formed.{length-added}
 use Rattle.adding.proofs.NewBook.{not-renewed, byte-kept, byte-added, header-added}
 
 module _ (s r : List ℕ) (old : ℕ) (was : LookedOver s old) (most : length s + length r ≤ maxLength) where
@@ -29,21 +37,20 @@ module _ (s r : List ℕ) (old : ℕ) (was : LookedOver s old) (most : length s 
   pub header : sectionsOf (added s r) ≡ oneMore (sectionsOf s) (length s + length r)
   header = header-added s r long room (omega arith)
 
-  pub same : (i : ℕ) → headerSize ≤ i → i < length s → byteAt (added s r) i ≡ byteAt s i
+  same : (i : ℕ) → headerSize ≤ i → i < length s → byteAt (added s r) i ≡ byteAt s i
   same i h l = byte-kept s r long i l (not-renewed i h)
 
-  pub from : headerSize ≤ sectionsOf s .records .at
-  from =
-      let o = was .sections .offsets in
-      let a = o .moves in
-      let b = o .records in
-      omega arith
+  from : headerSize ≤ sectionsOf s .records .at
+  from = omega (arith, was .sections .offsets .moves, was .sections .offsets .records)
 
-  pub count-more : sectionsOf (added s r) .records .count ≡ suc (sectionsOf s .records .count)
+  pub kept : (at : ℕ) → headerSize ≤ at → at ≤ length s → Copied s at (added s r) at (length s - at)
+  kept at h l = record { within = omega (arith, length-added s r long); bytes = λ i k. same (at + i) (omega arith) (omega arith) }
+
+  count-more : sectionsOf (added s r) .records .count ≡ suc (sectionsOf s .records .count)
   unfolding oneMore
   count-more = rw (header, add-one)
 
-  pub start-same : sectionsOf (added s r) .records .at ≡ sectionsOf s .records .at
+  start-same : sectionsOf (added s r) .records .at ≡ sectionsOf s .records .at
   unfolding oneMore
   start-same = rw header
 
@@ -51,18 +58,44 @@ module _ (s r : List ℕ) (old : ℕ) (was : LookedOver s old) (most : length s 
   unfolding stepsIn
   steps-added = byte-added s r long 1
 
-  -- under either header the new book has one schema, and its records answer alike
-  pub schema-either : schema (sectionsOf (added s r)) (added s r) ≡ schema (sectionsOf s) (added s r)
-  unfolding oneMore schema relationAt moveAt
-  schema-either = rw header
+  pub kinds-kept : schemaOf (added s r) .kinds ≡ schemaOf s .kinds
+  unfolding schemaOf schema oneMore
+  kinds-kept = rw header
 
-  pub record-either : (at : ℕ) → recordAt (sectionsOf (added s r)) (added s r) at ≡ recordAt (sectionsOf s) (added s r) at
-  unfolding oneMore recordAt body
-  record-either at = rw (schema-either, header)
-
-  pub schema-kept : SameSchema (schema (sectionsOf s) s) (schema (sectionsOf s) (added s r))
+  pub schema-kept : SameSchema (schemaOf s) (schemaOf (added s r))
+  unfolding schemaOf oneMore
   schema-kept =
       let o = was .sections .offsets in
-      same-by-bytes (sectionsOf s) (sectionsOf s) s (added s r) refl refl
+      rw header
+      (same-by-bytes (sectionsOf s) (oneMore (sectionsOf s) (length s + length r)) s (added s r) refl refl
       (λ i l. sym (same _ (omega (arith, o .relations)) (omega (arith, o .relations, o .moves, o .records, o .within))))
-      (λ i l. sym (same _ (omega (arith, o .moves)) (omega (arith, o .records, o .within))))
+      (λ i l. sym (same _ (omega (arith, o .moves)) (omega (arith, o .records, o .within)))))
+
+  -- the old records are good again, and what is filed in them stays
+  old-part : Copied s (sectionsOf s .records .at) (added s r) (sectionsOf s .records .at) (length s - sectionsOf s .records .at)
+  old-part = kept (sectionsOf s .records .at) from (was .sections .offsets .within)
+
+  records-kept : walk (recordAt (sectionsOf (added s r)) (added s r)) (sectionsOf s .records .count) (sectionsOf s .records .at) ≡ Good (length s)
+  unfolding schemaOf schema
+  records-kept =
+      let w = was .sections .offsets .within in
+      records-copied old-part (sectionsOf s) (sectionsOf (added s r)) (sym kinds-kept) schema-kept _ (length s) (length s) (omega arith) (omega arith) (was .records)
+
+  -- the new record comes behind them, and so do its steps
+  pub record-last : walk (recordAt (sectionsOf (added s r)) (added s r)) (sectionsOf (added s r) .records .count) (sectionsOf (added s r) .records .at)
+      ≡ recordAt (sectionsOf (added s r)) (added s r) (length s)
+  record-last =
+      ap₂ (λ (m start : ℕ). walk (recordAt (sectionsOf (added s r)) (added s r)) m start) count-more start-same ∙ walk-last _ _ _ _ records-kept
+
+  pub steps-last : (stepTotal (added s r) (sectionsOf (added s r) .records .count) (sectionsOf (added s r) .records .at) ≡ old + stepsIn r 0)
+      × (filed (sectionsOf (added s r)) (added s r) ≡ filed (sectionsOf s) s ++ recordFiled (added s r) (length s))
+  unfolding filed
+  steps-last =
+      let w = was .sections .offsets .within in
+      let n = sectionsOf s .records .count in
+      let at = sectionsOf s .records .at in
+      let (total, same) = all-filed-copied old-part (λ p. p) (λ p. p) (λ i. refl) (sectionsOf s) n (length s) (was .records) (omega arith) in
+      let (total′, filed′) = filed-last (sectionsOf (added s r)) (added s r) n at (length s) records-kept in (
+        rw (count-more, start-same) (omega (arith, total, total′, was .total, steps-added)),
+        rw (count-more, start-same) (filed′ ∙ rw (← placed-same (recordsFiled (added s r) n at), ← same, placed-same (recordsFiled s n at))),
+      )

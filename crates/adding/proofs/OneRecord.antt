@@ -1,6 +1,6 @@
 -- Looking over the new book, where the old one is of good form, is row 2 and then the record alone.
 use Prim.Native.Nat.{ℕ, _+_, _≤_, _<_}
-use mathlib.Core.Path.{_≡_, refl, sym, ap, ap₂, _∙_}
+use mathlib.Core.Path.{_≡_, refl, sym, ap, _∙_}
 use mathlib.Core.List.{List}
 use native.Mathlib.Omega.{arith}
 use borrow.Author.Tests.{le-ltb, lt-ltb}
@@ -10,51 +10,27 @@ use Rattle.answer.specs.declared.Answer.{Answer}
 use Rattle.answer.specs.declared.Answer.the-variants.{Good, Refused}
 use Rattle.answer.specs.Answer.{_>>=_, refuse}
 use Rattle.answer.specs.Laws.{refuse-met, refuse-unmet, bind-good, bind-unit, bind-assoc, bind-cong}
-use Rattle.answer.specs.Walk.{walk, walk-last, walk-again}
+use Rattle.answer.specs.Walk.{walk}
 use Rattle.terms.specs.declared.Sections.{Sections}
 use Rattle.terms.specs.Sections.{sectionsOf}
-use Rattle.limits.specs.Limits.{headerSize, maxLength, maxRecords}
+use Rattle.limits.specs.Limits.{maxLength, maxRecords}
 use Rattle.format.specs.Header.{sections}
-use Rattle.format.specs.Records.{stepsIn, recordAt}
+use Rattle.format.specs.Records.{stepsIn}
 use Rattle.format.specs.LookOver.{stepTotal, lookOverBy, lookOver, allRecords}
 use Rattle.jobs.specs.Add.{added}
-use Rattle.lookover.proofs.Laws.{LookedOver, look-over-good}
+use Rattle.format.proofs.LookOver.{LookedOver, look-over-good}
 use Rattle.adding.specs.OneRecord.{lookRecord, OnlyTheRecord}
 use Rattle.adding.proofs.Formed.{length-added}
-use Rattle.adding.proofs.Kept.{long, header, same, from, count-more, start-same, steps-added, record-either, schema-kept}
-use Rattle.adding.proofs.Reading.{total-more}
-use Rattle.adding.proofs.Again.{Again, record-again}
+use Rattle.adding.proofs.Kept.{long, header, steps-added, record-last, steps-last}
 use Rattle.adding.proofs.Front.{sections-row}
 
 -- the new book's rows, for an old book of good form
 module _ (s r : List ℕ) (n : ℕ) (was : LookedOver s n) (most : length s + length r ≤ maxLength) where
-  -- the old records are good again, and the new one is the last
-  records-row : walk (recordAt (sectionsOf (added s r)) (added s r)) (sectionsOf (added s r) .records .count) (sectionsOf (added s r) .records .at)
-      ≡ recordAt (sectionsOf (added s r)) (added s r) (length s)
-  records-row =
-      let l = length-added s r (long s r n was most) in
-      let longer : length s ≤ length (added s r) = omega arith in
-      let keep = same s r n was most in
-      let again : Again (recordAt (sectionsOf s) s) (recordAt (sectionsOf (added s r)) (added s r)) =
-      λ at next low e.
-      let z = record-again s (added s r) longer keep (sectionsOf s) (schema-kept s r n was most) at next low e in
-      (record-either s r n was most at ∙ z .0, z .1) in
-      ap₂ (λ (m start : ℕ). walk (recordAt (sectionsOf (added s r)) (added s r)) m start) (count-more s r n was most) (start-same s r n was most)
-      ∙ walk-last _ _ _ _ (walk-again (recordAt (sectionsOf s) s) _ headerSize again _ _ _ (from s r n was most) (was .records))
-
-  total-row : stepTotal (added s r) (sectionsOf (added s r) .records .count) (sectionsOf (added s r) .records .at) ≡ n + stepsIn r 0
-  total-row =
-      let keep = same s r n was most in
-      let t = total-more s (added s r) keep (sectionsOf s) _ _ (from s r n was most) (was .records) in
-      let a = was .total in
-      let b = steps-added s r n was most in
-      rw (count-more s r n was most, start-same s r n was most) (omega arith)
-
   whole : lookOver (added s r) ≡ lookRecord s r n
   unfolding lookOver lookOverBy allRecords lookRecord
   whole =
       let first = ap (λ (h : Sections). sections h (added s r)) (header s r n was most) ∙ sections-row s r n was most in
-      rw (first, records-row, total-row, length-added s r (long s r n was most)) (bind-assoc _ _ _ ∙ bind-cong _ _ _ (λ x. bind-good _ _ _ refl))
+      rw (first, record-last s r n was most, steps-last s r n was most .0, length-added s r (long s r n was most)) (bind-assoc _ _ _ ∙ bind-cong _ _ _ (λ x. bind-good _ _ _ refl))
 
 -- the steps of a record are added to those before it
 tail-sum : (a : Answer) (end m n : ℕ)

@@ -1,7 +1,8 @@
 -- A record that was added is read back as it was filed.
 use Prim.Native.Nat.{ℕ, _+_, _≤_}
 use mathlib.Core.Path.{_≡_, sym, _∙_}
-use mathlib.Core.List.{List, _++_}
+use mathlib.Core.List.{List}
+use native.Mathlib.Nat.{zero-add}
 use native.Mathlib.Omega.{arith}
 use borrow.Author.Tests.{ltb-false}
 use lib.ListN.{length, drop, length-append, length-drop}
@@ -10,23 +11,20 @@ use Rattle.answer.specs.Answer.{kept}
 use Rattle.answer.specs.declared.Answer.the-variants.{Good}
 use Rattle.answer.specs.Laws.{passed, parted}
 use Rattle.terms.specs.Sections.{sectionsOf}
-use Rattle.terms.specs.Schema.{schema}
-use Rattle.terms.specs.Agree.{SameSchema}
-use Rattle.limits.specs.Limits.{maxLength}
+use Rattle.limits.specs.Limits.{headerSize, maxLength}
 use Rattle.format.specs.Records.{stepsIn, recordAt}
 use Rattle.format.specs.LookOver.{lookOver}
-use Rattle.format.specs.Decode.{recordFiled, filed}
-use Rattle.jobs.specs.Planning.{schemaOf}
+use Rattle.format.specs.Decode.{recordFiled}
 use Rattle.jobs.specs.Add.{added, add, addBytes}
 use Rattle.format.proofs.Records.{record-within}
-use Rattle.lookover.proofs.Laws.{LookedOver, look-over-good}
+use Rattle.format.proofs.Reading.{Copied}
+use Rattle.format.proofs.Copies.{placedBy, placed-same, filed-copied}
+use Rattle.format.proofs.LookOver.{look-over-good}
 use Rattle.adding.specs.OneRecord.{lookRecord}
-use Rattle.adding.specs.ReadBack.{oneMore, AddedIsReadBack, AddedIsStored, RefusedIsUntouched}
+use Rattle.adding.specs.ReadBack.{movedBy, AddedIsReadBack, AddedIsStored, RefusedIsUntouched}
 use Rattle.adding.proofs.Formed.{length-added}
 use Rattle.adding.proofs.NewBook.{byte-kept, byte-added, bytes-behind}
-use Rattle.adding.proofs.Kept.{header, same, from, count-more, start-same, schema-either, schema-kept}
-use Rattle.adding.proofs.Reading.{records-more}
-use Rattle.adding.proofs.Moved.{record-moved}
+use Rattle.adding.proofs.Kept.{header, kinds-kept, schema-kept, steps-last}
 use Rattle.adding.proofs.OneRecord.{only-the-record}
 
 -- what a success says: no row from 1 to 10 is met by either book, and neither are 1 and 13 by the new length
@@ -57,20 +55,14 @@ succeeded s r size n e =
       place = cc;
     }
 
-module _ (s r : List ℕ) (old : ℕ) (was : LookedOver s old) (most : length s + length r ≤ maxLength) where
-  steps : filed (sectionsOf (added s r)) (added s r) ≡ filed (sectionsOf s) s ++ recordFiled (added s r) (length s)
-  unfolding filed
-  steps =
-      rw (count-more s r old was most, start-same s r old was most)
-      (records-more s (added s r) (same s r old was most) (sectionsOf s) _ _ (from s r old was most) (was .records))
-
-  schema-of : SameSchema (schemaOf s) (schemaOf (added s r))
-  unfolding schemaOf
-  schema-of = rw (schema-either s r old was most) (schema-kept s r old was most)
-
-  kinds-of : schemaOf (added s r) .kinds ≡ schemaOf s .kinds
-  unfolding schemaOf schema oneMore
-  kinds-of = rw (header s r old was most)
+-- the steps of the record are those that its bytes say by themselves
+as-filed : (s r : List ℕ) → headerSize ≤ length s → recordAt (sectionsOf (added s r)) (added s r) (length s) ≡ Good (length s + length r)
+    → recordFiled (added s r) (length s) ≡ movedBy (length s) (recordFiled r 0)
+unfolding movedBy placedBy
+as-filed s r long good =
+    let alone : Copied (added s r) (length s) r 0 (length r) = record { within = omega arith; bytes = λ i l. rw zero-add (sym (byte-added s r long i)) } in
+    sym (placed-same (recordFiled (added s r) (length s)))
+    ∙ filed-copied alone (λ p. p) (λ p. length s + p) (λ i. omega arith) (sectionsOf (added s r)) (length s + length r) good (omega arith)
 
 -- the record is good to the end of the book, and its steps come behind the old ones
 module _ (s r : List ℕ) (old new : ℕ) (was : lookOver s ≡ Good old) (is : lookOver (added s r) ≡ Good new) (most : length s + length r ≤ maxLength) where
@@ -102,12 +94,12 @@ read-back s r size n e =
       is = rw (← new .1) (g .is);
       kept = byte-kept s r long;
       header = rw (g .place) (header s r _ was (g .most));
-      kinds = kinds-of s r _ was (g .most);
-      schema = schema-of s r _ was (g .most);
+      kinds = kinds-kept s r _ was (g .most);
+      schema = schema-kept s r _ was (g .most);
       behind = bytes-behind s r long;
       whole = rw (g .place) (new .0);
-      steps = steps s r _ was (g .most);
-      asFiled = record-moved (length s) (added s r) r (byte-added s r long);
+      steps = steps-last s r _ was (g .most) .1;
+      asFiled = as-filed s r long (new .0);
     }
 
 -- The new book is in the lent output, whose bytes beyond it stay.

@@ -18,7 +18,7 @@ use Rattle.limits.specs.Limits.{headerSize, maxLength, maxRecords}
 use Rattle.format.specs.LookOver.{lookOver, allRecords}
 use Rattle.jobs.specs.Add.{added, add, addBytes}
 use Rattle.answer.specs.Turns.{is-good, part-stays}
-use Rattle.lookover.proofs.Laws.{look-over-good}
+use Rattle.format.proofs.LookOver.{look-over-good}
 use Rattle.output.specs.Written.{written}
 use Rattle.adding.specs.Outcome.{Outcome}
 use Rattle.output.proofs.Written.{front-written}

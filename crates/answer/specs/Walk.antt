@@ -51,14 +51,21 @@ module _ (item : ℕ → Answer) where
       walk-induction (λ n at last. walk item (suc n) at ≡ item last) (λ at. bind-unit (item at))
       (λ n at next last good rest. bind-good _ _ _ good ∙ rest)
 
--- a walk whose items are good again
-pub walk-again : (f g : ℕ → Answer) (low : ℕ)
-    → ((at next : ℕ) → low ≤ at → f at ≡ Good next → (g at ≡ Good next) × (low ≤ next))
-    → (n at last : ℕ)
-    → low ≤ at
-    → walk f n at ≡ Good last
-    → walk g n at ≡ Good last
+-- a walk whose items, where they end by `most`, are good in another walk too, at offsets that are related
+pub walk-beside : (f g : ℕ → Answer) (R : ℕ → ℕ → Type 0) (most : ℕ)
+    → ((at next : ℕ) → f at ≡ Good next → at ≤ next)
+    → ((a b next : ℕ) → R a b → next ≤ most → f a ≡ Good next → (m : ℕ) × R next m × (g b ≡ Good m))
+    → (n a b last : ℕ) → R a b → last ≤ most → walk f n a ≡ Good last → (m : ℕ) × R last m × (walk g n b ≡ Good m)
 unfolding walk
-walk-again f g low k n at last l e =
-    walk-induction f (λ n at last. low ≤ at → walk g n at ≡ Good last) (λ at l. refl)
-    (λ n at next last good rest l. let q = k at next l good in bind-good _ _ _ (q .0) ∙ rest (q .1)) n at last e l
+walk-beside f g R most grows item n a b last r l e =
+    walk-induction f (λ n a last. (a ≤ last) × (last ≤ most → (b : ℕ) → R a b → (m : ℕ) × R last m × (walk g n b ≡ Good m)))
+    (λ a. (omega arith, λ l b r. (b, r, refl)))
+    (λ n a next last good rest.
+    let up = grows a next good in (
+      omega arith,
+      λ l b r.
+          let (m, r′, e) = item a b next r (omega arith) good in
+          let (z, r″, e′) = rest .1 l m r′ in
+          (z, r″, bind-good _ _ _ e ∙ e′),
+    ))
+    n a last e .1 l b r

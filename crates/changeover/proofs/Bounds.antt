@@ -11,7 +11,8 @@ use Rattle.format.specs.LookOver.{lookOver}
 use Rattle.format.specs.Decode.{Filed, stateEnd, filedAt, recordFiled, filedStep}
 use Rattle.format.specs.Order.{stepCount, goalCount, goal, goalFrom}
 use Rattle.answer.specs.Bounds.{Bounded, bounded-good, bounded-then, bounded-row, bounded-wider}
-use Rattle.lookover.proofs.Laws.{look-over-good, look-over-bounded}
+use Rattle.format.proofs.LookOver.{look-over-good}
+use Rattle.lookover.proofs.Laws.{look-over-bounded}
 use Rattle.model.specs.Quantify.{Mem, here, there, first, least}
 use Rattle.model.specs.Domain.{State, Step as GroundAction, Transition, Entry}
 use Rattle.model.specs.Model.{Run, stopped, ended}

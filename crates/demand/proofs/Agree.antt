@@ -3,7 +3,6 @@
 use Prim.Native.Nat.{ℕ, _+_, _*_, _<_}
 use mathlib.Core.Path.{_≡_}
 use mathlib.Core.Bool.{true}
-use mathlib.Core.List.{List}
 use native.Mathlib.Omega.{arith}
 use Rattle.input.specs.Bytes.{byteAt}
 use Rattle.limits.specs.Limits.{relationSize, moveSize}
@@ -14,9 +13,9 @@ use Rattle.terms.specs.Steps.{atomRelation, isAtom}
 use Rattle.terms.specs.Agree.{SameSchema}
 use Rattle.terms.proofs.Atoms.{relation-from-1, atom-out}
 use Rattle.terms.proofs.Agree.{same-by-bytes, atoms-same}
+use Rattle.format.proofs.LookOver.{look-over-good}
 use Rattle.jobs.specs.Planning.{domain, schemaOf}
 use Rattle.wellformed.specs.Grounding.{objectIn, factOf}
-use Rattle.wellformed.proofs.Headers.{header-right}
 use Rattle.demand.specs.TwoBooks.{SameSectionsSameSchema}
 
 -- a bound fact becomes one fact
@@ -33,8 +32,8 @@ domain-same S T h =
 pub same-sections-same-schema : SameSectionsSameSchema
 unfolding schemaOf
 same-sections-same-schema s t m n good good′ same =
-    let h = header-right s m good in
-    let k = header-right t n good′ in
+    let h = look-over-good s m good .sections .offsets in
+    let k = look-over-good t n good′ .sections .offsets in
     same-by-bytes (sectionsOf s) (sectionsOf t) s t (same .relations) (same .moves)
     (λ i l. at i _ _ (omega arith) (omega arith) (omega arith))
     (λ i l. at (relationSize * sectionsOf s .relations .count + i) _ _ (omega arith) (omega arith) (omega arith))

@@ -8,7 +8,7 @@ use borrow.Author.Tests.{ltb-false, eqb-true, not-false}
 use lib.ListN.{length}
 use Rattle.answer.specs.declared.Answer.the-variants.{Good, Refused}
 use Rattle.truth.specs.Bools.{neither}
-use Rattle.answer.specs.Laws.{passed, parted, none-over}
+use Rattle.answer.specs.Laws.{passed, parted, refuse-unmet, bind-good, none-over}
 use Rattle.answer.specs.Walk.{walk}
 use Rattle.answer.specs.Answer.{maxNumber}
 use Rattle.answer.specs.Table.{table, rowFrom, row, upTo, Between}
@@ -98,6 +98,17 @@ sections-good h s n e =
       moves = entries-right _ _ 5 moveSize (move-entry s (h .kinds)) _ _ n (d .2);
       start = entries-end _ _ 5 moveSize (move-entry s (h .kinds)) _ _ n (d .2) ∙ sym (o .records);
     }
+
+-- and the other way round, by the five rows
+pub sections-in : (h : Sections) (s : List ℕ) (m n : ℕ)
+    → lengthBad s ≡ false
+    → countsBad h ≡ false
+    → offsetsBad h (length s) ≡ false
+    → walk (relation s (h .kinds)) (h .relations .count) (h .relations .at) ≡ Good m
+    → walk (move s (h .kinds)) (h .moves .count) (h .moves .at) ≡ Good n
+    → sections h s ≡ Good n
+unfolding sections
+sections-in h s m n a b c d e = refuse-unmet _ _ _ _ a ∙ refuse-unmet _ _ _ _ b ∙ refuse-unmet _ _ _ _ c ∙ bind-good _ _ _ d ∙ e
 
 -- a refusal has the number of a row from 1 to 5, and stands at most where the records may start, whatever the header says
 pub sections-place : (h : Sections) (s : List ℕ) (k p : ℕ) → sections h s ≡ Refused k p → Between 1 5 k × (k ≤ maxNumber) × (p ≤ 272)

@@ -1,7 +1,11 @@
--- Laws of the definitions of specs/, by subject: what a good answer says, where it ends, and where a refusal stands. For code and theorems alike.
+-- Laws of the definitions of specs/, by subject: what a good answer says, where it ends, where a refusal stands,
+-- and that what is good is so wherever its bytes stand. For code and theorems alike.
 pub mod Chains
 pub mod Header
+pub mod Reading
 pub mod States
 pub mod Records
+pub mod Copies
+pub mod LookOver
 pub mod Orders
 pub mod OrderForm

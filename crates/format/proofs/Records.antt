@@ -1,15 +1,16 @@
 -- Rows 6 to 10: what a good head, object, step, trajectory and record say, and where each of them ends.
-use Prim.Native.Nat.{ℕ, _+_, _≤_}
-use mathlib.Core.Path.{_≡_, refl, subst}
+use Prim.Native.Nat.{ℕ, suc, _+_, _≤_}
+use mathlib.Core.Path.{_≡_, refl, _∙_, subst}
 use mathlib.Core.Bool.{false, _||_}
 use mathlib.Core.List.{List}
 use lib.ListN.{length}
 use native.Mathlib.Omega.{arith}
+use lib.Dec.{ltb}
 use borrow.Author.Tests.{ltb-false}
 use Rattle.answer.specs.declared.Answer.the-variants.{Good}
 use Rattle.truth.specs.Bools.{neither}
-use Rattle.answer.specs.Laws.{passed, parted, none-over}
-use Rattle.answer.specs.Walk.{walk}
+use Rattle.answer.specs.Laws.{passed, parted, refuse-unmet, bind-good, none-over}
+use Rattle.answer.specs.Walk.{walk, walk-parted}
 use Rattle.answer.specs.Entries.{Entry, item-good, entries-end}
 use Rattle.input.specs.Bytes.{byteAt}
 use Rattle.terms.specs.declared.Sections.{Sections}
@@ -18,7 +19,8 @@ use Rattle.terms.specs.Steps.{stepAt, stepBad, repeats}
 use Rattle.limits.specs.Limits.{headSize, maxObjects, maxSteps, stepSize}
 use Rattle.format.specs.States.{cut, state}
 use Rattle.format.specs.Records.{objectsIn, stepsIn, lengthIn, headBad, object, step, objectsOf, trajectory, body, recordAt, stepRefused, closed}
-use Rattle.format.proofs.States.{state-within}
+use Rattle.format.specs.Decode.{stateEnd}
+use Rattle.format.proofs.States.{state-within, state-ends}
 
 module _ (s : List ℕ) (at : ℕ) (good : headBad s at ≡ false) where
   -- a head that is not refused
@@ -62,10 +64,21 @@ module _ (sch : Schema) (hl : Hall) (s : List ℕ) (end : ℕ) where
       let q = passed _ 10 at next _ (p .1) in
       (neither (cut end at stepSize) (stepBad sch hl (stepAt s at)) (p .0) .1, q .0, q .1)
 
+  pub step-reach : (at next : ℕ) → step sch hl s end at ≡ Good next → at + stepSize ≤ end
+  unfolding step stepRefused cut
+  step-reach at next e = ltb-false end (at + stepSize) (neither (ltb end (at + stepSize)) (stepBad sch hl (stepAt s at)) (passed _ 9 at next _ e .0) .0)
+
   pub step-within : (at next : ℕ) → step sch hl s end at ≡ Good next → next ≤ end
   step-within at next e = state-within sch hl s end _ _ (step-good at next e .2)
 
--- a good record: its start state ends at `after`, its steps at `last`
+  -- the first step behind a good state stands where the state's bytes end
+  pub trajectory-parted : (n at next last : ℕ) → state sch hl s end at ≡ Good next → walk (step sch hl s end) (suc n) next ≡ Good last
+      → (after : ℕ) × (step sch hl s end (stateEnd s at) ≡ Good after) × (walk (step sch hl s end) n after ≡ Good last)
+  trajectory-parted n at next last e w =
+      let (after, good, rest) = walk-parted (step sch hl s end) n next last w in
+      (after, subst (λ (x : ℕ). step sch hl s end x ≡ Good after) (state-ends sch hl s end at next e .0) good, rest)
+
+-- a good record: its start state ends at `after`, its steps at `last`, behind which it has no bytes
 pub record RecordGood (h : Sections) (s : List ℕ) (at next : ℕ) : Type 0 where
   pub after : ℕ
   pub last : ℕ
@@ -73,7 +86,14 @@ pub record RecordGood (h : Sections) (s : List ℕ) (at next : ℕ) : Type 0 whe
   pub objects : walk (object (h .kinds) s (at + lengthIn s at)) (objectsIn s at) (at + headSize) ≡ Good (at + headSize + objectsIn s at)
   pub start : state (schema h s) (hall (objectsOf s at) s) s (at + lengthIn s at) (at + headSize + objectsIn s at) ≡ Good after
   pub steps : walk (step (schema h s) (hall (objectsOf s at) s) s (at + lengthIn s at)) (stepsIn s at) after ≡ Good last
+  pub full : ltb last (at + lengthIn s at) ≡ false
   pub end : next ≡ at + lengthIn s at
+
+pub record-in : (h : Sections) (s : List ℕ) (at next : ℕ) → RecordGood h s at next → recordAt h s at ≡ Good next
+unfolding recordAt body closed trajectory
+record-in h s at next g =
+    rw (g .end)
+    (refuse-unmet _ _ _ _ (g .head) ∙ bind-good _ _ _ (g .objects) ∙ bind-good _ _ _ (bind-good _ _ _ (g .start) ∙ g .steps) ∙ refuse-unmet _ _ _ _ (g .full))
 
 module _ (h : Sections) (s : List ℕ) (at next : ℕ) (good : recordAt h s at ≡ Good next) where
   pub record-good : RecordGood h s at next
@@ -84,7 +104,7 @@ module _ (h : Sections) (s : List ℕ) (at next : ℕ) (good : recordAt h s at �
       let (first, objects, behind) = parted (walk (object (h .kinds) s end) (objectsIn s at) (at + headSize)) next _ whole in
       let (last, way, tail) = parted (trajectory (schema h s) (hall (objectsOf s at) s) s end (stepsIn s at) first) next _ behind in
       let (after, start, steps) = parted (state (schema h s) (hall (objectsOf s at) s) s end first) last _ way in
-      let z : Good end ≡ Good next = passed _ 6 at next _ tail .1 in
+      let (full, same) = passed _ 6 at next _ tail in
       let place = objects-end (h .kinds) s end (objectsIn s at) (at + headSize) first objects in
       record {
         after = after;
@@ -93,6 +113,7 @@ module _ (h : Sections) (s : List ℕ) (at next : ℕ) (good : recordAt h s at �
         objects = subst (λ (x : ℕ). walk (object (h .kinds) s end) (objectsIn s at) (at + headSize) ≡ Good x) place objects;
         start = subst (λ (x : ℕ). state (schema h s) (hall (objectsOf s at) s) s end x ≡ Good after) place start;
         steps = steps;
+        full = full;
         end = cc;
       }
 

@@ -16,6 +16,7 @@ use Rattle.terms.specs.Schema.{Schema, Hall}
 use Rattle.terms.specs.Facts.{factAt, factBad, precedes, noFact}
 use Rattle.limits.specs.Limits.{countSize, factSize, maxFacts}
 use Rattle.format.specs.States.{cut, countBad, factRefused, facts, state}
+use Rattle.format.specs.Decode.{stateEnd}
 use Rattle.format.proofs.Chains.{Chain, chain-end}
 
 module _ (sch : Schema) (hl : Hall) (s : List ℕ) (end : ℕ) where
@@ -62,6 +63,10 @@ module _ (sch : Schema) (hl : Hall) (s : List ℕ) (end : ℕ) where
   pub state-end : (at next : ℕ) → state sch hl s end at ≡ Good next → next ≡ at + countSize + factSize * two s at
   unfolding state
   state-end at next e = chain-end (facts-chain 8 sch hl s end) _ _ _ _ (passed _ _ _ _ _ e .1)
+
+  pub state-ends : (at next : ℕ) → state sch hl s end at ≡ Good next → (next ≡ stateEnd s at) × (stateEnd s at ≤ end)
+  unfolding stateEnd
+  state-ends at next e = (state-end at next e, omega (arith, state-end at next e, state-within at next e))
 
   pub state-bounded : (at : ℕ) → at ≤ end → Bounded end (state sch hl s end at)
   unfolding state

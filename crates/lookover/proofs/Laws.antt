@@ -1,26 +1,19 @@
--- What looking over says of a book: what a book of good form is known to have, and bounds of every answer, for packing it.
-use Prim.Native.Nat.{ℕ, _≤_}
+-- Looking over as the code does it, rows 1 to 5 and then the records; and bounds of every answer, for packing it.
+use Prim.Native.Nat.{ℕ}
 use mathlib.Core.Path.{_≡_, refl, _∙_}
 use mathlib.Core.Bool.{Bool, true, false}
 use mathlib.Core.List.{List}
-use lib.ListN.{length}
 use native.Mathlib.Omega.{arith}
-use borrow.Author.Tests.{ltb-false}
 use Rattle.answer.specs.declared.Answer.{Answer}
-use Rattle.answer.specs.declared.Answer.the-variants.{Good}
 use Rattle.answer.specs.Answer.{isRefused}
-use Rattle.answer.specs.Laws.{passed, parted}
-use Rattle.answer.specs.Walk.{walk}
 use Rattle.terms.specs.declared.Sections.{Sections}
 use Rattle.terms.specs.Sections.{sectionsOf}
 use Rattle.limits.specs.Limits.{maxLength}
 use Rattle.format.specs.Header.{sections}
-use Rattle.format.specs.Records.{recordAt}
-use Rattle.format.specs.LookOver.{stepTotal, allRecords, lookOverBy, lookOver}
-use Rattle.format.proofs.Header.{SectionsGood, sections-good, sections-place}
+use Rattle.format.specs.LookOver.{allRecords, lookOverBy, lookOver}
+use Rattle.format.proofs.Header.{sections-good, sections-place}
 use Rattle.answer.specs.Bounds.{Bounded, bounded-of, bounded-good, bounded-then, bounded-row, bounded-wider}
-use Rattle.answer.specs.Turns.{part-stays, part-follows, walk-within}
-use Rattle.format.proofs.Records.{record-within}
+use Rattle.answer.specs.Turns.{part-stays, part-follows}
 use Rattle.records.proofs.Bounds.{records-bounded, total-bounded}
 
 -- the records by the header that was read
@@ -37,27 +30,6 @@ module _ (h : Sections) (s : List ℕ) (is : h ≡ sectionsOf s) (a : Answer) (b
   look-over-records e r w =
       rw (← is)
       (w ∙ part-follows _ (λ _. allRecords h s (h .records .count) (h .records .at)) a b _ first told e refl)
-
--- a book of good form: rows 1 to 5 are not met, its records end it, and n is the sum of their steps
-pub record LookedOver (s : List ℕ) (n : ℕ) : Type 0 where
-  pub sections : SectionsGood (sectionsOf s) s (sectionsOf s .records .at)
-  pub records : walk (recordAt (sectionsOf s) s) (sectionsOf s .records .count) (sectionsOf s .records .at) ≡ Good (length s)
-  pub total : n ≡ stepTotal s (sectionsOf s .records .count) (sectionsOf s .records .at)
-
-pub look-over-good : (s : List ℕ) (n : ℕ) → lookOver s ≡ Good n → LookedOver s n
-unfolding lookOver lookOverBy allRecords
-look-over-good s n e =
-    let h = sectionsOf s in
-    let p = parted _ _ _ e in
-    let g = sections-good h s (p .0) (p .1) in
-    let q = parted _ _ _ (p .2) in
-    let r = passed _ _ _ _ _ (q .2) in
-    let last = q .0 in
-    let m : length s ≤ last = ltb-false _ _ (r .0) in
-    let l : last ≤ length s = walk-within _ (length s) (λ at next f. record-within h s at next f .1) _ _ last (g .offsets .within) (q .1) in
-    let w : last ≡ length s = omega arith in
-    let t = r .1 in
-    record { sections = rw (g .start) at g; records = rw w at (q .1); total = cc }
 
 look-over-by-bounded : (h : Sections) (s : List ℕ) → Bounded maxLength (lookOverBy h s)
 unfolding lookOverBy allRecords

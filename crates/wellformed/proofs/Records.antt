@@ -3,21 +3,20 @@ use Prim.Native.Nat.{ℕ, suc, _+_, _≤_}
 use mathlib.Core.Path.{_≡_, subst}
 use mathlib.Core.Logic.{_⊎_, inl, inr}
 use mathlib.Core.List.{List}
+use lib.ListN.{length}
 use Rattle.answer.specs.declared.Answer.the-variants.{Good}
-use Rattle.answer.specs.Laws.{parted}
 use Rattle.answer.specs.Walk.{walk, walk-parted}
 use Rattle.terms.specs.declared.Sections.{Sections}
 use Rattle.terms.specs.Sections.{sectionsOf}
 use Rattle.terms.specs.Schema.{Schema, Hall, schema, hall}
 use Rattle.terms.specs.Steps.{stepAt}
 use Rattle.limits.specs.Limits.{headSize, stepSize, maxObjects}
-use Rattle.format.specs.Header.{sections}
 use Rattle.format.specs.States.{state}
 use Rattle.format.specs.Records.{objectsIn, stepsIn, lengthIn, step, objectsOf, recordAt}
-use Rattle.format.specs.LookOver.{lookOver, lookOverBy, allRecords}
+use Rattle.format.specs.LookOver.{lookOver}
 use Rattle.format.specs.Decode.{Filed, stateEnd, filedAt, recordFiled, recordsFiled, filed, filedStep}
-use Rattle.format.proofs.States.{state-end}
-use Rattle.format.proofs.Records.{head-objects, step-good, record-good}
+use Rattle.format.proofs.Records.{head-objects, step-good, trajectory-parted, record-good}
+use Rattle.format.proofs.LookOver.{look-over-good}
 use Rattle.model.specs.Quantify.{Mem, here, there}
 use Rattle.model.proofs.Members.{mem-out}
 use Rattle.jobs.specs.Planning.{schemaOf, filedIn}
@@ -31,26 +30,17 @@ module _ (sch : Schema) (hl : Hall) (s : List ℕ) (end : ℕ) where
       let (suits, different, rest) = step-good sch hl s end at next e in
       (record { suits = suits; different = different }, rest)
 
-  -- the first step behind a good state, and the state behind it
-  trajectory-parted : (n at next last : ℕ) → state sch hl s end at ≡ Good next → walk (step sch hl s end) (suc n) next ≡ Good last
-      → (after : ℕ) × RightStep sch hl (stepAt s (stateEnd s at)) × (state sch hl s end (stateEnd s at + stepSize) ≡ Good after) × (walk (step sch hl s end) n after ≡ Good last)
-  unfolding stateEnd
-  trajectory-parted n at next last e w =
-      let (after, good, rest) = walk-parted (step sch hl s end) n next last w in
-      let place : next ≡ stateEnd s at = state-end sch hl s end at next e in
-      let (right, behind) = step-parted (stateEnd s at) after (subst (λ (x : ℕ). step sch hl s end x ≡ Good after) place good) in
-      (after, right, behind, rest)
-
   -- The steps of a good trajectory are right, with the states about them.
   pub trajectory-right : (n at next last : ℕ) → state sch hl s end at ≡ Good next → walk (step sch hl s end) n next ≡ Good last
       → (f : Filed) → Mem f (filedAt s n at) → Right sch hl f
   unfolding filedAt filedStep
   trajectory-right (suc n) at next last e w f here =
-      let (after, right, behind, rest) = trajectory-parted n at next last e w in
+      let (after, good, rest) = trajectory-parted sch hl s end n at next last e w in
+      let (right, behind) = step-parted (stateEnd s at) after good in
       record { step = right; pre = state-right sch hl s end at next e; post = state-right sch hl s end (stateEnd s at + stepSize) after behind }
   trajectory-right (suc n) at next last e w f (there m) =
-      let (after, right, behind, rest) = trajectory-parted n at next last e w in
-      trajectory-right n (stateEnd s at + stepSize) after last behind rest f m
+      let (after, good, rest) = trajectory-parted sch hl s end n at next last e w in
+      trajectory-right n (stateEnd s at + stepSize) after last (step-parted (stateEnd s at) after good .1) rest f m
 
 module _ (h : Sections) (s : List ℕ) where
   -- A record of good form ends where its length says, has at most 16 objects, and every step filed in it is right over them.
@@ -83,12 +73,10 @@ module _ (h : Sections) (s : List ℕ) where
 module _ (s : List ℕ) (n : ℕ) (e : lookOver s ≡ Good n) where
   -- Every step that is filed in a book of good form is filed in a good record,
   pub filed-somewhere : {f : Filed} → Mem f (filedIn s) → (from next : ℕ) × (recordAt (sectionsOf s) s from ≡ Good next) × Mem f (recordFiled s from)
-  unfolding lookOver lookOverBy allRecords filedIn filed
+  unfolding filedIn filed
   filed-somewhere m =
       let h : Sections = sectionsOf s in
-      let (first, header, more) = parted (sections h s) n _ e in
-      let (last, good, tail) = parted (walk (recordAt h s) (h .records .count) (h .records .at)) n _ more in
-      records-filed h s (h .records .count) (h .records .at) last good m
+      records-filed h s (h .records .count) (h .records .at) (length s) (look-over-good s n e .records) m
 
   -- and is right, over a hall of at most 16 objects.
   pub filed-right : (f : Filed) → Mem f (filedIn s) → RightSomewhere (schemaOf s) f
