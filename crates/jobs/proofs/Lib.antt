@@ -1,2 +1,5 @@
--- Laws of the definitions in specs/: the rule sheet of a model, and what its bits say.
+-- Laws of the definitions in specs/: the rule sheet of a model and what its bits say, in Sheet; the marked cases as one theorem, in Cases;
+-- LongBook has the two cases that are not computed.
 pub mod Sheet
+pub mod LongBook
+pub mod Cases

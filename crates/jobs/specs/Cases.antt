@@ -1,42 +1,21 @@
--- The marked cases M1 to M10 of the paper and its limits, as one list of what the definitions give and what the paper says,
--- covered by one theorem that the checker computes. What no single list of bytes of manageable size shows is a law below it.
-use Prim.Native.Nat.{ℕ, zero, suc, _+_, _/_, _%_, _≤_, _<_}
-use mathlib.Core.Path.{_≡_, refl}
-use mathlib.Core.Bool.{false, cond, or-true}
+-- The marked cases M1 to M10 of the paper and its limits, as one list of what the definitions give and what the paper says.
+-- proofs/Cases.antt has the one theorem that covers it.
+use Prim.Native.Nat.{ℕ, zero, suc, _+_, _/_, _%_}
+use mathlib.Core.Path.{_≡_}
+use mathlib.Core.Bool.{cond}
 use mathlib.Core.List.{List, [], _∷_, _++_, map}
-use lib.ListN.{length, take, replicate}
-use borrow.Author.Tests.{le-ltb, lt-ltb}
-use Rattle.limits.specs.Limits.{maxLength, headerSize, ruleSize, endSheetSize}
+use lib.ListN.{take, replicate}
+use Rattle.limits.specs.Limits.{ruleSize, endSheetSize}
 use Rattle.answer.specs.declared.Answer.{Answer}
-use Rattle.answer.specs.declared.Answer.the-variants.{Refused}
-use Rattle.answer.specs.Answer.{_>>=_, refuse, number, place, kept}
-use Rattle.answer.specs.Walk.{walk}
-use Rattle.input.specs.Bytes.{byteAt, two}
-use Rattle.output.specs.Written.{twoBytes}
-use Rattle.terms.specs.Sections.{sectionsOf}
-use Rattle.terms.specs.Schema.{numberBad, relationAt, moveAt, schema, hall, kindSuits, objectBad}
-use Rattle.terms.specs.Facts.{factAt, factBad, precedes, noFact, factNumber}
-use Rattle.terms.specs.Steps.{objectOf, stepAt, argumentBad, stepBad, samePair, repeats, atomRelation, atomFirst, atomSecond, parameterFills, isAtom, placed, ground}
-use Rattle.format.specs.Header.{lengthBad, countsBad, offsetsBad, kindBad, relationBad, moveBad, relation, move, sections}
-use Rattle.format.specs.States.{cut, countBad, factRefused, facts, state}
-use Rattle.format.specs.Records.{objectsIn, stepsIn, lengthIn, headBad, object, stepRefused, step, objectsOf, trajectory, closed, body, recordAt}
-use Rattle.format.specs.LookOver.{stepTotal, allRecords, lookOverBy, lookOver}
-use Rattle.format.specs.Decode.{factsAt, stateAt, stateEnd, filedStep, filedAt, recordFiled, recordsFiled, filed}
-use Rattle.format.specs.Order.{objectCount, startCount, goalCount, stepCount, startAt, goalAt, stepsAt, orderCountsBad, orderOffsetsBad, orderObjects, orderObject, entryBad, entries, planStep, fromGoal, fromStart, orderForm, startFacts, entryAt, goalFrom, goal, planFrom, plan, orderHeaderBad, planStepBad}
-use Rattle.mask.specs.Sets.{maskOf}
-use Rattle.model.specs.Quantify.{same, below, any, has, later, first, least}
-use Rattle.model.specs.Model.{image, inapplicable, next, run}
-use Rattle.model.specs.Judge.{wrong}
-use Rattle.model.specs.Learned.{saw, before, after, turned, learned, unboundEffect, conflicting}
-use Rattle.jobs.specs.Planning.{domain, holding, groundAction, transition, goalEntry, schemaOf, filedIn, transitionsOf, startState, planOf, goalOf}
-use Rattle.jobs.specs.Learn.{unboundEffects, conflictAnswer, conflictingMove, learnable, ruleRow, ruleRows, learnedFrom, ruleSheet, learn, learnBytes}
-use Rattle.jobs.specs.Check.{planRun, orderRun, goalAnswer, runAnswer, check, endSheet, checkBytes}
-use Rattle.jobs.specs.Add.{added, add, addBytes}
-use Rattle.jobs.specs.Listing.{digits, decimal, refusedLine, needLetter, effectLetter, paramShown, atomFront, atomLine, lineIfAtom, atomLines, moveLines, countsLine, rulesLines, rulesPrinted, planLine, planPrinted}
+use Rattle.answer.specs.Answer.{number, place}
+use Rattle.format.specs.LookOver.{lookOver}
+use Rattle.jobs.specs.Learn.{learn}
+use Rattle.jobs.specs.Check.{orderRun, check, checkBytes}
+use Rattle.jobs.specs.Listing.{rulesPrinted}
 use Rattle.model.specs.Model.{Run, stopped, ended}
 
 -- the small hall
-abbrev book : List ℕ
+abbrev pub book : List ℕ
 book =
     0x00 ∷ 0x02 ∷ 0x00 ∷ 0x02 ∷ 0x00 ∷ 0x01 ∷ 0x00 ∷ 0x01 ∷ 0x00 ∷ 0x10 ∷ 0x00 ∷ 0x18
     ∷ 0x00 ∷ 0x1e ∷ 0x00 ∷ 0x3a ∷ 0x02 ∷ 0x01 ∷ 0x02 ∷ 0x00 ∷ 0x01 ∷ 0x02 ∷ 0x00 ∷ 0x00
@@ -45,7 +24,7 @@ book =
     ∷ 0x03 ∷ 0x00 ∷ 0x00 ∷ 0x02 ∷ 0x01 ∷ 0x01 ∷ 0x03 ∷ 0x02 ∷ 0x02 ∷ 0x00 ∷ []
 
 -- M6: record count 0 and end 30, the record left out
-abbrev book6 : List ℕ
+abbrev pub book6 : List ℕ
 book6 =
     0x00 ∷ 0x02 ∷ 0x00 ∷ 0x02 ∷ 0x00 ∷ 0x01 ∷ 0x00 ∷ 0x00 ∷ 0x00 ∷ 0x10 ∷ 0x00 ∷ 0x18
     ∷ 0x00 ∷ 0x1e ∷ 0x00 ∷ 0x1e ∷ 0x02 ∷ 0x01 ∷ 0x02 ∷ 0x00 ∷ 0x01 ∷ 0x02 ∷ 0x00 ∷ 0x00
@@ -128,7 +107,7 @@ pub record Case : Type 0 where
   pub wanted : List ℕ
 
 -- number and place of an answer
-abbrev said : Answer → List ℕ
+abbrev pub said : Answer → List ℕ
 said a = number a ∷ place a ∷ []
 
 -- whether each of the facts holds where the run ends: 1 or 0. (All 4,096 of M2 at once would take too long to compute.)
@@ -140,11 +119,12 @@ heldAt (ended end) fs = map (λ f. cond (end f) 1 0) fs
 abbrev lent : List ℕ
 lent = replicate endSheetSize 0xff
 
--- a book of one relation over two places and 16 objects, with one record of one state of so many facts: a pair for each n from `from` on
-abbrev pairs : ℕ → ℕ → List ℕ
-pairs zero from = []
-pairs (suc left) from = 1 ∷ (from / 16 + 1) ∷ (from % 16 + 1) ∷ pairs left (suc from)
+-- so many facts of relation 1 over a number of objects: a pair for each n from `from` on
+abbrev pairs : ℕ → ℕ → ℕ → List ℕ
+pairs objects zero from = []
+pairs objects (suc left) from = 1 ∷ (from / objects + 1) ∷ (from % objects + 1) ∷ pairs objects left (suc from)
 
+-- a book of one relation over two places and 16 objects, with one record of one state of all its facts
 abbrev dense : List ℕ
 dense =
     (0 ∷ 1 ∷ 0 ∷ 1 ∷ 0 ∷ 0 ∷ 0 ∷ 1 ∷ 0 ∷ 16 ∷ 0 ∷ 20 ∷ 0 ∷ 20 ∷ 0x03 ∷ 0x2a ∷ [])
@@ -152,7 +132,7 @@ dense =
     ++ (16 ∷ 0 ∷ 0x03 ∷ 0x16 ∷ [])
     ++ replicate 16 1
     ++ (1 ∷ 0 ∷ [])
-    ++ pairs 256 0
+    ++ pairs 16 256 0
 
 -- the same with a relation of no places more, and with its fact as the 257th
 abbrev denser : List ℕ
@@ -162,8 +142,31 @@ denser =
     ++ (16 ∷ 0 ∷ 0x03 ∷ 0x19 ∷ [])
     ++ replicate 16 1
     ++ (1 ∷ 1 ∷ [])
-    ++ pairs 256 0
+    ++ pairs 16 256 0
     ++ (2 ∷ 0 ∷ 0 ∷ [])
+
+-- a book of 60,000 bytes: one relation over two places, two moves of no parameters, and 64 copies of one record of 937 bytes, which has 10
+-- objects and 3 steps between four equal states of 75 facts. The header is told the count of records and the end.
+abbrev pub longHeader : ℕ → ℕ → List ℕ
+longHeader records end = 0 ∷ 1 ∷ 0 ∷ 1 ∷ 0 ∷ 2 ∷ 0 ∷ records ∷ 0 ∷ 16 ∷ 0 ∷ 20 ∷ 0 ∷ 32 ∷ (end / 256) ∷ (end % 256) ∷ []
+
+abbrev pub longSections : List ℕ
+longSections = 2 ∷ 1 ∷ 1 ∷ 0 ∷ 0 ∷ 0 ∷ 0 ∷ 0 ∷ 0 ∷ 0 ∷ 0 ∷ 0 ∷ 0 ∷ 0 ∷ 0 ∷ 0 ∷ []
+
+abbrev crowded : List ℕ
+crowded = 0 ∷ 75 ∷ pairs 10 75 0
+
+abbrev pub longRecord : List ℕ
+longRecord =
+    (10 ∷ 3 ∷ 0x03 ∷ 0xa9 ∷ [])
+    ++ (replicate 10 1 ++ (crowded ++ ((1 ∷ 0 ∷ 0 ∷ 0 ∷ 0 ∷ crowded) ++ ((1 ∷ 0 ∷ 0 ∷ 0 ∷ 0 ∷ crowded) ++ (1 ∷ 0 ∷ 0 ∷ 0 ∷ 0 ∷ crowded)))))
+
+unfoldable pub copies : ℕ → List ℕ → List ℕ
+copies zero r = []
+copies (suc n) r = r ++ copies n r
+
+abbrev pub long : List ℕ
+long = longHeader 64 60000 ++ (longSections ++ copies 64 longRecord)
 
 abbrev pub cases : List Case
 cases =
@@ -187,22 +190,10 @@ cases =
     ∷ record { gives = said (lookOver (take 15 book)); wanted = 1 ∷ 0 ∷ [] }
     ∷ record { gives = said (lookOver dense); wanted = 0 ∷ 0 ∷ [] }
     ∷ record { gives = said (lookOver denser); wanted = 8 ∷ 44 ∷ [] }
+    ∷ record { gives = said (lookOver long); wanted = 0 ∷ 192 ∷ [] }
+    ∷ record { gives = said (lookOver (long ++ (0 ∷ []))); wanted = 1 ∷ 0 ∷ [] }
     ∷ []
 
 abbrev pub AllRight : List Case → Type 0
 AllRight [] = Unit {0}
 AllRight (c ∷ cs) = (c .gives ≡ c .wanted) × AllRight cs
-
--- every marked case is as the paper says
-pub cases-right : AllRight cases
-unfolding _>>=_ refuse number place walk byteAt two sectionsOf numberBad relationAt moveAt schema hall kindSuits objectBad factAt factBad precedes noFact factNumber objectOf stepAt argumentBad stepBad samePair repeats atomRelation atomFirst atomSecond parameterFills isAtom placed ground lengthBad countsBad offsetsBad kindBad relationBad moveBad relation move sections cut countBad factRefused facts state objectsIn stepsIn lengthIn headBad object stepRefused step objectsOf trajectory closed body recordAt stepTotal allRecords lookOverBy lookOver factsAt stateAt stateEnd filedStep filedAt recordFiled recordsFiled filed objectCount startCount goalCount stepCount startAt goalAt stepsAt orderCountsBad orderOffsetsBad orderHeaderBad orderObjects orderObject entryBad entries planStepBad planStep fromGoal fromStart orderForm startFacts entryAt goalFrom goal planFrom plan maskOf same below any has later first least image inapplicable next run wrong saw before after turned learned unboundEffect conflicting domain holding groundAction transition goalEntry schemaOf filedIn transitionsOf startState planOf goalOf unboundEffects conflictAnswer conflictingMove learnable ruleRow ruleRows learnedFrom ruleSheet learn kept learnBytes planRun orderRun goalAnswer runAnswer check endSheet checkBytes twoBytes added add addBytes digits decimal refusedLine needLetter effectLetter paramShown atomFront atomLine lineIfAtom atomLines moveLines countsLine rulesLines rulesPrinted planLine planPrinted
-cases-right = (refl, (refl, (refl, (refl, (refl, (refl, (refl, (refl, (refl, (refl, (refl, (refl, (refl, (refl, (refl, (refl, (refl, (refl, (refl, (refl, tt))))))))))))))))))))
-
--- The two sides of the limit of 60,000 bytes, as laws for any bytes: a book so long is too slow to compute as a case.
-pub too-long : (s : List ℕ) → maxLength < length s → lookOver s ≡ Refused 1 0
-unfolding lookOver lookOverBy sections lengthBad refuse _>>=_
-too-long s h = rw (lt-ltb maxLength (length s) h, or-true)
-
-pub not-too-long : (s : List ℕ) → headerSize ≤ length s → length s ≤ maxLength → lengthBad s ≡ false
-unfolding lengthBad
-not-too-long s h k = rw (le-ltb (length s) headerSize h, le-ltb maxLength (length s) k)
