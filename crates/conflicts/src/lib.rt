@@ -40,19 +40,11 @@ fn conflict_set(held: &[u8], m: Move) -> [u8; 32]
     requires { ⌜ MoveHeld (now held) (m .0) ⌝ }
     ensures { λ r. ⌜ r ≡ conflictSet (now (held .entry)) (m .0) ⌝ }
 {
-    let added = rulesheet::outside_held(
-        rulesheet::held_set(held, m, held::ADDED),
-        held,
-        m,
-        held::ALWAYS_AFTER,
-    );
-    let removed = rulesheet::within_held(
-        rulesheet::held_set(held, m, held::DELETED),
-        held,
-        m,
-        held::EVER_AFTER,
-    );
-    mask::union32(added, removed)
+    let added = rulesheet::held_set(held, m, held::ADDED);
+    let deleted = rulesheet::held_set(held, m, held::DELETED);
+    let unkept = rulesheet::outside_held(added, held, m, held::ALWAYS_AFTER);
+    let kept = rulesheet::within_held(deleted, held, m, held::EVER_AFTER);
+    mask::union32(unkept, kept)
 }
 
 // Where no fact is in conflict, the move's bound facts are not asked for.

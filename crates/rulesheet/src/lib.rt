@@ -65,11 +65,11 @@ pub fn rules_of(book: &[u8], h: Sections, held: &[u8], m: Move) -> [[u8; 32]; 4]
 // ---- the sheet
 
 // Where the second set of a move stands in its row, and the third and the fourth.
-const PRE_NEG_AT: usize = limits::SET_SIZE;
+const PRE_NEG_AT: usize = jobs::PRE_NEG * limits::SET_SIZE;
 
-const ADD_AT: usize = 2 * limits::SET_SIZE;
+const ADD_AT: usize = jobs::ADD * limits::SET_SIZE;
 
-const DELETE_AT: usize = 3 * limits::SET_SIZE;
+const DELETE_AT: usize = jobs::DELETE * limits::SET_SIZE;
 
 // A set by value: its length is known here, and its contract says it to callers that have it in an array.
 fn write_set(part: &mut [u8], at: usize, set: [u8; 32])
