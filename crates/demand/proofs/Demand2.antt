@@ -113,8 +113,8 @@ module _ (s : List ℕ) (n : ℕ) (good : lookOver s ≡ Good n) (total : ℕ) (
   unfolding ruleSheet
   long = length-rows (learnedFrom s) (schemaOf s .moves) 1
 
--- Demand 2: of every book of good form.
-pub demand2 : (s : List ℕ) (n : ℕ) → lookOver s ≡ Good n → Demand2 s
+-- Demand 2.
+pub demand2 : Demand2
 demand2 s n good =
     record {
       refused = demand3 s n good .learning;

@@ -11,6 +11,7 @@ use Rattle.answer.specs.declared.Answer.the-variants.{Good}
 use Rattle.terms.specs.declared.Fact.{Fact}
 use Rattle.terms.specs.Steps.{isAtom, ground}
 use Rattle.format.specs.Decode.{Filed}
+use Rattle.format.specs.LookOver.{lookOver}
 use Rattle.model.specs.Quantify.{Mem}
 use Rattle.model.specs.Model.{Model}
 use Rattle.jobs.specs.Planning.{holding, schemaOf, filedIn}
@@ -47,8 +48,13 @@ pub record SheetRight (s : List ℕ) : Type 0 where
   -- each bit of each move is right
   pub bits : (b : Bool) (a n : ℕ) → 1 ≤ a → a ≤ schemaOf s .moves → n < maxAtoms → Bits s b a n
 
-pub record Demand2 (s : List ℕ) : Type 0 where
-  -- A book of good form is refused with 11 or 12 exactly if no model fits it, whatever lent sheet comes with it.
+-- of a book of good form
+pub record LearningRight (s : List ℕ) : Type 0 where
+  -- It is refused with 11 or 12 exactly if no model fits it, whatever lent sheet comes with it.
   pub refused : (size : ℕ) → Impossible (learn s size) ↔ NoneFits s
   -- Of a book that is not, the sheet is the bound of all models that fit.
   pub learned : (total : ℕ) → learnable s ≡ Good total → SheetRight s
+
+-- Demand 2, of every book of good form
+abbrev pub Demand2 : Type 0
+Demand2 = (s : List ℕ) (n : ℕ) → lookOver s ≡ Good n → LearningRight s
