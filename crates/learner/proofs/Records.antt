@@ -8,7 +8,6 @@ use lib.ListN.{length}
 use Rattle.answer.specs.declared.Answer.the-variants.{Good, Refused}
 use Rattle.answer.specs.Laws.{good-refused}
 use Rattle.answer.specs.Walk.{walk}
-use Rattle.input.specs.Bytes.{byteAt}
 use Rattle.terms.specs.declared.Sections.{Sections}
 use Rattle.terms.specs.Schema.{Schema, Hall, schema}
 use Rattle.terms.specs.Steps.{stepAt}
@@ -19,6 +18,8 @@ use Rattle.format.specs.Records.{objectsIn, stepsIn, lengthIn, step, recordAt}
 use Rattle.format.specs.Decode.{stateEnd, filedAt, recordFiled, recordsFiled}
 use Rattle.format.proofs.States.{state-within, state-end, state-ends}
 use Rattle.format.proofs.Records.{head-limits, step-reach, trajectory-parted, record-good}
+use Rattle.records.specs.declared.Head.{Head}
+use Rattle.records.specs.Head.{headOf}
 use Rattle.wellformed.proofs.Suits.{move-known}
 use Rattle.wellformed.proofs.Records.{step-parted}
 use Rattle.held.specs.Held.{Held, holdAll, heldAfter}
@@ -50,16 +51,17 @@ module _ (h : Sections) (s : List ℕ) (long : length s ≤ maxLength) (few : h 
       let v = state-end _ _ s end _ (g .after) (g .start) in
       noteable-steps _ _ s end (omega arith) long few (stepsIn s at) _ (g .after) (g .last) (omega arith) (g .start) (g .steps)
 
--- one record, by what the code has read of its head
-pub record-ready : (s : List ℕ) (at o n : ℕ) → o ≡ byteAt s at → n ≡ byteAt s (at + 1)
-    → Noteable s (stepsIn s at) (at + headSize + objectsIn s at) → Noteable s n (at + headSize + o)
-unfolding stepsIn objectsIn
-record-ready s at o n e f h = rw (e, f) h
+-- one record, by its head
+module _ (s : List ℕ) (at : ℕ) (head : Head) (read : head ≡ headOf s at) where
+  pub record-ready : Noteable s (stepsIn s at) (at + headSize + objectsIn s at) → Noteable s (head .steps) (at + headSize + head .objects)
+  unfolding headOf
+  record-ready h = rw read h
 
-pub record-held : (s : List ℕ) (at o n : ℕ) (before : Held) (bytes : List ℕ) (named : ℕ) → o ≡ byteAt s at → n ≡ byteAt s (at + 1)
-    → Holds (holdAll (filedAt s n (at + headSize + o)) before) bytes named → Holds (holdAll (recordFiled s at) before) bytes named
-unfolding recordFiled stepsIn objectsIn
-record-held s at o n before bytes named e f h = rw (e, f) at h
+  pub record-held : (before : Held) (bytes : List ℕ) (named : ℕ)
+      → Holds (holdAll (filedAt s (head .steps) (at + headSize + head .objects)) before) bytes named
+      → Holds (holdAll (recordFiled s at) before) bytes named
+  unfolding recordFiled headOf
+  record-held before bytes named h = rw read at h
 
 module _ (s : List ℕ) (whole : Held) where
   -- one record more

@@ -1,6 +1,7 @@
 // Learning: the records of a book walked once, each looked over and noted; then rows 11 to 13 and the rule sheet from what is held.
 // Uses sections and the reader of records for the rows of the form, notes for one step, rulesheet and conflicts for what comes of it.
 use answer::Answer;
+use records::Head;
 use terms::Sections;
 ghost use mathlib.Core.Path.{_≡_};
 ghost use Prim.Native.Nat.{_+_, _≤_};
@@ -10,6 +11,7 @@ ghost use Rattle.format.specs.Decode.{stateEnd, filedAt, recordFiled};
 ghost use Rattle.held.specs.Held.{holdAll};
 ghost use Rattle.notes.specs.Notes.{Holds};
 ghost use Rattle.format.specs.Records.{stepsIn, objectsIn};
+ghost use Rattle.records.specs.Head.{headOf};
 ghost use Rattle.learner.specs.Learner.{Noteable, RecordsNoted, FormNoted, Noted, LearnOutcome};
 ghost use Rattle.terms.specs.Sections.{sectionsOf};
 
@@ -44,13 +46,12 @@ fn note_steps(s: &[u8], n: usize, from: usize, held: &mut [u8], named: usize) ->
 }
 
 // The record at an offset, whose form is good: each of its steps noted.
-fn note_record(s: &[u8], at: usize, held: &mut [u8], named: usize) -> usize
-    requires { ⌜ (at ≤ maxLength) × (length (now held) ≡ heldSize) × Noteable (now s) (stepsIn (now s) at) (at + headSize + objectsIn (now s) at) ⌝ }
+fn note_record(s: &[u8], at: usize, head: Head, held: &mut [u8], named: usize) -> usize
+    requires { ⌜ (at ≤ maxLength) × (head ≡ headOf (now s) at) × (length (now held) ≡ heldSize) × Noteable (now s) (stepsIn (now s) at) (at + headSize + objectsIn (now s) at) ⌝ }
     ensures { λ r. ⌜ Holds (holdAll (recordFiled (now (s .entry)) at) (record { masks = now (held .entry); named = named })) (now (held .exit)) r ⌝ }
 {
-    let objects = input::byte_at(s, at) as usize;
-    let steps = input::byte_at(s, at + 1) as usize;
-    note_steps(s, steps, at + limits::HEAD_SIZE + objects, held, named)
+    let steps = at + limits::HEAD_SIZE + head.objects as usize;
+    note_steps(s, head.steps as usize, steps, held, named)
 }
 
 // A number of records, which end the book: each looked over, then noted, before the next.
@@ -71,8 +72,9 @@ fn note_records(s: &[u8], n: usize, from: usize, held: &mut [u8]) -> Walked
                 };
             }
             Answer::Good(next) => {
-                named = note_record(s, at, held, named);
-                total += input::byte_at(s, at + 1) as usize;
+                let head = Head::read(s, at);
+                named = note_record(s, at, head, held, named);
+                total += head.steps as usize;
                 at = next;
             }
         }

@@ -1,6 +1,7 @@
 // Looking over a book: rows 1 to 10 of the refusal table, for any bytes; the count of all steps is good.
 // Uses answer, terms, sections and the reader of records, and the definitions of format. The records are walked once.
 use answer::Answer;
+use records::Head;
 use terms::Sections;
 ghost use mathlib.Core.Path.{_≡_};
 ghost use Prim.Native.Nat.{_≤_};
@@ -23,7 +24,8 @@ pub fn records(s: &[u8], n: usize, from: usize) -> Answer
                 return Answer::Refused(k, p);
             }
             Answer::Good(next) => {
-                total += input::byte_at(s, at + 1) as usize;
+                let head = Head::read(s, at);
+                total += head.steps as usize;
                 at = next;
             }
         }

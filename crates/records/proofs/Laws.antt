@@ -2,10 +2,9 @@
 -- good record is here for this crate's callers.
 use Prim.Native.Nat.{ℕ, zero, suc, _+_, _-_, _≤_, _<_}
 use mathlib.Core.Path.{_≡_, refl, sym, _∙_}
-use mathlib.Core.Bool.{Bool, true, false, _||_}
+use mathlib.Core.Bool.{Bool, true, false}
 use mathlib.Core.List.{List}
 use lib.ListN.{length}
-use lib.Dec.{ltb}
 use native.Mathlib.Numerals.{sub-one}
 use native.Mathlib.Omega.{arith}
 use borrow.Author.Tests.{lt-ltb, le-ltb}
@@ -14,49 +13,38 @@ use Rattle.answer.specs.declared.Answer.the-variants.{Good, Refused}
 use Rattle.answer.specs.Answer.{isRefused, valueOf}
 use Rattle.answer.specs.Laws.{refuse-met, refuse-unmet, bind-good, bind-refused}
 use Rattle.answer.specs.Walk.{walk}
-use Rattle.input.specs.Bytes.{byteAt, two}
 use Rattle.terms.specs.declared.Sections.{Sections}
 use Rattle.terms.specs.Schema.{schema, hall}
-use Rattle.limits.specs.Limits.{headSize, maxObjects, maxSteps}
-use Rattle.format.specs.States.{cut}
-use Rattle.format.specs.Records.{objectsIn, stepsIn, lengthIn, headBad, object, objectsOf, trajectory, body, recordAt, closed}
+use Rattle.limits.specs.Limits.{headSize}
+use Rattle.format.specs.Records.{stepsIn, lengthIn, headBad, object, objectsOf, trajectory, body, recordAt, closed}
 use Rattle.format.specs.LookOver.{stepTotal, allRecords}
 use Rattle.answer.specs.Turns.{part-stays, part-follows}
+use Rattle.records.specs.declared.Head.{Head}
+use Rattle.records.specs.Head.{headOf}
 
-pub head-bad-by : (s : List ℕ) (at a b n : ℕ)
-    → a ≡ byteAt s at
-    → b ≡ byteAt s (at + 1)
-    → n ≡ two s (at + 2)
-    → (ltb (length s) (at + headSize) || ltb maxObjects a || ltb maxSteps b || ltb n headSize || ltb (length s) (at + n)) ≡ headBad s at
-unfolding headBad cut objectsIn stepsIn lengthIn
-head-bad-by s at a b n p q r = rw (p, q, r)
-
-module _ (h : Sections) (s : List ℕ) (at end : ℕ) where
-  pub body-stays : (n : ℕ) (a : Answer) (b : Bool)
-      → n ≡ byteAt s at
-      → a ≡ walk (object (h .kinds) s end) n (at + headSize)
+module _ (h : Sections) (s : List ℕ) (at end : ℕ) (head : Head) (read : head ≡ headOf s at) where
+  pub body-stays : (a : Answer) (b : Bool)
+      → a ≡ walk (object (h .kinds) s end) (head .objects) (at + headSize)
       → b ≡ isRefused a
       → b ≡ true
       → a ≡ body h s at end
-  unfolding body objectsIn
-  body-stays n a b i p q r = part-stays _ _ a b (rw i at p) q r
+  unfolding body headOf
+  body-stays a b p q r = part-stays _ _ a b (rw read at p) q r
 
   -- behind good objects
-  pub body-rest : (n m v : ℕ) (a : Answer) (b : Bool) (t : Answer)
-      → n ≡ byteAt s at
-      → m ≡ byteAt s (at + 1)
-      → a ≡ walk (object (h .kinds) s end) n (at + headSize)
+  pub body-rest : (v : ℕ) (a : Answer) (b : Bool) (t : Answer)
+      → a ≡ walk (object (h .kinds) s end) (head .objects) (at + headSize)
       → b ≡ isRefused a
       → b ≡ false
       → v ≡ valueOf a
-      → t ≡ trajectory (schema h s) (hall (record { count = n; at = at + headSize }) s) s end m v
+      → t ≡ trajectory (schema h s) (hall (record { count = head .objects; at = at + headSize }) s) s end (head .steps) v
       → closed at end t ≡ body h s at end
-  unfolding body objectsIn stepsIn objectsOf closed
-  body-rest n m v a b t i j p q r u w =
-      rw (w, i, j)
+  unfolding body objectsOf closed headOf
+  body-rest v a b t p q r u w =
+      rw (w, read)
       (part-follows _
-      (λ first. closed at end (trajectory (schema h s) (hall (record { count = byteAt s at; at = at + headSize }) s) s end (byteAt s (at + 1)) first))
-      a b v (rw i at p) q r u)
+      (λ first. closed at end (trajectory (schema h s) (hall (objectsOf s at) s) s end (stepsIn s at) first))
+      a b v (rw read at p) q r u)
 
 module _ (at end : ℕ) (a : Answer) (b : Bool) where
   pub closed-stays : b ≡ isRefused a → b ≡ true → a ≡ closed at end a
@@ -76,14 +64,14 @@ module _ (h : Sections) (s : List ℕ) where
   unfolding recordAt
   record-refused at b p e = sym (refuse-met _ _ _ _ (sym p ∙ e))
 
-  pub record-body : (at n : ℕ) (b : Bool) (r : Answer)
+  pub record-body : (at : ℕ) (head : Head) (b : Bool) (r : Answer)
+      → head ≡ headOf s at
       → b ≡ headBad s at
       → b ≡ false
-      → n ≡ two s (at + 2)
-      → r ≡ body h s at (at + n)
+      → r ≡ body h s at (at + head .length)
       → r ≡ recordAt h s at
-  unfolding recordAt lengthIn
-  record-body at n b r p e q u = u ∙ rw q (sym (refuse-unmet _ _ _ _ (sym p ∙ e)))
+  unfolding recordAt headOf
+  record-body at head b r q p e u = u ∙ rw q (sym (refuse-unmet _ _ _ _ (sym p ∙ e)))
 
   -- the records of a book, by what a loop over them has in hand
   pub all-refused : (n from k p : ℕ) → Refused k p ≡ walk (recordAt h s) n from → Refused k p ≡ allRecords h s n from
@@ -107,12 +95,12 @@ module _ (s : List ℕ) (whole : ℕ) where
   unfolding stepTotal
   total-none n at total i e = let j = rw e at i in omega arith
 
-  pub total-more : (n at next x total : ℕ)
+  pub total-more : (n at next total : ℕ) (head : Head)
       → total + stepTotal s n at ≡ whole
       → 0 < n
-      → x ≡ byteAt s (at + 1)
+      → head ≡ headOf s at
       → next ≡ at + lengthIn s at
-      → total + x + stepTotal s (n - 1) next ≡ whole
-  unfolding stepTotal stepsIn
-  total-more zero at next x total i h e f = absurd (omega arith)
-  total-more (suc n) at next x total i h e f = rw (sub-one, e, f) (omega arith)
+      → total + head .steps + stepTotal s (n - 1) next ≡ whole
+  unfolding stepTotal headOf
+  total-more zero at next total head i h e f = absurd (omega arith)
+  total-more (suc n) at next total head i h e f = rw (sub-one, e, f) (omega arith)

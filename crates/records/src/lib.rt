@@ -14,19 +14,40 @@ ghost use Rattle.answer.specs.Walk.{walk};
 ghost use Rattle.terms.specs.Schema.{schema, hall};
 ghost use Rattle.terms.specs.Steps.{stepAt};
 ghost use Rattle.limits.specs.Limits.{maxLength, maxObjects, stepSize};
-ghost use Rattle.format.specs.Records.{objectsIn, headBad, object, stepRefused, step, trajectory, closed, body, recordAt};
+ghost use Rattle.format.specs.Records.{headBad, object, stepRefused, step, trajectory, closed, body, recordAt};
 ghost use Rattle.tables.specs.Tables.{ForKinds};
+ghost use Rattle.records.specs.Head.{headOf};
 ghost use Rattle.records.specs.Readable.{Readable};
 
+// A record's head: how many objects it has, how many steps, and how many bytes.
+pub struct Head {
+    pub objects: u8,
+    pub steps: u8,
+    pub length: u16,
+}
+
+impl Head {
+    pub fn read(s: &[u8], at: usize) -> Head
+        requires { ⌜ at ≤ maxLength ⌝ }
+        ensures { λ r. ⌜ r ≡ headOf (now (s .entry)) at ⌝ }
+    {
+        Head {
+            objects: input::byte_at(s, at),
+            steps: input::byte_at(s, at + 1),
+            length: input::two_at(s, at + 2),
+        }
+    }
+}
+
 // Row 6, of a head.
-fn head_bad(s: &[u8], at: usize) -> bool
-    requires { ⌜ at ≤ maxLength ⌝ }
+fn head_bad(s: &[u8], head: Head, at: usize) -> bool
+    requires { ⌜ (at ≤ maxLength) × (head ≡ headOf (now s) at) ⌝ }
     ensures { λ r. ⌜ r ≡ headBad (now (s .entry)) at ⌝ }
 {
-    let size = input::two_at(s, at + 2) as usize;
+    let size = head.length as usize;
     (s.len() < at + limits::HEAD_SIZE)
-        | (limits::MAX_OBJECTS < input::byte_at(s, at))
-        | (limits::MAX_STEPS < input::byte_at(s, at + 1))
+        | (limits::MAX_OBJECTS < head.objects)
+        | (limits::MAX_STEPS < head.steps)
         | (size < limits::HEAD_SIZE)
         | (s.len() < at + size)
 }
@@ -146,12 +167,12 @@ fn closed(a: Answer, at: usize, end: usize) -> Answer
 }
 
 // A record whose head is right.
-fn body(s: &[u8], h: Sections, at: usize, end: usize) -> Answer
-    requires { ⌜ (at ≤ maxLength) × (end ≤ maxLength) × (end ≤ length (now s)) × (objectsIn (now s) at ≤ maxObjects) ⌝ }
+fn body(s: &[u8], h: Sections, head: Head, at: usize, end: usize) -> Answer
+    requires { ⌜ (at ≤ maxLength) × (end ≤ maxLength) × (end ≤ length (now s)) × (head ≡ headOf (now s) at) × (head .objects ≤ maxObjects) ⌝ }
     ensures { λ r. ⌜ r ≡ body h (now (s .entry)) at end ⌝ }
 {
     let hall = Objects {
-        count: input::byte_at(s, at),
+        count: head.objects,
         at: at + limits::HEAD_SIZE,
     };
     let first = objects(s, h.kinds, end, hall.count as usize, at + limits::HEAD_SIZE);
@@ -160,11 +181,10 @@ fn body(s: &[u8], h: Sections, at: usize, end: usize) -> Answer
     }
     let kinds = tables::kinds_of(s, h, s, hall);
     let table = tables::table_of(s, h, &kinds);
-    let n = input::byte_at(s, at + 1) as usize;
     let scope = Scope {
         h,
         objects: hall,
-        steps: n,
+        steps: head.steps as usize,
         end,
     };
     closed(
@@ -179,8 +199,9 @@ pub fn record_at(s: &[u8], h: Sections, at: usize) -> Answer
     requires { ⌜ (length (now s) ≤ maxLength) × (at ≤ maxLength) ⌝ }
     ensures { λ r. ⌜ r ≡ recordAt h (now (s .entry)) at ⌝ }
 {
-    if head_bad(s, at) {
+    let head = Head::read(s, at);
+    if head_bad(s, head, at) {
         return Answer::Refused(6, at);
     }
-    body(s, h, at, at + input::two_at(s, at + 2) as usize)
+    body(s, h, head, at, at + head.length as usize)
 }

@@ -5,24 +5,18 @@ use Rattle.learner.proofs.note_record.Statement.{statement}
 use Rattle.learner.proofs.note_record.Tie as tie
 
 note-steps-requires : tie.Need-note-steps-requires
-note-steps-requires c κs =
-    let d = c .before in
-    let e = d .before .before .before .before .pre in
-    (e .1, record-ready _ _ _ _ (d .before .byte-at .ensures) (d .byte-at2 .ensures) (e .2))
+note-steps-requires c κs = let e = c .before .before .before .before .before .pre in (e .2, record-ready _ _ _ (e .1) (e .3))
 
 returns : tie.Need-returns
 returns c =
-    let d = c .before .before .before .before in
-    record-held _ _ _ _ _ _ _ (d .before .byte-at .ensures) (d .byte-at2 .ensures) (c .before .before .note-steps .ensures)
+    let d = c .before .before .before in
+    record-held _ _ _ (d .before .before .before .before .before .pre .1) _ _ _ (c .before .before .note-steps .ensures)
 
 pub note-record-spec : {M : Type 1} → statement M
 note-record-spec =
     tie.close
     (tie.spec
-    (λ c κs. search needs)
     (λ c. search needs)
-    (λ c. search needs)
-    (λ c κs. search needs)
     (λ c. search needs)
     (λ c. search needs)
     (λ c. search needs)

@@ -46,16 +46,16 @@ returns c =
 
 note-record-requires : tie.Need-note-record-requires Inv-loop μ-loop
 note-record-requires c κs =
-    let x = c .before .before in
+    let x = c .before .before .before in
     let d = x .before .before in
     let i = d .before .before .loop .inv in
     let p = d .before .before .before .before .before .pre in
     let r = record-by _ _ _ refl (p .0) (i .0) (d .record-from .ensures) in
-    (i .0, i .4, record-noteable _ _ (p .0) (p .3) _ _ (sym r ∙ x .next .given .1))
+    (i .0, c .before .read .ensures, i .4, record-noteable _ _ (p .0) (p .3) _ _ (sym r ∙ x .next .given .1))
 
 loop-again : tie.Need-loop-again Inv-loop μ-loop
 loop-again c =
-    let x = c .before .before .before .before .before .before in
+    let x = c .before .before .before .before .before .before .before in
     let d = x .before .before in
     let i = d .before .before .loop .inv in
     let p = d .before .before .before .before .before .pre in
@@ -65,8 +65,8 @@ loop-again c =
       omega (arith, p .0, w .1),
       omega arith,
       turn-good _ _ _ _ _ _ (i .2) (d .before .loop-test .taken) r e,
-      total-more _ _ _ _ _ _ _ (i .3) (d .before .loop-test .taken) (c .byte-at .ensures) (w .0),
-      c .before .before .before .note-record .kept .1 .1 .0 ∙ i .4,
+      total-more _ _ _ _ _ _ _ (i .3) (d .before .loop-test .taken) (c .before .before .before .before .before .read .ensures) (w .0),
+      c .before .before .before .note-record .kept .1 .1 .1 .0 ∙ i .4,
       record-turn _ _ _ _ _ _ _ _ _ (d .before .loop-test .taken) (w .0) (c .before .before .before .note-record .ensures) (i .5),
     )
 
@@ -95,9 +95,8 @@ note-records-spec =
     (λ c. search needs)
     returns
     (λ c. search needs)
-    note-record-requires
-    (λ c. search needs)
     (λ c κs. search needs)
+    note-record-requires
     (λ c. search needs)
     (λ c. search needs)
     (λ c. search needs)

@@ -45,11 +45,8 @@ returns c =
 enum-known-next : tie.Need-enum-known-next Inv-loop μ-loop
 enum-known-next c = search needs
 
-add-byte-at : tie.Need-add-byte-at Inv-loop μ-loop
-add-byte-at c = search needs
-
-byte-at-requires : tie.Need-byte-at-requires Inv-loop μ-loop
-byte-at-requires c κs = search needs
+read-requires : tie.Need-read-requires Inv-loop μ-loop
+read-requires c κs = search needs
 
 cast-total : tie.Need-cast-total Inv-loop μ-loop
 cast-total c = search needs
@@ -65,15 +62,15 @@ loop-less c = search needs
 
 loop-again : tie.Need-loop-again Inv-loop μ-loop
 loop-again c =
-    let d = c .before .before .before .before in
-    let e = c .before .before .next .given .1 in
+    let d = c .before .before .before .before .before in
+    let e = c .before .before .before .next .given .1 in
     let p = d .before .before .before .before .pre in
     let r = record-by _ _ _ refl (p .0) (d .before .before .loop .inv .0) (d .record-from .ensures) in
     let w = record-within _ _ _ _ (sym r ∙ e) in (
       omega arith,
       omega arith,
       turn-good _ _ _ _ _ _ (d .before .before .loop .inv .2) (d .before .loop-test .taken) r e,
-      total-more _ _ _ _ _ _ _ (d .before .before .loop .inv .3) (d .before .loop-test .taken) (c .byte-at .ensures) (w .0),
+      total-more _ _ _ _ _ _ _ (d .before .before .loop .inv .3) (d .before .loop-test .taken) (c .before .read .ensures) (w .0),
     )
 
 returns-2 : tie.Need-returns-2 Inv-loop μ-loop
@@ -95,8 +92,7 @@ records-spec =
     enum-known-k
     returns
     enum-known-next
-    add-byte-at
-    byte-at-requires
+    read-requires
     cast-total
     add-total
     sub-left
