@@ -53,14 +53,14 @@ fn unmet(
     h: Sections,
     b: Binding,
     rules: [[u8; 32]; 4],
-    state: &[u8; 512],
+    state: &[u8; limits::STATE_SIZE],
     n: usize,
 ) -> bool
     requires { ⌜ n < maxAtoms ⌝ }
     ensures { λ r. ⌜ r ≡ unmet (ruleAt rules) (ground (schema h (now (book .entry))) b) (now (state .entry)) n ⌝ }
 {
-    let positive = mask::has32(rules[0], n);
-    let negative = mask::has32(rules[1], n);
+    let positive = mask::has32(rules[jobs::PRE_POS], n);
+    let negative = mask::has32(rules[jobs::PRE_NEG], n);
     if !(positive | negative) {
         return false;
     }
@@ -73,12 +73,12 @@ pub fn is_inapplicable(
     h: Sections,
     b: Binding,
     rules: [[u8; 32]; 4],
-    state: &[u8; 512],
+    state: &[u8; limits::STATE_SIZE],
 ) -> bool
     ensures { λ r. ⌜ r ≡ inapplicableIn (ruleAt rules) (ground (schema h (now (book .entry))) b) (now (state .entry)) ⌝ }
 {
-    let positive = rules[0];
-    let negative = rules[1];
+    let positive = rules[jobs::PRE_POS];
+    let negative = rules[jobs::PRE_NEG];
     let mut n = 0;
     while n < limits::MAX_ATOMS {
         if none_near(positive, n) & none_near(negative, n) {
@@ -103,7 +103,7 @@ fn put_effects(
     b: Binding,
     set: [u8; 32],
     value: bool,
-    state: &mut [u8; 512],
+    state: &mut [u8; limits::STATE_SIZE],
 )
     ensures { λ _. ⌜ now (state .exit) ≡ effects value set (ground (schema h (now (book .entry))) b) (now (state .entry)) maxAtoms ⌝ }
 {
@@ -121,9 +121,15 @@ fn put_effects(
 }
 
 // The state after a step that is applicable.
-pub fn advance(book: &[u8], h: Sections, b: Binding, rules: [[u8; 32]; 4], state: &mut [u8; 512])
+pub fn advance(
+    book: &[u8],
+    h: Sections,
+    b: Binding,
+    rules: [[u8; 32]; 4],
+    state: &mut [u8; limits::STATE_SIZE],
+)
     ensures { λ _. ⌜ now (state .exit) ≡ nextIn (ruleAt rules) (ground (schema h (now (book .entry))) b) (now (state .entry)) ⌝ }
 {
-    put_effects(book, h, b, rules[3], false, state);
-    put_effects(book, h, b, rules[2], true, state);
+    put_effects(book, h, b, rules[jobs::DELETE], false, state);
+    put_effects(book, h, b, rules[jobs::ADD], true, state);
 }
