@@ -28,8 +28,8 @@ use Rattle.wellformed.proofs.Headers.{moves-few}
 use Rattle.wellformed.proofs.Records.{filed-somewhere}
 use Rattle.wellformed.proofs.Orders.{length-plan}
 use Rattle.format.proofs.OrderForm.{order-good, order-bounded}
-use Rattle.learner.specs.Learner.{Noteable}
-use Rattle.learner.proofs.Records.{record-noteable}
+use Rattle.walk.specs.Walk.{Noteable}
+use Rattle.walk.proofs.Noting.{record-noteable}
 use Rattle.adding.proofs.Bounds.{add-bounded}
 use Rattle.changeover.proofs.Laws.{Fits, fits-by}
 

@@ -23,8 +23,9 @@ use Rattle.held.specs.Held.{Held, nothingSeen}
 use Rattle.held.specs.Rules.{unboundAnswer, conflictAmong, sheetHeld}
 use Rattle.heldright.proofs.HeldRight.{held-right}
 use Rattle.notes.specs.Notes.{Holds}
-use Rattle.learner.specs.declared.Walked.{Walked}
-use Rattle.learner.specs.Learner.{RecordsNoted, FormNoted, heldOf, Noted, LearnOutcome}
+use Rattle.walk.specs.declared.Walked.{Walked}
+use Rattle.walk.specs.Walk.{RecordsWalked}
+use Rattle.learner.specs.Learner.{FormNoted, heldOf, Noted, LearnOutcome}
 
 refused-not-good {ℓ} : {A : Type ℓ} (a : Answer) (m : ℕ) → isRefused a ≡ true → a ≡ Good m → A
 unfolding isRefused
@@ -59,15 +60,16 @@ module _ (s : List ℕ) (h : Sections) (own : h ≡ sectionsOf s) where
   -- what is held after all records of a book
   pub all-held : (first bytes : List ℕ) (w : Walked) (m : ℕ)
       → first ≡ nothingSeen .masks
-      → RecordsNoted h s (h .records .count) (h .records .at) (record { masks = first; named = 0 }) bytes w
+      → RecordsWalked h s (h .records .count) (h .records .at) true (record { masks = first; named = 0 }) bytes w
       → w .answer ≡ Good m
       → Holds (heldOf s) bytes (w .named)
   unfolding heldOf filedIn filed nothingSeen
-  all-held first bytes w m e r f = rw (e, own) at (r .holds m f)
+  all-held first bytes w m e r f = rw (e, own) at (r .holds refl m f)
 
   -- the records by the header that was read
-  pub noted-own : (n from : ℕ) (before : Held) (bytes : List ℕ) (w : Walked) → RecordsNoted (sectionsOf s) s n from before bytes w → RecordsNoted h s n from before bytes w
-  noted-own n from before bytes w e = rw own e
+  pub walked-own : (n from : ℕ) (noting : Bool) (before : Held) (bytes : List ℕ) (w : Walked)
+      → RecordsWalked (sectionsOf s) s n from noting before bytes w → RecordsWalked h s n from noting before bytes w
+  walked-own n from noting before bytes w e = rw own e
 
   -- rows 6 to 10
   pub at-records : (first bytes : List ℕ) (w : Walked) (a : Answer) (b : Bool)
@@ -75,7 +77,7 @@ module _ (s : List ℕ) (h : Sections) (own : h ≡ sectionsOf s) where
       → b ≡ isRefused a
       → b ≡ false
       → first ≡ nothingSeen .masks
-      → RecordsNoted h s (h .records .count) (h .records .at) (record { masks = first; named = 0 }) bytes w
+      → RecordsWalked h s (h .records .count) (h .records .at) true (record { masks = first; named = 0 }) bytes w
       → FormNoted s bytes w
   at-records first bytes w a b p q r e n =
       record { says = looked a (w .answer) b p q r (n .says); holds = λ m f. all-held first bytes w m e n f }

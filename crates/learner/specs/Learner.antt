@@ -1,36 +1,16 @@
--- What the functions of the learner say of what is held, and when a step can be noted.
-use Prim.Native.Nat.{ℕ, zero, suc, _+_, _≤_}
+-- What the functions of the learner say of what is held.
+use Prim.Native.Nat.{ℕ}
 use mathlib.Core.Path.{_≡_}
 use mathlib.Core.List.{List}
 use lib.ListN.{length}
 use Rattle.answer.specs.declared.Answer.{Answer}
 use Rattle.answer.specs.declared.Answer.the-variants.{Good}
-use Rattle.terms.specs.declared.Sections.{Sections}
-use Rattle.terms.specs.Steps.{stepAt}
-use Rattle.limits.specs.Limits.{maxLength, maxMoves, stepSize}
-use Rattle.format.specs.LookOver.{lookOver, allRecords}
-use Rattle.format.specs.Decode.{stateEnd, recordsFiled}
+use Rattle.format.specs.LookOver.{lookOver}
 use Rattle.held.specs.Held.{Held, holdAll, nothingSeen}
 use Rattle.notes.specs.Notes.{Holds}
 use Rattle.jobs.specs.Planning.{filedIn}
 use Rattle.jobs.specs.Learn.{learnable, learn, learnBytes}
-use Rattle.learner.specs.declared.Walked.{Walked}
-
--- a state and a number of steps behind it lie within a book, each step of a move that there may be
-unfoldable pub Noteable : List ℕ → ℕ → ℕ → Type 0
-Noteable s zero at = (at ≤ maxLength) × (stateEnd s at ≤ length s)
-Noteable s (suc n) at =
-    (at ≤ maxLength)
-    × (stateEnd s at ≤ length s)
-    × (stateEnd s at ≤ maxLength)
-    × (1 ≤ stepAt s (stateEnd s at) .action .0)
-    × (stepAt s (stateEnd s at) .action .0 ≤ maxMoves)
-    × Noteable s n (stateEnd s at + stepSize)
-
--- a number of records walked, each looked over and noted: the answer, and what is held where it is good
-pub record RecordsNoted (h : Sections) (s : List ℕ) (n from : ℕ) (before : Held) (bytes : List ℕ) (w : Walked) : Type 0 where
-  pub says : w .answer ≡ allRecords h s n from
-  pub holds : (m : ℕ) → w .answer ≡ Good m → Holds (holdAll (recordsFiled s n from) before) bytes (w .named)
+use Rattle.walk.specs.declared.Walked.{Walked}
 
 -- what is held after all steps of a book
 unfoldable pub heldOf : List ℕ → Held

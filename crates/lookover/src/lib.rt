@@ -1,7 +1,6 @@
 // Looking over a book: rows 1 to 10 of the refusal table, for any bytes; the count of all steps is good.
-// Uses answer, terms, sections and the reader of records, and the definitions of format. The records are walked once.
+// Uses answer, terms, sections and walk, and the definitions of format. The records are walked once, and nothing is noted.
 use answer::Answer;
-use records::Head;
 use terms::Sections;
 ghost use mathlib.Core.Path.{_≡_};
 ghost use Prim.Native.Nat.{_≤_};
@@ -15,26 +14,9 @@ pub fn records(s: &[u8], n: usize, from: usize) -> Answer
     requires { ⌜ (length (now s) ≤ maxLength) × (from ≤ maxLength) × (n ≤ maxRecords) ⌝ }
     ensures { λ r. ⌜ r ≡ allRecords (sectionsOf (now (s .entry))) (now (s .entry)) n from ⌝ }
 {
-    let mut left = n;
-    let mut at = from;
-    let mut total: usize = 0;
-    while 0 < left {
-        match reader::record_from(s, at) {
-            Answer::Refused(k, p) => {
-                return Answer::Refused(k, p);
-            }
-            Answer::Good(next) => {
-                let head = Head::read(s, at);
-                total += head.steps as usize;
-                at = next;
-            }
-        }
-        left -= 1;
-    }
-    if at < s.len() {
-        return Answer::Refused(6, at);
-    }
-    Answer::Good(total)
+    let mut none = [0u8; 0];
+    let w = walk::records(s, n, from, false, &mut none);
+    w.answer
 }
 
 pub fn look_over(s: &[u8]) -> Answer

@@ -3,7 +3,7 @@ use mathlib.Core.Path.{sym, _∙_}
 use native.Mathlib.Omega.{arith}
 use Rattle.answer.specs.Turns.{is-good}
 use Rattle.format.proofs.Header.{sections-good}
-use Rattle.learner.proofs.Book.{at-sections, noted-own, at-records}
+use Rattle.learner.proofs.Book.{at-sections, walked-own, at-records}
 use borrow.Author.Needs.{needs}
 use Rattle.learner.proofs.note_form.Statement.{statement}
 use Rattle.learner.proofs.note_form.Tie as tie
@@ -11,20 +11,20 @@ use Rattle.learner.proofs.note_form.Tie as tie
 returns : tie.Need-returns
 returns c = at-sections _ _ (c .before .before .before .before .before .pre .0) _ _ _ (c .before .before .sections .ensures) (c .before .is-refused .ensures) (c .if1 .taken)
 
-note-records-requires : tie.Need-note-records-requires
-note-records-requires c κs =
+records-requires : tie.Need-records-requires
+records-requires c κs =
     let x = c .before .before .before .before .before .before .before in
     let p = c .before .before .before .before .before .before .before .before .before .before .before .before .pre in
     let e = sym (x .before .before .sections .ensures) ∙ is-good _ (sym (x .before .is-refused .ensures) ∙ x .if1 .left) in
     let g = sections-good _ _ _ e in
-    (g .size .most, omega (arith, g .offsets .within, g .size .most), g .counts .records, rw (← p .0) (g .counts .moves), c .before .before .before .before .before .nothing-seen .kept .0 ∙ p .1)
+    (g .size .most, omega (arith, g .offsets .within, g .size .most), g .counts .records, λ _. (rw (← p .0) (g .counts .moves), c .before .before .before .before .before .nothing-seen .kept .0 ∙ p .1))
 
 returns-2 : tie.Need-returns-2
 returns-2 c =
     let d = c .before .before .before in
     let x = d .before .before .before .before .before .before .before in
     at-records _ _ (c .before .before .before .before .before .before .before .before .before .before .before .before .before .before .before .pre .0) _ _ _ _ _ (x .before .before .sections .ensures) (x .before .is-refused .ensures) (x .if1 .left)
-    (d .before .before .before .before .before .nothing-seen .ensures) (noted-own _ _ (c .before .before .before .before .before .before .before .before .before .before .before .before .before .before .before .pre .0) _ _ _ _ _ (c .before .before .note-records .ensures))
+    (d .before .before .before .before .before .nothing-seen .ensures) (walked-own _ _ (c .before .before .before .before .before .before .before .before .before .before .before .before .before .before .before .pre .0) _ _ _ _ _ _ (c .before .before .records .ensures))
 
 pub note-form-spec : {M : Type 1} → statement M
 note-form-spec =
@@ -36,6 +36,6 @@ note-form-spec =
     (λ c κs. search needs)
     (λ c. search needs)
     (λ c. search needs)
-    note-records-requires
+    records-requires
     (λ c. search needs)
     returns-2)

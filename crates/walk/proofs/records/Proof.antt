@@ -1,12 +1,13 @@
--- `learner::note_records` meets its contract: the records that are left, noted after those before, come to the whole.
+-- `walk::records` meets its contract: the records that are left, noted after those before, come to the whole.
 use Prim.Native.Nat.{_+_, _*_, _≤_}
 use mathlib.Core.Path.{_≡_, refl, sym, _∙_}
+use mathlib.Core.Bool.{true}
 use native.Mathlib.Omega.{arith}
 use borrow.Author.Needs.{needs}
 use lib.ListN.{length}
 use Rattle.answer.specs.Walk.{walk}
 use Rattle.terms.specs.Sections.{sectionsOf}
-use Rattle.limits.specs.Limits.{maxLength, heldSize}
+use Rattle.limits.specs.Limits.{maxLength}
 use Rattle.format.specs.Records.{recordAt}
 use Rattle.format.specs.LookOver.{stepTotal}
 use Rattle.format.specs.Decode.{recordsFiled}
@@ -15,32 +16,32 @@ use Rattle.reader.specs.Reader.{record-by}
 use Rattle.answer.specs.Turns.{turn-none, turn-refused, turn-good}
 use Rattle.records.proofs.Laws.{all-refused, all-left, all-good, total-none, total-more}
 use Rattle.format.proofs.Records.{record-within}
-use Rattle.learner.proofs.Steps.{holding}
-use Rattle.learner.proofs.Records.{record-noteable, record-turn, records-done, refused-noted}
-use Rattle.learner.proofs.note_records.Statement.{statement}
-use Rattle.learner.proofs.note_records.Tie as tie
+use Rattle.walk.proofs.Steps.{holding}
+use Rattle.walk.proofs.Noting.{record-noteable, record-turn, records-done, refused-walked}
+use Rattle.walk.proofs.records.Statement.{statement}
+use Rattle.walk.proofs.records.Tie as tie
 
 abbrev Inv-loop : tie.InvT-loop
-Inv-loop s n from held₀ left₀ at₀ total₀ named₀ held left at total named =
+Inv-loop s n from noting held₀ left₀ at₀ total₀ named₀ held left at total named =
     (at ≤ maxLength)
     × (total + 255 * left ≤ 255 * n)
     × (walk (recordAt (sectionsOf s) s) left at ≡ walk (recordAt (sectionsOf s) s) n from)
     × (total + stepTotal s left at ≡ stepTotal s n from)
-    × (length held ≡ heldSize)
-    × (holdAll (recordsFiled s left at) (holding held named) ≡ holdAll (recordsFiled s n from) (holding held₀ 0))
+    × (length held ≡ length held₀)
+    × (noting ≡ true → holdAll (recordsFiled s left at) (holding held named) ≡ holdAll (recordsFiled s n from) (holding held₀ 0))
 
 abbrev μ-loop : tie.MeasureT-loop
-μ-loop s n from held₀ left₀ at₀ total₀ named₀ held left at total named = left
+μ-loop s n from noting held₀ left₀ at₀ total₀ named₀ held left at total named = left
 
 loop-holds : tie.Need-loop-holds Inv-loop μ-loop
-loop-holds c = let p = c .before .before .pre in (p .1, omega arith, refl, omega arith, p .4, refl)
+loop-holds c = let p = c .before .before .pre in (p .1, omega arith, refl, omega arith, refl, λ y. refl)
 
 returns : tie.Need-returns Inv-loop μ-loop
 returns c =
     let d = c .before .before .before in
     let p = d .before .before .before .before .before .pre in
     let r = record-by _ _ _ refl (p .0) (d .before .before .loop .inv .0) (d .record-from .ensures) in
-    refused-noted _ _ _ _ _ _ _ _ _
+    refused-walked _ _ _ _ _ _ _ _ _ _
     (all-refused _ _ _ _ _ _
     (turn-refused _ _ _ _ _ _ _ (d .before .before .loop .inv .2) (d .before .loop-test .taken) r (c .before .k .given .1)))
 
@@ -51,7 +52,7 @@ note-record-requires c κs =
     let i = d .before .before .loop .inv in
     let p = d .before .before .before .before .before .pre in
     let r = record-by _ _ _ refl (p .0) (i .0) (d .record-from .ensures) in
-    (i .0, c .before .read .ensures, i .4, record-noteable _ _ (p .0) (p .3) _ _ (sym r ∙ x .next .given .1))
+    (i .0, c .before .read .ensures, λ y. (i .4 ∙ p .3 y .1, record-noteable _ _ (p .0) (p .3 y .0) _ _ (sym r ∙ x .next .given .1)))
 
 loop-again : tie.Need-loop-again Inv-loop μ-loop
 loop-again c =
@@ -66,13 +67,13 @@ loop-again c =
       omega arith,
       turn-good _ _ _ _ _ _ (i .2) (d .before .loop-test .taken) r e,
       total-more _ _ _ _ _ _ _ (i .3) (d .before .loop-test .taken) (c .before .before .before .before .before .read .ensures) (w .0),
-      c .before .before .before .note-record .kept .1 .1 .1 .0 ∙ i .4,
-      record-turn _ _ _ _ _ _ _ _ _ (d .before .loop-test .taken) (w .0) (c .before .before .before .note-record .ensures) (i .5),
+      c .before .before .before .note-record .kept .1 .1 .1 .1 .0 ∙ i .4,
+      λ y. record-turn _ _ _ _ _ _ _ _ _ (d .before .loop-test .taken) (w .0) (c .before .before .before .note-record .ensures y) (i .5 y),
     )
 
 returns-2 : tie.Need-returns-2 Inv-loop μ-loop
 returns-2 c =
-    refused-noted _ _ _ _ _ _ _ _ _
+    refused-walked _ _ _ _ _ _ _ _ _ _
     (all-left _ _ _ _ _ (turn-none _ _ _ _ (c .before .before .loop .inv .2) (omega arith)) (c .if1 .taken))
 
 returns-3 : tie.Need-returns-3 Inv-loop μ-loop
@@ -80,11 +81,11 @@ returns-3 c =
     let i = c .before .before .loop .inv in
     record {
       says = all-good _ _ _ _ _ _ (turn-none _ _ _ _ (i .2) (omega arith)) (omega arith) (total-none _ _ _ _ _ (i .3) (omega arith));
-      holds = λ m e. records-done _ _ _ _ _ _ (omega arith) (i .5);
+      holds = λ y m e. records-done _ _ _ _ _ _ (omega arith) (i .5 y);
     }
 
-pub note-records-spec : {M : Type 1} → statement M
-note-records-spec =
+pub records-spec : {M : Type 1} → statement M
+records-spec =
     tie.close
     (tie.spec
     Inv-loop

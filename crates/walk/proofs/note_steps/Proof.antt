@@ -1,4 +1,4 @@
--- `learner::note_steps` meets its contract: the steps that are left, noted after those before, come to the whole.
+-- `walk::note_steps` meets its contract: the steps that are left, noted after those before, come to the whole.
 use borrow.Author.Needs.{needs}
 use native.Mathlib.Omega.{arith}
 use mathlib.Core.Path.{_≡_, refl, _∙_}
@@ -6,10 +6,10 @@ use lib.ListN.{length}
 use Rattle.limits.specs.Limits.{heldSize}
 use Rattle.format.specs.Decode.{filedAt}
 use Rattle.held.specs.Held.{holdAll}
-use Rattle.learner.specs.Learner.{Noteable}
-use Rattle.learner.proofs.Steps.{holding, step-turn, steps-done, noteable-at, noteable-next}
-use Rattle.learner.proofs.note_steps.Statement.{statement}
-use Rattle.learner.proofs.note_steps.Tie as tie
+use Rattle.walk.specs.Walk.{Noteable}
+use Rattle.walk.proofs.Steps.{holding, step-turn, steps-done, noteable-at, noteable-next}
+use Rattle.walk.proofs.note_steps.Statement.{statement}
+use Rattle.walk.proofs.note_steps.Tie as tie
 
 abbrev Inv-loop : tie.InvT-loop
 Inv-loop s n from held₀ named left₀ at₀ first₀ held left at first =

@@ -1,8 +1,8 @@
--- `learner::state_end` meets its contract: the sum fits.
+-- `walk::state_end` meets its contract: the sum fits.
 use Rattle.format.specs.Decode.{stateEnd}
 use borrow.Author.Needs.{needs}
-use Rattle.learner.proofs.state_end.Statement.{statement}
-use Rattle.learner.proofs.state_end.Tie as tie
+use Rattle.walk.proofs.state_end.Statement.{statement}
+use Rattle.walk.proofs.state_end.Tie as tie
 
 returns : tie.Need-returns
 unfolding stateEnd

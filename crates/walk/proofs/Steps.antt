@@ -10,7 +10,7 @@ use Rattle.limits.specs.Limits.{maxLength, maxMoves, stepSize}
 use Rattle.format.specs.Decode.{stateEnd, filedAt}
 use Rattle.held.specs.Held.{Held, holdAll}
 use Rattle.notes.specs.Notes.{Holds, heldStep}
-use Rattle.learner.specs.Learner.{Noteable}
+use Rattle.walk.specs.Walk.{Noteable}
 
 abbrev pub holding : List ℕ → ℕ → Held
 holding masks named = record { masks = masks; named = named }

@@ -1,6 +1,7 @@
 -- A record of good form can be noted, and records noted one by one are all noted.
 use Prim.Native.Nat.{ℕ, zero, suc, _+_, _-_, _≤_, _<_}
 use mathlib.Core.Path.{_≡_, sym, ap, _∙_}
+use mathlib.Core.Bool.{Bool}
 use mathlib.Core.List.{List}
 use native.Mathlib.Numerals.{sub-one}
 use native.Mathlib.Omega.{arith}
@@ -25,8 +26,8 @@ use Rattle.wellformed.proofs.Records.{step-parted}
 use Rattle.held.specs.Held.{Held, holdAll, heldAfter}
 use Rattle.held.proofs.Records.{held-none, held-more}
 use Rattle.notes.specs.Notes.{Holds}
-use Rattle.learner.specs.Learner.{Noteable, RecordsNoted}
-use Rattle.learner.proofs.Steps.{holding, holds-path}
+use Rattle.walk.specs.Walk.{Noteable, RecordsWalked}
+use Rattle.walk.proofs.Steps.{holding, holds-path}
 
 -- the steps behind a good state, if they are good
 noteable-steps : (sch : Schema) (hl : Hall) (s : List ℕ) (end : ℕ) → end ≤ length s → length s ≤ maxLength → sch .moves ≤ maxMoves
@@ -85,8 +86,8 @@ module _ (s : List ℕ) (whole : Held) where
       record { masks = ap (λ h. h .masks) j; named = ap (λ h. h .named) j }
 
 -- a refusal says nothing of what is held
-pub refused-noted : (h : Sections) (s : List ℕ) (n from : ℕ) (before : Held) (bytes : List ℕ) (k p named : ℕ)
+pub refused-walked : (h : Sections) (s : List ℕ) (n from : ℕ) (noting : Bool) (before : Held) (bytes : List ℕ) (k p named : ℕ)
     → Refused k p ≡ allRecords h s n from
-    → RecordsNoted h s n from before bytes (record { answer = Refused k p; named = named })
-refused-noted h s n from before bytes k p named e =
-    record { says = e; holds = λ m f. good-refused m k p (sym f) }
+    → RecordsWalked h s n from noting before bytes (record { answer = Refused k p; named = named })
+refused-walked h s n from noting before bytes k p named e =
+    record { says = e; holds = λ y m f. good-refused m k p (sym f) }

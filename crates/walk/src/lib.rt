@@ -1,0 +1,104 @@
+// The walk over the records of a book, in file order: each looked over to its end, rows 6 to 10, and its steps noted where they are asked for.
+// Uses the reader of records for the rows, notes for one step, and the definitions of format and held. Looking over and learning both walk here.
+use answer::Answer;
+use records::Head;
+ghost use mathlib.Core.Path.{_≡_};
+ghost use mathlib.Core.Bool.{true};
+ghost use Prim.Native.Nat.{_+_, _≤_};
+ghost use lib.ListN.{length};
+ghost use Rattle.limits.specs.Limits.{maxLength, maxMoves, maxRecords, heldSize, headSize};
+ghost use Rattle.terms.specs.Sections.{sectionsOf};
+ghost use Rattle.format.specs.Records.{stepsIn, objectsIn};
+ghost use Rattle.format.specs.Decode.{stateEnd, filedAt, recordFiled};
+ghost use Rattle.held.specs.Held.{holdAll};
+ghost use Rattle.records.specs.Head.{headOf};
+ghost use Rattle.notes.specs.Notes.{Holds};
+ghost use Rattle.walk.specs.Walk.{Noteable, RecordsWalked};
+
+// What a walk over records comes to: its answer, and the offset of the first step that row 11 names, 0 where none is.
+pub struct Walked {
+    pub answer: Answer,
+    pub named: usize,
+}
+
+fn state_end(s: &[u8], at: usize) -> usize
+    requires { ⌜ at ≤ maxLength ⌝ }
+    ensures { λ r. ⌜ (r ≡ stateEnd (now (s .entry)) at) × (r ≤ 300000) ⌝ }
+{
+    at + limits::COUNT_SIZE + limits::FACT_SIZE * input::two_at(s, at) as usize
+}
+
+// The steps behind the state at an offset, each noted.
+fn note_steps(s: &[u8], n: usize, from: usize, held: &mut [u8], named: usize) -> usize
+    requires { ⌜ (length (now held) ≡ heldSize) × Noteable (now s) n from ⌝ }
+    ensures { λ r. ⌜ Holds (holdAll (filedAt (now (s .entry)) n from) (record { masks = now (held .entry); named = named })) (now (held .exit)) r ⌝ }
+{
+    let mut left = n;
+    let mut at = from;
+    let mut first = named;
+    while 0 < left {
+        let step = state_end(s, at);
+        first = notes::hold(s, at, step, held, first);
+        at = step + limits::STEP_SIZE;
+        left -= 1;
+    }
+    first
+}
+
+// The record at an offset, whose form is good: each of its steps is noted, where steps are.
+fn note_record(
+    s: &[u8],
+    at: usize,
+    head: Head,
+    noting: bool,
+    held: &mut [u8],
+    named: usize,
+) -> usize
+    requires { ⌜ (at ≤ maxLength) × (head ≡ headOf (now s) at) × (noting ≡ true → (length (now held) ≡ heldSize) × Noteable (now s) (stepsIn (now s) at) (at + headSize + objectsIn (now s) at)) ⌝ }
+    ensures { λ r. ⌜ (noting ≡ true → Holds (holdAll (recordFiled (now (s .entry)) at) (record { masks = now (held .entry); named = named })) (now (held .exit)) r) ⌝ }
+{
+    if noting {
+        let steps = at + limits::HEAD_SIZE + head.objects as usize;
+        return note_steps(s, head.steps as usize, steps, held, named);
+    }
+    named
+}
+
+// A number of records, which end the book: each looked over, then noted, before the next. The count of all steps is good. Where nothing is
+// noted, nothing need be lent.
+pub fn records(s: &[u8], n: usize, from: usize, noting: bool, held: &mut [u8]) -> Walked
+    requires { ⌜ (length (now s) ≤ maxLength) × (from ≤ maxLength) × (n ≤ maxRecords) × (noting ≡ true → (sectionsOf (now s) .moves .count ≤ maxMoves) × (length (now held) ≡ heldSize)) ⌝ }
+    ensures { λ r. ⌜ RecordsWalked (sectionsOf (now (s .entry))) (now (s .entry)) n from noting (record { masks = now (held .entry); named = 0 }) (now (held .exit)) r ⌝ }
+{
+    let mut left = n;
+    let mut at = from;
+    let mut total: usize = 0;
+    let mut named: usize = 0;
+    while 0 < left {
+        match reader::record_from(s, at) {
+            Answer::Refused(k, p) => {
+                return Walked {
+                    answer: Answer::Refused(k, p),
+                    named: 0,
+                };
+            }
+            Answer::Good(next) => {
+                let head = Head::read(s, at);
+                named = note_record(s, at, head, noting, held, named);
+                total += head.steps as usize;
+                at = next;
+            }
+        }
+        left -= 1;
+    }
+    if at < s.len() {
+        return Walked {
+            answer: Answer::Refused(6, at),
+            named: 0,
+        };
+    }
+    Walked {
+        answer: Answer::Good(total),
+        named,
+    }
+}
