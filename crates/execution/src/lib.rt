@@ -3,7 +3,7 @@
 // names its definition.
 ghost use mathlib.Core.Path.{_≡_};
 ghost use Prim.Native.Nat.{_+_, _*_, _≤_, _<_};
-ghost use Rattle.limits.specs.Limits.{factSize, entrySize};
+ghost use Rattle.limits.specs.Limits.{factSize, entrySize, farCeiling};
 ghost use Rattle.terms.specs.Schema.{schema};
 ghost use Rattle.terms.specs.Facts.{factNumber};
 ghost use Rattle.format.specs.Decode.{factsAt};
@@ -15,7 +15,7 @@ use terms::Sections;
 use terms::Step;
 
 fn fact_number(f: Fact) -> usize
-    ensures { λ r. ⌜ (r ≡ factNumber f) × (r < 70000) ⌝ }
+    ensures { λ r. ⌜ r ≡ factNumber f ⌝ }
 {
     256 * terms::index(f.relation.0) + 16 * terms::index(f.first.0) + terms::index(f.second.0)
 }
@@ -24,7 +24,7 @@ fn fact_number(f: Fact) -> usize
 
 // The state in which a list of facts holds, and no other.
 pub fn start_mask(o: &[u8], n: usize, from: usize) -> [u8; limits::STATE_SIZE]
-    requires { ⌜ from + factSize * n ≤ 1000000 ⌝ }
+    requires { ⌜ from + factSize * n ≤ farCeiling ⌝ }
     ensures { λ r. ⌜ r ≡ startMask (factsAt (now (o .entry)) n from) ⌝ }
 {
     let mut state = mask::empty512();
@@ -74,7 +74,7 @@ pub fn carry(
 // ---- the goal
 
 fn misses(o: &[u8], at: usize, state: &[u8; limits::STATE_SIZE]) -> bool
-    requires { ⌜ at ≤ 999999 ⌝ }
+    requires { ⌜ at + entrySize ≤ farCeiling ⌝ }
     ensures { λ r. ⌜ r ≡ misses (now (state .entry)) (entryAt (now (o .entry)) at) ⌝ }
 {
     let wanted = input::byte_at(o, at) == 1;
@@ -84,7 +84,7 @@ fn misses(o: &[u8], at: usize, state: &[u8; limits::STATE_SIZE]) -> bool
 
 // Row 20: the number, from 1, of the first goal entry that the state misses, 0 where it misses none.
 pub fn missed(o: &[u8], n: usize, from: usize, state: &[u8; limits::STATE_SIZE]) -> usize
-    requires { ⌜ from + entrySize * n ≤ 999999 ⌝ }
+    requires { ⌜ from + entrySize * n ≤ farCeiling ⌝ }
     ensures { λ r. ⌜ r ≡ missed (now (state .entry)) (goalFrom (now (o .entry)) n from) ⌝ }
 {
     let mut left = n;

@@ -113,3 +113,16 @@ factsPerRelation = 256
 -- the bits of a move's four sets
 abbrev pub ruleBits : ℕ
 ruleBits = 1024
+
+-- ---- ceilings of the offsets and counts that code adds to, so that no sum of them overflows: within the near one, a thing of any size that
+-- two bytes count ends within the far one
+
+-- the largest number of two bytes
+abbrev pub maxTwo : ℕ
+maxTwo = 65535
+
+abbrev pub nearCeiling : ℕ
+nearCeiling = 600000
+
+abbrev pub farCeiling : ℕ
+farCeiling = 1000000

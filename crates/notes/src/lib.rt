@@ -3,7 +3,7 @@
 ghost use mathlib.Core.Path.{_≡_};
 ghost use Prim.Native.Nat.{_+_, _≤_};
 ghost use lib.ListN.{length};
-ghost use Rattle.limits.specs.Limits.{maxMoves, stepSize, setSize, heldSize};
+ghost use Rattle.limits.specs.Limits.{maxLength, maxMoves, stepSize, setSize, heldSize};
 ghost use Rattle.mask.specs.Sets.{difference};
 ghost use Rattle.terms.specs.Steps.{stepAt};
 ghost use Rattle.format.specs.Decode.{stateEnd};
@@ -68,7 +68,7 @@ fn first_named(named: usize, unbound: bool, at: usize) -> usize
 
 // What is held after the step at `at`, before which the state at `pre` stands: returns the offset of the first step that row 11 names, 0 for none.
 pub fn hold(s: &[u8], pre: usize, at: usize, held: &mut [u8], named: usize) -> usize
-    requires { ⌜ (pre ≤ 100000) × (at ≤ 100000) × (length (now held) ≡ heldSize) ⌝ }
+    requires { ⌜ (pre ≤ maxLength) × (at ≤ maxLength) × (length (now held) ≡ heldSize) ⌝ }
     requires { ⌜ (1 ≤ stepAt (now s) at .action .0) × (stepAt (now s) at .action .0 ≤ maxMoves) ⌝ }
     requires { ⌜ (stateEnd (now s) pre ≤ length (now s)) × (stateEnd (now s) (at + stepSize) ≤ length (now s)) ⌝ }
     ensures { λ r. ⌜ Holds (heldStep (now (s .entry)) pre at (now (held .entry)) named) (now (held .exit)) r ⌝ }

@@ -2,8 +2,8 @@
 // Uses input, terms, limits and the definitions of format. `o` is the order.
 use terms::Objects;
 ghost use mathlib.Core.Path.{_≡_};
-ghost use Prim.Native.Nat.{_≤_};
-ghost use Rattle.limits.specs.Limits.{maxObjects};
+ghost use Prim.Native.Nat.{_+_, _*_, _≤_};
+ghost use Rattle.limits.specs.Limits.{headerSize, maxObjects, maxTwo, nearCeiling};
 ghost use Rattle.format.specs.Order.{objectCount, startCount, goalCount, stepCount};
 ghost use Rattle.format.specs.Order.{startAt, goalAt, stepsAt, orderCountsBad, orderOffsetsBad, orderHeaderBad, orderObjects};
 
@@ -37,19 +37,19 @@ pub fn step_count(o: &[u8]) -> u16
 
 // Where the sections start by the counts. Row 14 compares the header's offsets with these.
 pub fn start_at(o: &[u8]) -> usize
-    ensures { λ r. ⌜ (r ≡ startAt (now (o .entry))) × (r ≤ 65551) ⌝ }
+    ensures { λ r. ⌜ (r ≡ startAt (now (o .entry))) × (r ≤ headerSize + maxTwo) ⌝ }
 {
     limits::HEADER_SIZE + object_count(o) as usize
 }
 
 pub fn goal_at(o: &[u8]) -> usize
-    ensures { λ r. ⌜ (r ≡ goalAt (now (o .entry))) × (r ≤ 262156) ⌝ }
+    ensures { λ r. ⌜ (r ≡ goalAt (now (o .entry))) × (r ≤ headerSize + 4 * maxTwo) ⌝ }
 {
     start_at(o) + limits::FACT_SIZE * start_count(o) as usize
 }
 
 pub fn steps_at(o: &[u8]) -> usize
-    ensures { λ r. ⌜ (r ≡ stepsAt (now (o .entry))) × (r ≤ 524296) ⌝ }
+    ensures { λ r. ⌜ (r ≡ stepsAt (now (o .entry))) × (r ≤ nearCeiling) ⌝ }
 {
     goal_at(o) + limits::ENTRY_SIZE * goal_count(o) as usize
 }

@@ -2,6 +2,7 @@
 // Uses answer, input, limits, terms and the definitions of format; each contract names its definition.
 ghost use mathlib.Core.Path.{_≡_};
 ghost use Prim.Native.Nat.{_≤_};
+ghost use Rattle.limits.specs.Limits.{farCeiling};
 ghost use Rattle.answer.specs.Walk.{walk};
 ghost use Rattle.format.specs.Header.{lengthBad, countsBad, offsetsBad, kindBad, relationBad, moveBad, relation, move, sections};
 use answer::Answer;
@@ -50,7 +51,7 @@ fn kind_bad(s: &[u8], kinds: u16, i: usize, used: bool) -> bool
 
 // Row 4, of the relation at an offset.
 fn relation_bad(s: &[u8], kinds: u16, at: usize) -> bool
-    requires { ⌜ at ≤ 1000000 ⌝ }
+    requires { ⌜ at ≤ farCeiling ⌝ }
     ensures { λ r. ⌜ r ≡ relationBad (now (s .entry)) kinds at ⌝ }
 {
     let places = input::byte_at(s, at);
@@ -62,7 +63,7 @@ fn relation_bad(s: &[u8], kinds: u16, at: usize) -> bool
 
 // Row 5, of the move at an offset.
 fn move_bad(s: &[u8], kinds: u16, at: usize) -> bool
-    requires { ⌜ at ≤ 1000000 ⌝ }
+    requires { ⌜ at ≤ farCeiling ⌝ }
     ensures { λ r. ⌜ r ≡ moveBad (now (s .entry)) kinds at ⌝ }
 {
     let params = input::byte_at(s, at);

@@ -30,7 +30,7 @@ fn placed(book: &[u8], h: Sections, b: Binding, r: Relation, i: u8, p: Param) ->
 
 fn ground(book: &[u8], h: Sections, b: Binding, n: usize) -> usize
     requires { ⌜ n < maxAtoms ⌝ }
-    ensures { λ r. ⌜ (r ≡ ground (schema h (now (book .entry))) b n) × (r < 70000) ⌝ }
+    ensures { λ r. ⌜ r ≡ ground (schema h (now (book .entry))) b n ⌝ }
 {
     let r = terms::atom_relation(n);
     let first = placed(book, h, b, r, 1, terms::atom_first(n));

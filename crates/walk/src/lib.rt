@@ -6,7 +6,7 @@ ghost use mathlib.Core.Path.{_≡_};
 ghost use mathlib.Core.Bool.{true};
 ghost use Prim.Native.Nat.{_+_, _≤_};
 ghost use lib.ListN.{length};
-ghost use Rattle.limits.specs.Limits.{maxLength, maxMoves, maxRecords, heldSize, headSize};
+ghost use Rattle.limits.specs.Limits.{nearCeiling, maxLength, maxMoves, maxRecords, heldSize, headSize};
 ghost use Rattle.terms.specs.Sections.{sectionsOf};
 ghost use Rattle.format.specs.Records.{stepsIn, objectsIn};
 ghost use Rattle.format.specs.Decode.{stateEnd, filedAt, recordFiled};
@@ -23,7 +23,7 @@ pub struct Walked {
 
 fn state_end(s: &[u8], at: usize) -> usize
     requires { ⌜ at ≤ maxLength ⌝ }
-    ensures { λ r. ⌜ (r ≡ stateEnd (now (s .entry)) at) × (r ≤ 300000) ⌝ }
+    ensures { λ r. ⌜ (r ≡ stateEnd (now (s .entry)) at) × (r ≤ nearCeiling) ⌝ }
 {
     at + limits::COUNT_SIZE + limits::FACT_SIZE * input::two_at(s, at) as usize
 }

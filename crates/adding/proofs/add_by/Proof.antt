@@ -83,26 +83,6 @@ returns-6 c =
 pub add-by-spec : {M : Type 1} → statement M
 add-by-spec =
     tie.close
-    (tie.spec
-    (λ c κs. search needs)
-    (λ c κs. search needs)
-    returns
-    (λ c. search needs)
-    returns-2
-    (λ c κs. search needs)
-    returns-3
-    form-requires
-    (λ c. search needs)
-    slice-aggregate-records
-    records-requires
-    (λ c κs. search needs)
-    (λ c. search needs)
-    returns-4
-    (λ c. search needs)
-    returns-5
-    (λ c. search needs)
-    slice-aggregate-write-bytes
-    write-bytes-requires
-    (λ c. search needs)
-    (λ c. search needs)
-    returns-6)
+    (tie.spec (λ c κs. search needs) (λ c κs. search needs) returns (λ c. search needs) returns-2 (λ c κs. search needs) returns-3 form-requires
+    (λ c. search needs) slice-aggregate-records records-requires (λ c κs. search needs) (λ c. search needs) returns-4 (λ c. search needs) returns-5
+    (λ c. search needs) slice-aggregate-write-bytes write-bytes-requires (λ c. search needs) (λ c. search needs) returns-6)

@@ -10,7 +10,5 @@ pub atoms-end-spec : {M : Type 1} → statement M
 unfolding atomsEnd
 atoms-end-spec =
     tie.close
-    (tie.spec
-    (λ c. (rw (lt-ltb 16 (c .before .args .relations) (c .if1 .taken)), omega arith))
-    (λ c. search needs)
+    (tie.spec (λ c. (rw (lt-ltb 16 (c .before .args .relations) (c .if1 .taken)), omega arith)) (λ c. search needs)
     (λ c. (rw (le-ltb 16 (c .before .args .relations) (c .if1 .left)), omega arith)))

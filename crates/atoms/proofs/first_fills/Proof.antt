@@ -4,10 +4,4 @@ use Rattle.atoms.proofs.first_fills.Statement.{statement}
 use Rattle.atoms.proofs.first_fills.Tie as tie
 
 pub first-fills-spec : {M : Type 1} → statement M
-first-fills-spec =
-    tie.close
-    (tie.spec
-    (λ c κs. search needs)
-    (λ c κs. search needs)
-    (λ c κs. search needs)
-    (λ c. cc))
+first-fills-spec = tie.close (tie.spec (λ c κs. search needs) (λ c κs. search needs) (λ c κs. search needs) (λ c. cc))

@@ -7,26 +7,9 @@ use Rattle.checker.proofs.carry_out.Tie as tie
 pub carry-out-spec : {M : Type 1} → statement M
 carry-out-spec =
     tie.close
-    (tie.spec
-    (λ c κs. search needs)
-    (λ c. search needs)
-    (λ c κs. search needs)
+    (tie.spec (λ c κs. search needs) (λ c. search needs) (λ c κs. search needs)
     (λ c κs. rw (c .before .before .step-count .ensures, c .before .steps-at .ensures .0) (c .before .before .before .before .before .before .pre))
-    (λ c.
-    let d = c .before in
-    let a = d .before in
-    out-stop _ _ _ _ _ _ _ _ (a .before .before .step-count .ensures) (a .before .steps-at .ensures .0) (d .carry .ensures) (c .if1 .taken))
-    (λ c κs. search needs)
-    (λ c. search needs)
-    (λ c κs. search needs)
-    (λ c κs. search needs)
-    (λ c.
-    let g = c .before .before .before .before in
-    let d = g .before .before in
-    let a = d .before in
-    out-miss _ _ _ _ _ _ _ _ (a .before .before .step-count .ensures) (a .before .steps-at .ensures .0) (d .carry .ensures) (g .before .if1 .left) _ _ _ (g .goal-count .ensures) (c .before .before .before .goal-at .ensures .0) (c .before .missed .ensures) (c .if2 .taken))
-    (λ c.
-    let g = c .before .before .before .before in
-    let d = g .before .before in
-    let a = d .before in
-    out-pass _ _ _ _ _ _ _ _ (a .before .before .step-count .ensures) (a .before .steps-at .ensures .0) (d .carry .ensures) (g .before .if1 .left) _ _ _ (g .goal-count .ensures) (c .before .before .before .goal-at .ensures .0) (c .before .missed .ensures) (c .if2 .left)))
+    (λ c. let d = c .before in let a = d .before in out-stop _ _ _ _ _ _ _ _ (a .before .before .step-count .ensures) (a .before .steps-at .ensures .0) (d .carry .ensures) (c .if1 .taken))
+    (λ c κs. search needs) (λ c. search needs) (λ c κs. search needs) (λ c κs. search needs)
+    (λ c. let g = c .before .before .before .before in let d = g .before .before in let a = d .before in out-miss _ _ _ _ _ _ _ _ (a .before .before .step-count .ensures) (a .before .steps-at .ensures .0) (d .carry .ensures) (g .before .if1 .left) _ _ _ (g .goal-count .ensures) (c .before .before .before .goal-at .ensures .0) (c .before .missed .ensures) (c .if2 .taken))
+    (λ c. let g = c .before .before .before .before in let d = g .before .before in let a = d .before in out-pass _ _ _ _ _ _ _ _ (a .before .before .step-count .ensures) (a .before .steps-at .ensures .0) (d .carry .ensures) (g .before .if1 .left) _ _ _ (g .goal-count .ensures) (c .before .before .before .goal-at .ensures .0) (c .before .missed .ensures) (c .if2 .left)))

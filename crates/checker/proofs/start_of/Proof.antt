@@ -7,9 +7,5 @@ use Rattle.checker.proofs.start_of.Tie as tie
 pub start-of-spec : {M : Type 1} → statement M
 start-of-spec =
     tie.close
-    (tie.spec
-    (λ c κs. search needs)
-    (λ c. search needs)
-    (λ c κs. search needs)
-    (λ c κs. search needs)
+    (tie.spec (λ c κs. search needs) (λ c. search needs) (λ c κs. search needs) (λ c κs. search needs)
     (λ c. start-by _ _ _ (c .before .before .start-count .ensures) (c .before .start-at .ensures .0) (c .start-mask .ensures)))

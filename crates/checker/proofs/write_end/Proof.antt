@@ -11,11 +11,5 @@ use Rattle.checker.proofs.write_end.Tie as tie
 pub write-end-spec : {M : Type 1} → statement M
 write-end-spec =
     tie.close
-    (tie.spec
-    (λ c. search needs)
-    (λ c κs. search needs)
-    (λ c. search needs)
-    (λ c.
-    let d = c .before .before .before .before .before .before in
-    let l : length (d .args .t2) ≡ length (now (d .args .end)) = omega (arith, d .pre) in
-    c .before .before .write-bytes .ensures ∙ written-whole _ _ l))
+    (tie.spec (λ c. search needs) (λ c κs. search needs) (λ c. search needs)
+    (λ c. let d = c .before .before .before .before .before .before in let l : length (d .args .t2) ≡ length (now (d .args .end)) = omega (arith, d .pre) in c .before .before .write-bytes .ensures ∙ written-whole _ _ l))

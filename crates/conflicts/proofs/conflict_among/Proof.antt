@@ -11,7 +11,5 @@ pub conflict-among-spec : {M : Type 1} → statement M
 unfolding conflictAmong conflictAnswer
 conflict-among-spec =
     tie.close
-    (tie.spec
-    (λ c κs. search needs)
-    (λ c. rw (sym (c .before .first-conflict .ensures) ∙ c .if1 .taken))
+    (tie.spec (λ c κs. search needs) (λ c. rw (sym (c .before .first-conflict .ensures) ∙ c .if1 .taken))
     (λ c. conflicting-named _ (c .if1 .left) ∙ ap conflictAnswer (c .before .first-conflict .ensures)))

@@ -3,6 +3,7 @@ use Prim.Native.Nat.{_+_, _≤_}
 use native.Mathlib.Omega.{arith}
 use mathlib.Core.Path.{_≡_, refl, sym, _∙_}
 use borrow.Author.Needs.{needs}
+use Rattle.limits.specs.Limits.{farCeiling}
 use Rattle.terms.specs.Schema.{schema}
 use Rattle.format.specs.Order.{planFrom}
 use Rattle.statemask.specs.Statemask.{carry}
@@ -13,7 +14,7 @@ use Rattle.execution.proofs.carry.Tie as tie
 
 abbrev Inv-loop : tie.InvT-loop
 Inv-loop book h held o steps from state₀ left₀ at₀ k₀ state left at k =
-    Carriable held o left at × (k + left ≤ 1000000)
+    Carriable held o left at × (k + left ≤ farCeiling)
     × (carry (schema h book) held (planFrom o left at) state k ≡ carry (schema h book) held (planFrom o steps from) state₀ 1)
 
 abbrev μ-loop : tie.MeasureT-loop
@@ -22,16 +23,10 @@ abbrev μ-loop : tie.MeasureT-loop
 loop-holds : tie.Need-loop-holds Inv-loop μ-loop
 loop-holds c = (c .before .before .before .pre, omega arith, refl)
 
-read-requires : tie.Need-read-requires Inv-loop μ-loop
-read-requires c κs = search needs
-
 rules-of-requires : tie.Need-rules-of-requires Inv-loop μ-loop
 rules-of-requires c κs =
     let d = c .before .before in
     carriable-move _ _ _ _ (d .before .loop .inv .0) (d .loop-test .taken) _ (c .before .read .ensures)
-
-is-inapplicable-requires : tie.Need-is-inapplicable-requires Inv-loop μ-loop
-is-inapplicable-requires c κs = search needs
 
 returns : tie.Need-returns Inv-loop μ-loop
 returns c =
@@ -43,21 +38,6 @@ returns c =
     (sym
     (carry-here _ _ _ _ _ _ _ (g .loop-test .taken) _ (f .read .ensures) _ (e .rules-of .ensures) _ (d .is-inapplicable .ensures) (c .if1 .taken))
     ∙ g .before .loop .inv .2)
-
-advance-requires : tie.Need-advance-requires Inv-loop μ-loop
-advance-requires c κs = search needs
-
-add-at : tie.Need-add-at Inv-loop μ-loop
-add-at c = search needs
-
-add-k : tie.Need-add-k Inv-loop μ-loop
-add-k c = search needs
-
-sub-left : tie.Need-sub-left Inv-loop μ-loop
-sub-left c = search needs
-
-loop-less : tie.Need-loop-less Inv-loop μ-loop
-loop-less c = search needs
 
 loop-again : tie.Need-loop-again Inv-loop μ-loop
 loop-again c =
@@ -79,18 +59,5 @@ returns-2 c = carries _ _ _ _ _ _ (sym (carry-none _ _ _ _ _ _ _ (omega arith)) 
 pub carry-spec : {M : Type 1} → statement M
 carry-spec =
     tie.close
-    (tie.spec
-    Inv-loop
-    μ-loop
-    loop-holds
-    read-requires
-    rules-of-requires
-    is-inapplicable-requires
-    returns
-    advance-requires
-    add-at
-    add-k
-    sub-left
-    loop-less
-    loop-again
-    returns-2)
+    (tie.spec Inv-loop μ-loop loop-holds (λ c κs. search needs) rules-of-requires (λ c κs. search needs) returns (λ c κs. search needs)
+    (λ c. search needs) (λ c. search needs) (λ c. search needs) (λ c. search needs) loop-again returns-2)

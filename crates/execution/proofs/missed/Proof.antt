@@ -3,6 +3,7 @@ use Prim.Native.Nat.{_+_, _*_, _≤_}
 use native.Mathlib.Omega.{arith}
 use mathlib.Core.Path.{_≡_, sym, _∙_}
 use borrow.Author.Needs.{needs}
+use Rattle.limits.specs.Limits.{entrySize, farCeiling}
 use Rattle.format.specs.Order.{goalFrom}
 use Rattle.statemask.specs.Statemask.{missed}
 use Rattle.execution.proofs.Goal.{missedFrom, missed-whole, missed-none, missed-here, missed-more}
@@ -10,7 +11,7 @@ use Rattle.execution.proofs.missed.Statement.{statement}
 use Rattle.execution.proofs.missed.Tie as tie
 
 abbrev Inv-loop : tie.InvT-loop
-Inv-loop o n from state left₀ at₀ i₀ left at i = (at + 4 * left ≤ 999999) × (i + left ≤ 1000000) × (missedFrom o state left at i ≡ missed state (goalFrom o n from))
+Inv-loop o n from state left₀ at₀ i₀ left at i = (at + entrySize * left ≤ farCeiling) × (i + left ≤ farCeiling) × (missedFrom o state left at i ≡ missed state (goalFrom o n from))
 
 abbrev μ-loop : tie.MeasureT-loop
 μ-loop o n from state left₀ at₀ i₀ left at i = left
@@ -18,26 +19,11 @@ abbrev μ-loop : tie.MeasureT-loop
 loop-holds : tie.Need-loop-holds Inv-loop μ-loop
 loop-holds c = (omega arith, omega arith, missed-whole _ _ _ _)
 
-misses-requires : tie.Need-misses-requires Inv-loop μ-loop
-misses-requires c κs = search needs
-
 returns : tie.Need-returns Inv-loop μ-loop
 returns c =
     let d = c .before in
     let e = d .before in
     sym (missed-here _ _ _ _ _ (e .loop-test .taken) (sym (d .misses .ensures) ∙ c .if1 .taken)) ∙ e .before .loop .inv .2
-
-add-at : tie.Need-add-at Inv-loop μ-loop
-add-at c = search needs
-
-add-i : tie.Need-add-i Inv-loop μ-loop
-add-i c = search needs
-
-sub-left : tie.Need-sub-left Inv-loop μ-loop
-sub-left c = search needs
-
-loop-less : tie.Need-loop-less Inv-loop μ-loop
-loop-less c = search needs
 
 loop-again : tie.Need-loop-again Inv-loop μ-loop
 loop-again c =
@@ -54,15 +40,5 @@ returns-2 c = sym (missed-none _ _ _ _ _ (omega arith)) ∙ c .before .loop .inv
 pub missed-spec : {M : Type 1} → statement M
 missed-spec =
     tie.close
-    (tie.spec
-    Inv-loop
-    μ-loop
-    loop-holds
-    misses-requires
-    returns
-    add-at
-    add-i
-    sub-left
-    loop-less
-    loop-again
-    returns-2)
+    (tie.spec Inv-loop μ-loop loop-holds (λ c κs. search needs) returns (λ c. search needs) (λ c. search needs) (λ c. search needs)
+    (λ c. search needs) loop-again returns-2)

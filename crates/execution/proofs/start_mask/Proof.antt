@@ -3,6 +3,7 @@ use Prim.Native.Nat.{_+_, _*_, _≤_}
 use native.Mathlib.Omega.{arith}
 use mathlib.Core.Path.{_≡_, sym, _∙_}
 use borrow.Author.Needs.{needs}
+use Rattle.limits.specs.Limits.{factSize, farCeiling}
 use Rattle.format.specs.Decode.{factsAt}
 use Rattle.statemask.specs.Statemask.{withFacts, startMask}
 use Rattle.execution.proofs.Start.{facts-none, facts-more}
@@ -10,42 +11,21 @@ use Rattle.execution.proofs.start_mask.Statement.{statement}
 use Rattle.execution.proofs.start_mask.Tie as tie
 
 abbrev Inv-loop : tie.InvT-loop
-Inv-loop o n from state₀ left₀ at₀ state left at = (at + 3 * left ≤ 1000000) × (withFacts (factsAt o left at) state ≡ startMask (factsAt o n from))
+Inv-loop o n from state₀ left₀ at₀ state left at = (at + factSize * left ≤ farCeiling) × (withFacts (factsAt o left at) state ≡ startMask (factsAt o n from))
 
 abbrev μ-loop : tie.MeasureT-loop
 μ-loop o n from state₀ left₀ at₀ state left at = left
 
-empty512-requires : tie.Need-empty512-requires Inv-loop μ-loop
-empty512-requires c κs = search needs
-
 loop-holds : tie.Need-loop-holds Inv-loop μ-loop
 unfolding startMask
 loop-holds c = (omega arith, rw (c .empty512 .ensures))
-
-read-requires : tie.Need-read-requires Inv-loop μ-loop
-read-requires c κs = search needs
-
-fact-number-requires : tie.Need-fact-number-requires Inv-loop μ-loop
-fact-number-requires c κs = search needs
-
-mark512-requires : tie.Need-mark512-requires Inv-loop μ-loop
-mark512-requires c κs = search needs
-
-add-at : tie.Need-add-at Inv-loop μ-loop
-add-at c = search needs
-
-sub-left : tie.Need-sub-left Inv-loop μ-loop
-sub-left c = search needs
-
-loop-less : tie.Need-loop-less Inv-loop μ-loop
-loop-less c = search needs
 
 loop-again : tie.Need-loop-again Inv-loop μ-loop
 loop-again c =
     let d = c .before .before in
     let e = d .before .before in (
       omega arith,
-      facts-more _ _ _ _ _ _ _ (e .loop-test .taken) (d .read .ensures) (c .before .fact-number .ensures .0) (c .mark512 .ensures)
+      facts-more _ _ _ _ _ _ _ (e .loop-test .taken) (d .read .ensures) (c .before .fact-number .ensures) (c .mark512 .ensures)
           ∙ e .before .loop .inv .1,
     )
 
@@ -55,16 +35,5 @@ returns c = sym (facts-none _ _ _ _ (omega arith)) ∙ c .before .loop .inv .1
 pub start-mask-spec : {M : Type 1} → statement M
 start-mask-spec =
     tie.close
-    (tie.spec
-    Inv-loop
-    μ-loop
-    empty512-requires
-    loop-holds
-    read-requires
-    fact-number-requires
-    mark512-requires
-    add-at
-    sub-left
-    loop-less
-    loop-again
-    returns)
+    (tie.spec Inv-loop μ-loop (λ c κs. search needs) loop-holds (λ c κs. search needs) (λ c κs. search needs) (λ c κs. search needs)
+    (λ c. search needs) (λ c. search needs) (λ c. search needs) loop-again returns)

@@ -7,9 +7,6 @@ use Rattle.input.specs.Bytes.{byteAt}
 use Rattle.input.proofs.byte_at.Statement.{statement}
 use Rattle.input.proofs.byte_at.Tie as tie
 
-shared-slice-read-result : tie.Need-shared-slice-read-result
-shared-slice-read-result c = search needs
-
 returns : tie.Need-returns
 unfolding byteAt
 returns c = search needs
@@ -19,4 +16,4 @@ unfolding byteAt
 returns-2 c = sym (List·getD-eq-default (now (c .before .args .s)) 0 (c .if1 .left))
 
 pub byte-at-spec : {M : Type 1} → statement M
-byte-at-spec = tie.close (tie.spec shared-slice-read-result returns returns-2)
+byte-at-spec = tie.close (tie.spec (λ c. search needs) returns returns-2)

@@ -9,9 +9,6 @@ pub effect-letter-spec : {M : Type 1} → statement M
 unfolding modelOn effectLetter
 effect-letter-spec =
     tie.close
-    (tie.spec
-    (λ c κs. search needs)
-    (λ c. simp (← c .before .sheet-bit .ensures, c .if1 .taken))
-    (λ c κs. search needs)
+    (tie.spec (λ c κs. search needs) (λ c. simp (← c .before .sheet-bit .ensures, c .if1 .taken)) (λ c κs. search needs)
     (λ c. simp (← c .before .before .before .sheet-bit .ensures, c .before .before .if1 .left, ← c .before .sheet-bit2 .ensures, c .if2 .taken))
     (λ c. simp (← c .before .before .before .sheet-bit .ensures, c .before .before .if1 .left, ← c .before .sheet-bit2 .ensures, c .if2 .left)))

@@ -9,8 +9,7 @@ pub need-letter-spec : {M : Type 1} → statement M
 unfolding modelOn needLetter
 need-letter-spec =
     tie.close
-    (tie.spec
-    (λ c κs. search needs) (λ c κs. search needs)
+    (tie.spec (λ c κs. search needs) (λ c κs. search needs)
     (λ c. simp (← c .before .before .before .sheet-bit .ensures, ← c .before .before .sheet-bit2 .ensures, c .before .if1 .taken, c .if2 .taken))
     (λ c. simp (← c .before .before .before .sheet-bit .ensures, ← c .before .before .sheet-bit2 .ensures, c .before .if1 .taken, c .if2 .left))
     (λ c. simp (← c .before .before .before .sheet-bit .ensures, ← c .before .before .sheet-bit2 .ensures, c .before .if1 .left, c .if3 .taken))

@@ -9,7 +9,5 @@ pub param-shown-spec : {M : Type 1} → statement M
 unfolding paramShown
 param-shown-spec =
     tie.close
-    (tie.spec
-    (λ c κs. search needs)
-    (λ c. simp (← c .before .places .ensures, le-leb _ _ (c .if1 .taken)))
+    (tie.spec (λ c κs. search needs) (λ c. simp (← c .before .places .ensures, le-leb _ _ (c .if1 .taken)))
     (λ c. simp (← c .before .places .ensures, lt-leb _ _ (c .if1 .left))))

@@ -50,7 +50,6 @@ returns c =
 pub atom-lines-spec : {M : Type 1} → statement M
 atom-lines-spec =
     tie.close
-    (tie.spec
-    Inv-loop μ-loop (λ c. search needs) (λ c. search needs)
-    (λ c. (omega arith, omega arith, counts _ _ (omega arith), refl, first _ _ (atoms-each _ _ _) _ _ _))
-    line-if-atom-requires (λ c. omega arith) (λ c. omega arith) loop-again (λ c. c .before .loop .inv .3) returns)
+    (tie.spec Inv-loop μ-loop (λ c. search needs) (λ c. search needs)
+    (λ c. (omega arith, omega arith, counts _ _ (omega arith), refl, first _ _ (atoms-each _ _ _) _ _ _)) line-if-atom-requires (λ c. omega arith)
+    (λ c. omega arith) loop-again (λ c. c .before .loop .inv .3) returns)

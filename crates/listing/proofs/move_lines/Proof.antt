@@ -51,9 +51,7 @@ returns c =
 pub move-lines-spec : {M : Type 1} → statement M
 move-lines-spec =
     tie.close
-    (tie.spec
-    Inv-loop μ-loop (λ c. search needs)
+    (tie.spec Inv-loop μ-loop (λ c. search needs)
     (λ c. (omega arith, omega arith, counts _ _ (omega arith), refl, first _ _ (moves-each _ _ _ (c .before .before .before .before .pre .0)) _ _ _))
-    (λ c. omega arith)
-    (λ c. omega (arith, c .before .before .before .before .before .before .pre .0 .few-moves))
-    atom-lines-requires (λ c. omega arith) (λ c. omega arith) loop-again (λ c. c .before .loop .inv .3) returns)
+    (λ c. omega arith) (λ c. omega (arith, c .before .before .before .before .before .before .pre .0 .few-moves)) atom-lines-requires
+    (λ c. omega arith) (λ c. omega arith) loop-again (λ c. c .before .loop .inv .3) returns)

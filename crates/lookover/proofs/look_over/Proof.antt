@@ -8,23 +8,8 @@ use borrow.Author.Needs.{needs}
 use Rattle.lookover.proofs.look_over.Statement.{statement}
 use Rattle.lookover.proofs.look_over.Tie as tie
 
-read-requires : tie.Need-read-requires
-read-requires c κs = search needs
-
-sections-requires : tie.Need-sections-requires
-sections-requires c κs = search needs
-
-is-refused-requires : tie.Need-is-refused-requires
-is-refused-requires c κs = search needs
-
 returns : tie.Need-returns
 returns c = look-over-stays _ _ (c .before .before .before .read .ensures) _ _ (c .before .before .sections .ensures) (c .before .is-refused .ensures) (c .if1 .taken)
-
-cast-records : tie.Need-cast-records
-cast-records c = search needs
-
-cast-records-2 : tie.Need-cast-records-2
-cast-records-2 c = search needs
 
 records-requires : tie.Need-records-requires
 records-requires c κs =
@@ -40,12 +25,5 @@ returns-2 c =
 pub look-over-spec : {M : Type 1} → statement M
 look-over-spec =
     tie.close
-    (tie.spec
-    read-requires
-    sections-requires
-    is-refused-requires
-    returns
-    cast-records
-    cast-records-2
-    records-requires
+    (tie.spec (λ c κs. search needs) (λ c κs. search needs) (λ c κs. search needs) returns (λ c. search needs) (λ c. search needs) records-requires
     returns-2)

@@ -36,14 +36,4 @@ returns c = omega (arith, size-all (c .before .before .args .m .now) (c .before 
 pub count-spec : {M : Type 1} → statement M
 count-spec =
     tie.close
-    (tie.spec
-    Inv-loop
-    μ-loop
-    (λ c. omega arith)
-    (λ c. omega arith)
-    cast-n
-    add-n
-    (λ c. omega arith)
-    (λ c. omega arith)
-    loop-again
-    returns)
+    (tie.spec Inv-loop μ-loop (λ c. omega arith) (λ c. omega arith) cast-n add-n (λ c. omega arith) (λ c. omega arith) loop-again returns)

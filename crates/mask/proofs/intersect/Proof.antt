@@ -26,15 +26,5 @@ returns c = turn-last bitAnd (c .before .loop .inv) (c .loop-test .left)
 pub intersect-spec : {M : Type 1} → statement M
 intersect-spec =
     tie.close
-    (tie.spec
-    Inv-loop
-    μ-loop
-    (λ c. turn-first bitAnd _ _)
-    (λ c. omega arith)
-    (λ c κs. search needs)
-    (λ c. omega arith)
-    (λ c. omega arith)
-    (λ c. omega arith)
-    loop-again
-    (λ c. search needs)
-    returns)
+    (tie.spec Inv-loop μ-loop (λ c. turn-first bitAnd _ _) (λ c. omega arith) (λ c κs. search needs) (λ c. omega arith) (λ c. omega arith)
+    (λ c. omega arith) loop-again (λ c. search needs) returns)

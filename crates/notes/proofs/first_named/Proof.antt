@@ -8,7 +8,5 @@ pub first-named-spec : {M : Type 1} → statement M
 unfolding firstNamed
 first-named-spec =
     tie.close
-    (tie.spec
-    (λ c. rw (ne-eqb _ _ (c .if1 .taken)))
-    (λ c. rw (eq-eqb _ _ (c .before .if1 .left), c .if2 .taken))
+    (tie.spec (λ c. rw (ne-eqb _ _ (c .if1 .taken))) (λ c. rw (eq-eqb _ _ (c .before .if1 .left), c .if2 .taken))
     (λ c. rw (eq-eqb _ _ (c .before .if1 .left), c .if2 .left)))

@@ -16,8 +16,6 @@ abbrev μ-loop : tie.MeasureT-loop
 pub nothing-seen-spec : {M : Type 1} → statement M
 nothing-seen-spec =
     tie.close
-    (tie.spec
-    Inv-loop μ-loop (λ c. filled-none _) (λ c κs. search needs) (λ c. omega arith) (λ c. omega arith) (λ c. omega arith)
-    (λ c. filled-next (c .before .before .loop .inv) (c .before .loop-test .taken) (c .first-byte .ensures))
-    (λ c. c .before .loop .inv .long)
+    (tie.spec Inv-loop μ-loop (λ c. filled-none _) (λ c κs. search needs) (λ c. omega arith) (λ c. omega arith) (λ c. omega arith)
+    (λ c. filled-next (c .before .before .loop .inv) (c .before .loop-test .taken) (c .first-byte .ensures)) (λ c. c .before .loop .inv .long)
     (λ c. filled-all (c .before .loop .inv) (c .loop-test .left) (c .before .before .before .pre)))

@@ -7,7 +7,5 @@ use Rattle.notes.proofs.widen_by_change.Tie as tie
 pub widen-by-change-spec : {M : Type 1} → statement M
 widen-by-change-spec =
     tie.close
-    (tie.spec
-    (λ c. search needs) (λ c. search needs) (λ c. search needs) (λ c. search needs) (λ c. search needs) (λ c. search needs)
-    (λ c κs. search needs) (λ c. search needs)
-    (λ c. widened-back _ _ _ _ (c .before .before .unite-difference .ensures)))
+    (tie.spec (λ c. search needs) (λ c. search needs) (λ c. search needs) (λ c. search needs) (λ c. search needs) (λ c. search needs)
+    (λ c κs. search needs) (λ c. search needs) (λ c. widened-back _ _ _ _ (c .before .before .unite-difference .ensures)))

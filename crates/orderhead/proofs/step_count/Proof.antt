@@ -4,12 +4,9 @@ use borrow.Author.Needs.{needs}
 use Rattle.orderhead.proofs.step_count.Statement.{statement}
 use Rattle.orderhead.proofs.step_count.Tie as tie
 
-two-at-requires : tie.Need-two-at-requires
-two-at-requires c κs = search needs
-
 returns : tie.Need-returns
 unfolding stepCount
 returns c = search needs
 
 pub step-count-spec : {M : Type 1} → statement M
-step-count-spec = tie.close (tie.spec two-at-requires returns)
+step-count-spec = tie.close (tie.spec (λ c κs. search needs) returns)

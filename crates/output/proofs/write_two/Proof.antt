@@ -6,23 +6,8 @@ use borrow.Author.Needs.{needs}
 use Rattle.output.proofs.write_two.Statement.{statement}
 use Rattle.output.proofs.write_two.Tie as tie
 
-cast-part : tie.Need-cast-part
-cast-part c = search needs
-
-slice-write-part : tie.Need-slice-write-part
-slice-write-part c = search needs
-
-cast-part-2 : tie.Need-cast-part-2
-cast-part-2 c = search needs
-
-add-part : tie.Need-add-part
-add-part c = search needs
-
 slice-write-part-2 : tie.Need-slice-write-part-2
 slice-write-part-2 c = simp length-set (omega arith)
-
-same-length : tie.Need-same-length
-same-length c = search needs
 
 returns : tie.Need-returns
 returns c = two-written _ _ _ (c .pre)
@@ -30,4 +15,4 @@ returns c = two-written _ _ _ (c .pre)
 pub write-two-spec : {M : Type 1} → statement M
 write-two-spec =
     tie.close
-    (tie.spec cast-part slice-write-part cast-part-2 add-part slice-write-part-2 same-length returns)
+    (tie.spec (λ c. search needs) (λ c. search needs) (λ c. search needs) (λ c. search needs) slice-write-part-2 (λ c. search needs) returns)

@@ -12,9 +12,6 @@ returns : tie.Need-returns
 unfolding recordFrom
 returns c = sym (refuse-met _ _ _ _ (c .if1 .taken))
 
-read-requires : tie.Need-read-requires
-read-requires c κs = search needs
-
 record-at-requires : tie.Need-record-at-requires
 record-at-requires c κs = let t = neither _ _ (c .before .if1 .left) in (ltb-false _ _ (t .0), ltb-false _ _ (t .1))
 
@@ -23,4 +20,4 @@ unfolding recordFrom
 returns-2 c = rw (← c .before .read .ensures) (c .record-at .ensures ∙ sym (refuse-unmet _ _ _ _ (c .before .before .if1 .left)))
 
 pub record-of-spec : {M : Type 1} → statement M
-record-of-spec = tie.close (tie.spec returns read-requires record-at-requires returns-2)
+record-of-spec = tie.close (tie.spec returns (λ c κs. search needs) record-at-requires returns-2)

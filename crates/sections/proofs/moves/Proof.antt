@@ -6,7 +6,7 @@ use borrow.Author.Needs.{needs}
 use Rattle.answer.specs.Walk.{walk}
 use Rattle.answer.specs.Turns.{turn-none}
 use Rattle.answer.specs.Entries.{entry-refused, entry-good}
-use Rattle.limits.specs.Limits.{moveSize}
+use Rattle.limits.specs.Limits.{moveSize, farCeiling}
 use Rattle.format.specs.Header.{move}
 use Rattle.format.proofs.Header.{move-entry}
 use Rattle.sections.proofs.moves.Statement.{statement}
@@ -14,7 +14,7 @@ use Rattle.sections.proofs.moves.Tie as tie
 
 -- what is left of the walk is the whole walk
 abbrev Inv-loop : tie.InvT-loop
-Inv-loop s kinds n from left₀ at₀ left at = (at + moveSize * left ≤ 500000) × (walk (move s kinds) left at ≡ walk (move s kinds) n from)
+Inv-loop s kinds n from left₀ at₀ left at = (at + moveSize * left ≤ farCeiling) × (walk (move s kinds) left at ≡ walk (move s kinds) n from)
 
 abbrev μ-loop : tie.MeasureT-loop
 μ-loop s kinds n from left₀ at₀ left at = left
@@ -33,14 +33,5 @@ loop-again c =
 pub moves-spec : {M : Type 1} → statement M
 moves-spec =
     tie.close
-    (tie.spec
-    Inv-loop
-    μ-loop
-    (λ c. (omega arith, refl))
-    (λ c κs. search needs)
-    returns
-    (λ c. search needs)
-    (λ c. search needs)
-    (λ c. search needs)
-    loop-again
-    (λ c. turn-none _ _ _ _ (c .before .loop .inv .1) (omega arith)))
+    (tie.spec Inv-loop μ-loop (λ c. (omega arith, refl)) (λ c κs. search needs) returns (λ c. search needs) (λ c. search needs) (λ c. search needs)
+    loop-again (λ c. turn-none _ _ _ _ (c .before .loop .inv .1) (omega arith)))

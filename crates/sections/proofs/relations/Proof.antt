@@ -6,7 +6,7 @@ use borrow.Author.Needs.{needs}
 use Rattle.answer.specs.Walk.{walk}
 use Rattle.answer.specs.Turns.{turn-none}
 use Rattle.answer.specs.Entries.{entry-refused, entry-good}
-use Rattle.limits.specs.Limits.{relationSize}
+use Rattle.limits.specs.Limits.{relationSize, farCeiling}
 use Rattle.format.specs.Header.{relation}
 use Rattle.format.proofs.Header.{relation-entry}
 use Rattle.sections.proofs.relations.Statement.{statement}
@@ -14,7 +14,7 @@ use Rattle.sections.proofs.relations.Tie as tie
 
 -- what is left of the walk is the whole walk
 abbrev Inv-loop : tie.InvT-loop
-Inv-loop s kinds n from left₀ at₀ left at = (at + relationSize * left ≤ 400000) × (walk (relation s kinds) left at ≡ walk (relation s kinds) n from)
+Inv-loop s kinds n from left₀ at₀ left at = (at + relationSize * left ≤ farCeiling) × (walk (relation s kinds) left at ≡ walk (relation s kinds) n from)
 
 abbrev μ-loop : tie.MeasureT-loop
 μ-loop s kinds n from left₀ at₀ left at = left
@@ -33,14 +33,5 @@ loop-again c =
 pub relations-spec : {M : Type 1} → statement M
 relations-spec =
     tie.close
-    (tie.spec
-    Inv-loop
-    μ-loop
-    (λ c. (omega arith, refl))
-    (λ c κs. search needs)
-    returns
-    (λ c. search needs)
-    (λ c. search needs)
-    (λ c. search needs)
-    loop-again
-    (λ c. turn-none _ _ _ _ (c .before .loop .inv .1) (omega arith)))
+    (tie.spec Inv-loop μ-loop (λ c. (omega arith, refl)) (λ c κs. search needs) returns (λ c. search needs) (λ c. search needs) (λ c. search needs)
+    loop-again (λ c. turn-none _ _ _ _ (c .before .loop .inv .1) (omega arith)))

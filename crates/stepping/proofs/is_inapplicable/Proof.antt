@@ -21,30 +21,9 @@ Inv-loop book h b state rules positive negative n₀ n = (n ≤ 256) × (below n
 abbrev μ-loop : tie.MeasureT-loop
 μ-loop book h b state rules positive negative n₀ n = 256 - n
 
-array-copy-out-positive : tie.Need-array-copy-out-positive Inv-loop μ-loop
-array-copy-out-positive c = search needs
-
-array-copy-out-negative : tie.Need-array-copy-out-negative Inv-loop μ-loop
-array-copy-out-negative c = search needs
-
 loop-holds : tie.Need-loop-holds Inv-loop μ-loop
 unfolding below ruleAt
 loop-holds c = (omega arith, refl, refl, refl)
-
-none-near-requires : tie.Need-none-near-requires Inv-loop μ-loop
-none-near-requires c κs = search needs
-
-none-near-requires-2 : tie.Need-none-near-requires-2 Inv-loop μ-loop
-none-near-requires-2 c κs = search needs
-
-mul-n : tie.Need-mul-n Inv-loop μ-loop
-mul-n c = omega arith
-
-add-n : tie.Need-add-n Inv-loop μ-loop
-add-n c = omega arith
-
-loop-less : tie.Need-loop-less Inv-loop μ-loop
-loop-less c = omega arith
 
 loop-again : tie.Need-loop-again Inv-loop μ-loop
 loop-again c =
@@ -53,20 +32,11 @@ loop-again c =
     let i = e .before .before .loop .inv in
     (omega arith, below-past _ _ _ _ _ _ _ _ (i .2) (i .3) (e .none-near .ensures) (d .none-near2 .ensures) (c .if1 .taken) (i .1), i .2, i .3)
 
-unmet-requires : tie.Need-unmet-requires Inv-loop μ-loop
-unmet-requires c κs = omega arith
-
 returns : tie.Need-returns Inv-loop μ-loop
 unfolding inapplicableIn
 returns c =
     let d = c .before in
     sym (below-in 256 _ _ (d .before .before .before .before .loop-test .taken) (sym (d .unmet .ensures) ∙ c .if2 .taken))
-
-add-n-2 : tie.Need-add-n-2 Inv-loop μ-loop
-add-n-2 c = omega arith
-
-loop-less-2 : tie.Need-loop-less-2 Inv-loop μ-loop
-loop-less-2 c = omega arith
 
 loop-again-2 : tie.Need-loop-again-2 Inv-loop μ-loop
 loop-again-2 c =
@@ -83,21 +53,5 @@ returns-2 c =
 pub is-inapplicable-spec : {M : Type 1} → statement M
 is-inapplicable-spec =
     tie.close
-    (tie.spec
-    Inv-loop
-    μ-loop
-    array-copy-out-positive
-    array-copy-out-negative
-    loop-holds
-    none-near-requires
-    none-near-requires-2
-    mul-n
-    add-n
-    loop-less
-    loop-again
-    unmet-requires
-    returns
-    add-n-2
-    loop-less-2
-    loop-again-2
-    returns-2)
+    (tie.spec Inv-loop μ-loop (λ c. search needs) (λ c. search needs) loop-holds (λ c κs. search needs) (λ c κs. search needs) (λ c. omega arith)
+    (λ c. omega arith) (λ c. omega arith) loop-again (λ c κs. omega arith) returns (λ c. omega arith) (λ c. omega arith) loop-again-2 returns-2)

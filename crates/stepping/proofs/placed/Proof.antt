@@ -17,11 +17,4 @@ returns-2 c =
     (rw (← d .before .places .ensures, le-leb _ _ (d .if1 .left), ← c .before .object .ensures) (c .index .ensures .0), omega arith)
 
 pub placed-spec : {M : Type 1} → statement M
-placed-spec =
-    tie.close
-    (tie.spec
-    (λ c κs. search needs)
-    returns
-    (λ c κs. search needs)
-    (λ c κs. search needs)
-    returns-2)
+placed-spec = tie.close (tie.spec (λ c κs. search needs) returns (λ c κs. search needs) (λ c κs. search needs) returns-2)

@@ -20,37 +20,10 @@ abbrev μ-loop : tie.MeasureT-loop
 loop-holds : tie.Need-loop-holds Inv-loop μ-loop
 loop-holds c = (omega arith, effects-none _ _ _ _)
 
-none-near-requires : tie.Need-none-near-requires Inv-loop μ-loop
-none-near-requires c κs = search needs
-
-mul-n : tie.Need-mul-n Inv-loop μ-loop
-mul-n c = omega arith
-
-add-n : tie.Need-add-n Inv-loop μ-loop
-add-n c = omega arith
-
-loop-less : tie.Need-loop-less Inv-loop μ-loop
-loop-less c = omega arith
-
 loop-again : tie.Need-loop-again Inv-loop μ-loop
 loop-again c =
     let d = c .before in
     (omega arith, effects-past _ _ _ _ _ _ (sym (d .none-near .ensures) ∙ c .if1 .taken) (d .before .before .loop .inv .1))
-
-has32-requires : tie.Need-has32-requires Inv-loop μ-loop
-has32-requires c κs = search needs
-
-ground-requires : tie.Need-ground-requires Inv-loop μ-loop
-ground-requires c κs = search needs
-
-assign512-requires : tie.Need-assign512-requires Inv-loop μ-loop
-assign512-requires c κs = search needs
-
-add-n-2 : tie.Need-add-n-2 Inv-loop μ-loop
-add-n-2 c = search needs
-
-loop-less-2 : tie.Need-loop-less-2 Inv-loop μ-loop
-loop-less-2 c = search needs
 
 loop-again-2 : tie.Need-loop-again-2 Inv-loop μ-loop
 loop-again-2 c =
@@ -58,7 +31,7 @@ loop-again-2 c =
     let was = d .before .before .before .before .loop .inv .1 in (
       omega arith,
       ⊎-elim
-          (λ w. effects-some _ _ _ _ _ _ _ _ (sym (d .has32 .ensures) ∙ w .0 .taken) (w .2 .ensures .0) was (w .4 ∙ w .3 .ensures))
+          (λ w. effects-some _ _ _ _ _ _ _ _ (sym (d .has32 .ensures) ∙ w .0 .taken) (w .2 .ensures) was (w .4 ∙ w .3 .ensures))
           (λ w. effects-skip _ _ _ _ _ _ _ (sym (d .has32 .ensures) ∙ w .0 .left) was (w .1))
           (c .if2 .came),
     )
@@ -71,19 +44,5 @@ returns c =
 pub put-effects-spec : {M : Type 1} → statement M
 put-effects-spec =
     tie.close
-    (tie.spec
-    Inv-loop
-    μ-loop
-    loop-holds
-    none-near-requires
-    mul-n
-    add-n
-    loop-less
-    loop-again
-    has32-requires
-    ground-requires
-    assign512-requires
-    add-n-2
-    loop-less-2
-    loop-again-2
-    returns)
+    (tie.spec Inv-loop μ-loop loop-holds (λ c κs. search needs) (λ c. omega arith) (λ c. omega arith) (λ c. omega arith) loop-again
+    (λ c κs. search needs) (λ c κs. search needs) (λ c κs. search needs) (λ c. search needs) (λ c. search needs) loop-again-2 returns)

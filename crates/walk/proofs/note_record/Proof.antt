@@ -20,12 +20,5 @@ returns c =
 pub note-record-spec : {M : Type 1} → statement M
 note-record-spec =
     tie.close
-    (tie.spec
-    (λ c. search needs)
-    (λ c. search needs)
-    (λ c. search needs)
-    (λ c. search needs)
-    note-steps-requires
-    (λ c. search needs)
-    returns
+    (tie.spec (λ c. search needs) (λ c. search needs) (λ c. search needs) (λ c. search needs) note-steps-requires (λ c. search needs) returns
     (λ c y. clash _ y (c .if1 .left)))

@@ -49,15 +49,5 @@ returns c = steps-done _ _ _ _ _ _ (omega arith) (c .before .loop .inv .2)
 pub note-steps-spec : {M : Type 1} → statement M
 note-steps-spec =
     tie.close
-    (tie.spec
-    Inv-loop
-    μ-loop
-    loop-holds
-    state-end-requires
-    hold-requires
-    (λ c. search needs)
-    (λ c. search needs)
-    (λ c. search needs)
-    loop-again
-    (λ c. search needs)
-    returns)
+    (tie.spec Inv-loop μ-loop loop-holds state-end-requires hold-requires (λ c. search needs) (λ c. search needs) (λ c. search needs) loop-again
+    (λ c. search needs) returns)
