@@ -13,7 +13,6 @@ use terms::Binding;
 use terms::Fact;
 use terms::Object;
 use terms::Param;
-use terms::Relation;
 
 // What the table has for an object of no parameter: the two places of a bound fact add less. A relation has so many bound facts, one
 // for each pair of parameters.
@@ -104,12 +103,7 @@ impl Cursor {
         requires { ⌜ (0 < self .left) × Ahead (now s) self ⌝ }
         ensures { λ r. ⌜ Comes (now (s .entry)) self r ⌝ }
     {
-        let at = self.at;
-        Fact {
-            relation: Relation(s[at]),
-            first: Object(s[at + 1]),
-            second: Object(s[at + 2]),
-        }
+        Fact::whole(s, self.at)
     }
 
     // Past the next fact `f`, which is marked.

@@ -1,7 +1,7 @@
 -- The tests of rows 15, 17 and 18, and rows 14 to 18 in order, put together from what the calls in the code return.
 use Prim.Native.Nat.{ℕ, _+_, _≤_, _<_}
 use mathlib.Core.Path.{_≡_, refl, sym, _∙_}
-use mathlib.Core.Bool.{Bool, true, false, _||_, not}
+use mathlib.Core.Bool.{Bool, true, false, _||_, not, or-assoc}
 use mathlib.Core.List.{List}
 use lib.Dec.{ltb}
 use native.Mathlib.Omega.{arith}
@@ -15,15 +15,17 @@ use Rattle.answer.specs.Turns.{part-stays, part-then}
 use Rattle.input.specs.Bytes.{byteAt}
 use Rattle.terms.specs.declared.Sections.{Sections}
 use Rattle.terms.specs.declared.Objects.{Objects}
-use Rattle.terms.specs.declared.Fact.{Fact}
 use Rattle.terms.specs.declared.Step.{Step}
 use Rattle.terms.specs.Schema.{Schema, Hall, schema, hall, numberBad}
-use Rattle.terms.specs.Facts.{factAt, precedes, noFact}
+use Rattle.terms.specs.Facts.{factAt, factBad, precedes, noFact}
 use Rattle.terms.specs.Steps.{stepAt, stepBad, repeats}
-use Rattle.limits.specs.Limits.{headerSize, maxObjects}
+use Rattle.limits.specs.Limits.{headerSize, maxObjects, entrySize}
 use Rattle.format.specs.States.{facts}
 use Rattle.format.specs.Order.{objectCount, startCount, startAt, orderObjects, orderObject, entryBad, orderForm, fromStart, orderHeaderBad, planStepBad}
-use Rattle.tables.specs.Tables.{Kinds, tableBad, Tabled}
+use Rattle.tables.specs.Tables.{Kinds}
+use Rattle.states.specs.declared.FactCursor.{FactCursor}
+use Rattle.states.specs.Cursor.{misplaced}
+use Rattle.states.proofs.Cursors.{fact-of}
 
 module _ (sch : Schema) (hl : Hall) (o : List ℕ) where
   pub start-by : (n from : ℕ) (a : Answer)
@@ -33,16 +35,16 @@ module _ (sch : Schema) (hl : Hall) (o : List ℕ) where
       → a ≡ facts 16 sch hl o (length o) (startCount o) noFact (startAt o)
   start-by n from a p q e = rw (← p, ← q) e
 
-  pub entry-bad-by : (table : List ℕ) → Tabled sch hl table
-      → (last f : Fact) (at wanted : ℕ) (a b : Bool)
-      → f .relation .0 < 256
-      → wanted ≡ byteAt o at
-      → f ≡ factAt o (at + 1)
-      → a ≡ tableBad table f
-      → b ≡ precedes last f
-      → (ltb 1 wanted || a || not b) ≡ entryBad sch hl o last at
-  unfolding entryBad Tabled
-  entry-bad-by table right last f at wanted a b l p q r t = rw (r ∙ right f l, t, p, q)
+  -- row 17, as the code meets it
+  pub entry-bad-by : (c : FactCursor) (wanted : ℕ) (b : Bool)
+      → c .size ≡ entrySize
+      → wanted ≡ byteAt o (c .at)
+      → b ≡ misplaced sch hl o c
+      → (ltb 1 wanted || b) ≡ entryBad sch hl o (c .last) (c .at)
+  unfolding entryBad misplaced
+  entry-bad-by c wanted b e p q =
+      rw (p, q, fact-of sch hl o c (c .at + 1) (omega arith))
+      (sym (or-assoc (ltb 1 (byteAt o (c .at))) (factBad sch hl (factAt o (c .at + 1))) (not (precedes (c .last) (factAt o (c .at + 1))))))
 
   pub step-bad-by : (st : Step) (at : ℕ) (a b : Bool)
       → st ≡ stepAt o at

@@ -2,20 +2,20 @@
 // Uses answer, input, terms, tables, states, orderhead and the definitions of format. `book` has the schema, by its header `h`; `o` is the order.
 // What suits is told by two tables of the order's objects, made once.
 use answer::Answer;
-use terms::Fact;
+use states::FactCursor;
 use terms::Sections;
 use terms::Step;
 ghost use mathlib.Core.Path.{_≡_};
-ghost use Prim.Native.Nat.{_+_, _-_, _≤_, _<_};
+ghost use Prim.Native.Nat.{_≤_};
 ghost use lib.ListN.{length};
 ghost use Rattle.answer.specs.Walk.{walk};
 ghost use Rattle.terms.specs.Schema.{schema, hall};
-ghost use Rattle.terms.specs.Facts.{factAt, noFact};
+ghost use Rattle.terms.specs.Facts.{noFact};
 ghost use Rattle.terms.specs.Steps.{repeats};
-ghost use Rattle.limits.specs.Limits.{headerSize, maxObjects, maxFacts, entrySize};
+ghost use Rattle.limits.specs.Limits.{headerSize, maxObjects, maxFacts};
 ghost use Rattle.format.specs.States.{facts};
 ghost use Rattle.format.specs.Order.{objectCount, startCount, goalCount, stepCount, startAt, goalAt, stepsAt, orderObjects};
-ghost use Rattle.format.specs.Order.{orderObject, entryBad, entries, planStepBad, planStep, fromGoal, fromStart, orderForm};
+ghost use Rattle.format.specs.Order.{orderObject, entries, planStepBad, planStep, fromGoal, fromStart, orderForm};
 ghost use Rattle.tables.specs.Tables.{ForKinds, ForTabled, Follows};
 
 // Row 15 of each object.
@@ -49,54 +49,19 @@ fn start(o: &[u8], table: &[u32; 512]) -> Answer
     )
 }
 
-// Goal entries still to be looked at: from where, how many, and the fact of the one before them.
-struct EntryCursor {
-    at: usize,
-    left: u16,
-    last: Fact,
-}
-
-impl EntryCursor {
-    fn new(o: &[u8]) -> EntryCursor
-        ensures { λ r. ⌜ (r .at ≡ goalAt (now (o .entry))) × (r .left ≡ goalCount (now (o .entry))) × (r .last ≡ noFact) × (r .at ≤ 262156) ⌝ }
-    {
-        EntryCursor {
-            at: orderhead::goal_at(o),
-            left: orderhead::goal_count(o),
-            last: Fact::none(),
-        }
-    }
-
-    // Row 17, of the entry at the cursor.
-    fn bad(self, o: &[u8], table: &[u32; 512]) -> bool
-        requires { ⌜ self .at ≤ 600000 ⌝ }
-        ensures { λ r. ⌜ ForTabled (now (table .entry)) (λ sch hl. r ≡ entryBad sch hl (now (o .entry)) (self .last) (self .at)) ⌝ }
-    {
-        let wanted = input::byte_at(o, self.at);
-        let f = Fact::read(o, self.at + 1);
-        let last = self.last;
-        (1 < wanted) | tables::fact_bad(table, f) | !last.precedes(f)
-    }
-
-    fn next(self, o: &[u8]) -> EntryCursor
-        requires { ⌜ (self .at ≤ 600000) × (0 < self .left) ⌝ }
-        ensures { λ r. ⌜ (r .at ≡ self .at + entrySize) × (r .left ≡ self .left - 1) × (r .last ≡ factAt (now (o .entry)) (self .at + 1)) ⌝ }
-    {
-        EntryCursor {
-            at: self.at + limits::ENTRY_SIZE,
-            left: self.left - 1,
-            last: Fact::read(o, self.at + 1),
-        }
-    }
-}
-
-// Row 17 of each goal entry.
+// Row 17 of each goal entry: a byte, then a fact, by the cursor that looks at a state's.
 fn goal(o: &[u8], table: &[u32; 512]) -> Answer
+    requires { ⌜ stepsAt (now o) ≤ length (now o) ⌝ }
     ensures { λ r. ⌜ ForTabled (now (table .entry)) (λ sch hl. r ≡ entries sch hl (now (o .entry)) (goalCount (now (o .entry))) noFact (goalAt (now (o .entry)))) ⌝ }
 {
-    let mut c = EntryCursor::new(o);
+    let mut c = FactCursor::new(
+        limits::ENTRY_SIZE,
+        orderhead::goal_count(o) as usize,
+        orderhead::goal_at(o),
+    );
     while 0 < c.left {
-        if c.bad(o, table) {
+        let wanted = input::byte_at(o, c.at);
+        if (1 < wanted) | c.bad(o, table) {
             return Answer::Refused(17, c.at);
         }
         c = c.next(o);
@@ -131,7 +96,7 @@ fn plan(book: &[u8], h: Sections, kinds: &[u32; 256], o: &[u8]) -> Answer
 
 // Rows 17 and 18.
 fn from_goal(book: &[u8], h: Sections, kinds: &[u32; 256], table: &[u32; 512], o: &[u8]) -> Answer
-    requires { ⌜ Follows (schema h (now book)) (now kinds) (now table) ⌝ }
+    requires { ⌜ Follows (schema h (now book)) (now kinds) (now table) × (stepsAt (now o) ≤ length (now o)) ⌝ }
     ensures { λ r. ⌜ ForKinds (schema h (now (book .entry))) (now (kinds .entry)) (λ hl. r ≡ fromGoal (schema h (now (book .entry))) hl (now (o .entry))) ⌝ }
 {
     let wanted = goal(o, table);
@@ -143,7 +108,7 @@ fn from_goal(book: &[u8], h: Sections, kinds: &[u32; 256], table: &[u32; 512], o
 
 // Rows 16 to 18: the sections behind the objects, by the tables of these. Goal entries are looked at behind good start facts.
 fn from_start(book: &[u8], h: Sections, o: &[u8]) -> Answer
-    requires { ⌜ (objectCount (now o) ≤ maxObjects) × (startCount (now o) ≤ maxFacts) ⌝ }
+    requires { ⌜ (objectCount (now o) ≤ maxObjects) × (startCount (now o) ≤ maxFacts) × (stepsAt (now o) ≤ length (now o)) ⌝ }
     ensures { λ r. ⌜ r ≡ fromStart (schema h (now (book .entry))) (hall (orderObjects (now (o .entry))) (now (o .entry))) (now (o .entry)) ⌝ }
 {
     let kinds = tables::kinds_of(book, h, o, orderhead::objects_of(o));

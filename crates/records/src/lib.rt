@@ -1,19 +1,15 @@
 // Rows 6 to 10 of the refusal table: one record of a book, to its end.
 // Uses answer, input, limits, terms, tables, states, and the definitions of format.
 use answer::Answer;
-use terms::Binding;
-use terms::Move;
-use terms::Object;
 use terms::Objects;
 use terms::Sections;
 use terms::Step;
 ghost use mathlib.Core.Path.{_≡_};
-ghost use Prim.Native.Nat.{_+_, _≤_};
+ghost use Prim.Native.Nat.{_≤_};
 ghost use lib.ListN.{length};
 ghost use Rattle.answer.specs.Walk.{walk};
 ghost use Rattle.terms.specs.Schema.{schema, hall};
-ghost use Rattle.terms.specs.Steps.{stepAt};
-ghost use Rattle.limits.specs.Limits.{maxLength, maxObjects, stepSize};
+ghost use Rattle.limits.specs.Limits.{maxLength, maxObjects};
 ghost use Rattle.format.specs.Records.{headBad, object, stepRefused, step, trajectory, closed, body, recordAt};
 ghost use Rattle.tables.specs.Tables.{ForKinds};
 ghost use Rattle.records.specs.Head.{headOf};
@@ -69,24 +65,6 @@ fn objects(s: &[u8], kinds: u16, end: usize, n: usize, from: usize) -> Answer
     Answer::Good(at)
 }
 
-// A step that is not cut.
-fn read(book: &[u8], at: usize) -> Step
-    requires { ⌜ (at ≤ 90000) × (at + stepSize ≤ length (now book)) ⌝ }
-    ensures { λ r. ⌜ r ≡ stepAt (now (book .entry)) at ⌝ }
-{
-    Step {
-        action: Move(book[at]),
-        binding: Binding {
-            objects: [
-                Object(book[at + 1]),
-                Object(book[at + 2]),
-                Object(book[at + 3]),
-                Object(book[at + 4]),
-            ],
-        },
-    }
-}
-
 // Row 9.
 fn step_refused(book: &[u8], h: Sections, kinds: &[u32; 256], end: usize, at: usize) -> bool
     requires { ⌜ (end ≤ length (now book)) × (at ≤ 90000) ⌝ }
@@ -95,7 +73,7 @@ fn step_refused(book: &[u8], h: Sections, kinds: &[u32; 256], end: usize, at: us
     if end < at + limits::STEP_SIZE {
         return true;
     }
-    tables::step_bad(book, h, kinds, read(book, at))
+    tables::step_bad(book, h, kinds, Step::whole(book, at))
 }
 
 // What a trajectory is read within: the book's header, the record's objects, its number of steps, and where it ends.
@@ -114,7 +92,7 @@ fn step(book: &[u8], c: Scope, kinds: &[u32; 256], table: &[u32; 512], at: usize
     if step_refused(book, c.h, kinds, c.end, at) {
         return Answer::Refused(9, at);
     }
-    let st = read(book, at);
+    let st = Step::whole(book, at);
     if st.repeats() {
         return Answer::Refused(10, at);
     }

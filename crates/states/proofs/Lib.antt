@@ -1,3 +1,3 @@
--- The proofs of the code, and laws: Keys for this crate's functions, Laws for callers too.
+-- The proofs of the code, and laws: Cursors for the cursor and its loops, Laws for a state.
 pub mod Laws
-pub mod Keys
+pub mod Cursors

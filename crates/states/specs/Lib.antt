@@ -1,1 +1,1 @@
-pub mod Keyed
+pub mod Cursor

@@ -1,92 +1,84 @@
-// Row 8 of the refusal table: the facts of a state, in order, by a cursor that carries the key of the fact before. What suits is told by a
-// table of the record or order, so that both are looked at by the same functions.
-// Uses answer, limits, terms, tables, and the definitions of input and format.
+// Row 8 of the refusal table: the facts of a state, in order, by a cursor that carries the fact before. What suits is told by a table of
+// the record or order, so that both are looked at by the same functions; goal entries are looked at by the same cursor.
+// Uses answer, limits, terms, and the definitions of input, format and tables.
 use answer::Answer;
 use terms::Fact;
-use terms::Object;
-use terms::Relation;
 ghost use mathlib.Core.Path.{_≡_};
+ghost use mathlib.Core.Bool.{false};
 ghost use Prim.Native.Nat.{_+_, _-_, _*_, _≤_, _<_};
 ghost use lib.ListN.{length};
 ghost use Rattle.limits.specs.Limits.{countSize, maxFacts, factSize};
 ghost use Rattle.input.specs.Bytes.{two};
-ghost use Rattle.terms.specs.Facts.{factAt, noFact};
-ghost use Rattle.format.specs.States.{countBad, facts, state};
+ghost use Rattle.terms.specs.Facts.{noFact};
+ghost use Rattle.terms.specs.Told.{factKey};
+ghost use Rattle.format.specs.States.{countBad, factRefused, facts, state};
 ghost use Rattle.tables.specs.Tables.{ForTabled};
-ghost use Rattle.states.specs.Keyed.{factKey, keyRefused, keyed};
+ghost use Rattle.states.specs.Cursor.{Ahead, factOf, misplaced};
 
-// A fact that is not cut.
-fn read(t: &[u8], at: usize) -> Fact
-    requires { ⌜ (at ≤ 200000) × (at + factSize ≤ length (now t)) ⌝ }
-    ensures { λ r. ⌜ r ≡ factAt (now (t .entry)) at ⌝ }
-{
-    Fact {
-        relation: Relation(t[at]),
-        first: Object(t[at + 1]),
-        second: Object(t[at + 2]),
-    }
-}
-
-fn key(f: Fact) -> u32
-    ensures { λ r. ⌜ r ≡ factKey f ⌝ }
-{
-    f.relation.0 as u32 * 65536 + f.first.0 as u32 * 256 + f.second.0 as u32
-}
-
-// Facts still to be looked at: from where, how many, and the key of the one before them.
-struct FactCursor {
-    at: usize,
-    left: usize,
-    last: u32,
+// Facts still to be looked at, each at the end of an item of a size: from where, how many, and the fact before them with its key. The items
+// of a state and of a start section are their facts; a goal entry has a byte before its fact.
+pub struct FactCursor {
+    pub at: usize,
+    pub left: usize,
+    pub last: Fact,
+    pub key: u32,
+    pub size: usize,
 }
 
 impl FactCursor {
-    fn new(n: usize, from: usize) -> FactCursor
-        ensures { λ r. ⌜ (r .at ≡ from) × (r .left ≡ n) × (r .last ≡ 0) ⌝ }
+    pub fn new(size: usize, n: usize, from: usize) -> FactCursor
+        ensures { λ r. ⌜ (r .at ≡ from) × (r .left ≡ n) × (r .last ≡ noFact) × (r .size ≡ size) × (r .key ≡ factKey (r .last)) ⌝ }
     {
+        let last = Fact::none();
         FactCursor {
             at: from,
             left: n,
-            last: 0,
+            last,
+            key: last.key(),
+            size,
         }
     }
 
-    // The fact at the cursor is cut, wrong, or not behind the one before it.
-    fn bad(self, t: &[u8], table: &[u32; 512], end: usize) -> bool
-        requires { ⌜ (end ≤ length (now t)) × (self .at ≤ 200000) ⌝ }
-        ensures { λ r. ⌜ r ≡ keyRefused (now (table .entry)) (now (t .entry)) end (self .last) (self .at) ⌝ }
+    fn fact(self, t: &[u8]) -> Fact
+        requires { ⌜ Ahead (now t) self ⌝ }
+        ensures { λ r. ⌜ r ≡ factOf (now (t .entry)) self ⌝ }
     {
-        if end < self.at + limits::FACT_SIZE {
-            return true;
-        }
-        let f = read(t, self.at);
-        tables::fact_bad(table, f) | (key(f) <= self.last)
+        Fact::whole(t, self.at + (self.size - limits::FACT_SIZE))
     }
 
-    fn next(self, t: &[u8]) -> FactCursor
-        requires { ⌜ (self .at ≤ 200000) × (self .at + factSize ≤ length (now t)) × (0 < self .left) ⌝ }
-        ensures { λ r. ⌜ (r .at ≡ self .at + factSize) × (r .left ≡ self .left - 1) × (r .last ≡ factKey (factAt (now (t .entry)) (self .at))) ⌝ }
+    // The fact at the cursor is wrong, or not behind the one before it.
+    pub fn bad(self, t: &[u8], table: &[u32; 512]) -> bool
+        requires { ⌜ Ahead (now t) self ⌝ }
+        ensures { λ r. ⌜ ForTabled (now (table .entry)) (λ sch hl. r ≡ misplaced sch hl (now (t .entry)) self) ⌝ }
     {
+        let f = self.fact(t);
+        !f.suits(table) | !f.follows(self.last, self.key)
+    }
+
+    pub fn next(self, t: &[u8]) -> FactCursor
+        requires { ⌜ Ahead (now t) self × (0 < self .left) ⌝ }
+        ensures { λ r. ⌜ (r .at ≡ self .at + self .size) × (r .left ≡ self .left - 1) × (r .last ≡ factOf (now (t .entry)) self) × (r .size ≡ self .size) × (r .key ≡ factKey (r .last)) ⌝ }
+    {
+        let f = self.fact(t);
         FactCursor {
-            at: self.at + limits::FACT_SIZE,
+            at: self.at + self.size,
             left: self.left - 1,
-            last: key(read(t, self.at)),
+            last: f,
+            key: f.key(),
+            size: self.size,
         }
     }
 }
 
-fn keyed(number: usize, t: &[u8], table: &[u32; 512], end: usize, n: usize, from: usize) -> Answer
-    requires { ⌜ (end ≤ length (now t)) × (from ≤ 100010) × (n ≤ maxFacts) ⌝ }
-    ensures { λ r. ⌜ r ≡ keyed number (now (table .entry)) (now (t .entry)) end n 0 from ⌝ }
+// The fact at the cursor is cut, wrong, or not behind the one before it.
+fn refused(c: FactCursor, t: &[u8], table: &[u32; 512], end: usize) -> bool
+    requires { ⌜ (end ≤ length (now t)) × (c .at ≤ 200000) × (c .size ≡ factSize) × (c .key ≡ factKey (c .last)) ⌝ }
+    ensures { λ r. ⌜ (r ≡ false → c .at + factSize ≤ end) × ForTabled (now (table .entry)) (λ sch hl. r ≡ factRefused sch hl (now (t .entry)) end (c .last) (c .at)) ⌝ }
 {
-    let mut c = FactCursor::new(n, from);
-    while 0 < c.left {
-        if c.bad(t, table, end) {
-            return Answer::Refused(number, c.at);
-        }
-        c = c.next(t);
+    if end < c.at + limits::FACT_SIZE {
+        return true;
     }
-    Answer::Good(c.at)
+    c.bad(t, table)
 }
 
 // A number of facts from an offset, each refused with the number given.
@@ -101,7 +93,14 @@ pub fn facts(
     requires { ⌜ (end ≤ length (now t)) × (from ≤ 100010) × (n ≤ maxFacts) ⌝ }
     ensures { λ r. ⌜ ForTabled (now (table .entry)) (λ sch hl. r ≡ facts number sch hl (now (t .entry)) end n noFact from) ⌝ }
 {
-    keyed(number, t, table, end, n, from)
+    let mut c = FactCursor::new(limits::FACT_SIZE, n, from);
+    while 0 < c.left {
+        if refused(c, t, table, end) {
+            return Answer::Refused(number, c.at);
+        }
+        c = c.next(t);
+    }
+    Answer::Good(c.at)
 }
 
 fn joined(high: u8, low: u8) -> u16

@@ -7,12 +7,15 @@ use native.Mathlib.Omega.{arith}
 use borrow.Author.Tests.{le-leb, lt-leb, ltb-true, leb-true, ltb-false, leb-false}
 use lib.Dec.{eqb, ltb, leb}
 use Rattle.truth.specs.Bools.{clash, and-out}
+use Rattle.objectset.specs.Sets.{member, entry}
+use Rattle.objectset.proofs.Laws.{member-none, member-one}
 use Rattle.terms.specs.declared.Object.{Object}
 use Rattle.terms.specs.declared.Relation.{Relation}
 use Rattle.terms.specs.Schema.{Schema, Hall, numberBad, kindSuits, objectBad}
 use Rattle.terms.specs.Facts.{factBad}
-use Rattle.tables.specs.Tables.{member, entry, Kinds, kindsBad, placeSet, tableBad, Tabled, Follows}
-use Rattle.tables.proofs.Turns.{member-none, member-one, below-all, KindsTo, RowsTo}
+use Rattle.terms.specs.Told.{suits}
+use Rattle.tables.specs.Tables.{Kinds, kindsBad, placeSet, Tabled, Follows}
+use Rattle.tables.proofs.Turns.{below-all, KindsTo, RowsTo}
 
 -- ---- one place
 module _ (sch : Schema) (ks : List ℕ) (r : Relation) (i places : ℕ) (is : places ≡ sch .places r) where
@@ -30,15 +33,15 @@ unfolding Kinds KindsTo
 kinds-right sch hl n ks e i k x =
     i .1 k (x .0) ∙ ap (λ (b : Bool). b && kindSuits sch k (hl .kind x)) (below-all (hl .count) n (x .0) (λ l. omega arith) (λ l. omega arith))
 
-suits : (a s : Bool) → (not a && s) ≡ not (a || not s)
-suits true s = refl
-suits false true = refl
-suits false false = refl
+both-good : (a s : Bool) → (not a && s) ≡ not (a || not s)
+both-good true s = refl
+both-good false true = refl
+both-good false false = refl
 
 module _ (sch : Schema) (hl : Hall) (ks : List ℕ) (right : Kinds sch hl ks) where
   object-in : (named : ℕ) (x : Object) → member (entry ks named) (x .0) ≡ not (numberBad (hl .count) (x .0) || not (kindSuits sch named (hl .kind x)))
   unfolding Kinds
-  object-in named x = right named x ∙ suits (numberBad (hl .count) (x .0)) (kindSuits sch named (hl .kind x))
+  object-in named x = right named x ∙ both-good (numberBad (hl .count) (x .0)) (kindSuits sch named (hl .kind x))
 
   pub kinds-bad : (used : Bool) (named : ℕ) (x : Object) → kindsBad ks used named x ≡ objectBad sch hl used named x
   unfolding kindsBad objectBad
@@ -69,7 +72,7 @@ module _ (sch : Schema) (hl : Hall) (ks : List ℕ) (right : Kinds sch hl ks) wh
       → ((x : ℕ) → x < 256 → x ≤ sch .relations → x < n)
       → RowsTo (λ q. placeSet sch ks (record { 0 = q }) 1) (λ q. placeSet sch ks (record { 0 = q }) 2) n t
       → Tabled sch hl t
-  unfolding Tabled RowsTo tableBad factBad
+  unfolding Tabled RowsTo suits factBad
   rows-tabled n t l g i f k =
       let r = f .relation .0 in
       let b = below-all (sch .relations) n r (g r k) (λ m. omega arith) in

@@ -1,63 +1,21 @@
--- Laws of sets and tables for the functions that make them: an object put in, a relation stored, and what the whole table then says.
-use Prim.Native.Nat.{ℕ, _+_, _*_, _^_, _%_, _<_, _≤_}
-use mathlib.Core.Path.{_≡_, refl, sym, ap, _∙_}
+-- Laws of the two tables for the functions that make them: the objects below a number are in the one, the relations in the other.
+use Prim.Native.Nat.{ℕ, _+_, _<_, _≤_}
+use mathlib.Core.Path.{_≡_, refl, sym, _∙_}
 use mathlib.Core.Bool.{Bool, true, false, cond, _&&_, _||_, not, and-true, and-false, or-false}
 use mathlib.Core.List.{List}
-use native.Mathlib.Nat.{one-mul}
 use native.Mathlib.Decide.{ℕ-discrete}
 use native.Mathlib.Omega.{arith}
 use borrow.Author.Tests.{ltb-true, ltb-false, lt-ltb, le-ltb, le-leb, lt-leb, eq-eqb, ne-eqb}
-use lib.Bits.{bitOr}
-use lib.Dec.{lit<, eqb, ltb, leb}
-use lib.ListN.{length, length-set}
-use lib.Pow.{shl-exact}
-use lib.Seq.{getD-set-same, getD-set-other}
-use Rattle.mask.specs.Bits.{bitOf}
+use lib.Dec.{eqb, ltb, leb}
+use lib.ListN.{length}
 use Rattle.mask.specs.Sets.{empty}
-use Rattle.mask.proofs.Numbers.{bit-or, bit-power, bit-none}
-use Rattle.mask.proofs.Bytes.{zeros}
 use Rattle.mask.proofs.Laws.{length-empty}
 use Rattle.mask.proofs.Whole.{ltb-next}
+use Rattle.objectset.specs.Sets.{member, entry, put, stored}
+use Rattle.objectset.proofs.Laws.{member-none, member-put, put-same, put-other, length-put, entry-empty, stored-same, stored-other, length-stored}
 use Rattle.terms.specs.Schema.{Schema, numberBad, kindSuits}
 use Rattle.terms.proofs.Suits.{suits-own, suits-no-other}
-use Rattle.tables.specs.Tables.{member, entry, put, stored, Joined}
-
-pub one-shl : (k : ℕ) → k < 32 → 1 * 2 ^ k % 4294967296 ≡ 2 ^ k
-one-shl k h = shl-exact {a = 1} 1 k 32 (lit< tt) (omega arith) ∙ one-mul (2 ^ k)
-
--- ---- sets
-pub member-none : (x : ℕ) → member 0 x ≡ false
-unfolding member
-member-none x = rw (bit-none (x % 32)) (and-false (ltb x 32))
-
-member-with : (m n x : ℕ) (b : Bool) → ltb x 32 ≡ b → n < 32
-    → (b && bitOf (bitOr m (2 ^ n)) (x % 32)) ≡ (b && bitOf m (x % 32) || eqb n x)
-member-with m n x true e l =
-    let h : x < 32 = ltb-true x 32 e in
-    let i : x % 32 ≡ x = omega arith in
-    bit-or m (2 ^ n) (x % 32) ∙ ap (λ (t : Bool). bitOf m (x % 32) || t) (bit-power n (x % 32) ∙ ap (eqb n) i)
-member-with m n x false e l =
-    let h : 32 ≤ x = ltb-false x 32 e in
-    sym (ne-eqb n x (λ (i : n ≡ x). omega arith))
-
-pub member-put : (m n x : ℕ) → n < 32 → member (bitOr m (2 ^ n)) x ≡ (member m x || eqb n x)
-unfolding member
-member-put m n x l = member-with m n x (ltb x 32) refl l
-
-one-at : (x : ℕ) (b : Bool) → ltb x 32 ≡ b → (x ≡ 0 → ⊥) → (b && bitOf 1 (x % 32)) ≡ false
-one-at x true e d =
-    let h : x < 32 = ltb-true x 32 e in
-    bit-power 0 (x % 32) ∙ ne-eqb 0 (x % 32) (λ (i : 0 ≡ x % 32). d (omega arith))
-one-at x false e d = refl
-
--- an unused place has object 0 alone
-pub member-one : (x : ℕ) → member 1 x ≡ eqb x 0
-unfolding member
-member-one x = by (ℕ-discrete x 0)
-  where
-    by : Dec (x ≡ 0) → (ltb x 32 && bitOf 1 (x % 32)) ≡ eqb x 0
-    by (yes e) = rw e (bit-power 0 0)
-    by (no d) = one-at x (ltb x 32) refl d ∙ sym (ne-eqb x 0 d)
+use Rattle.tables.specs.Tables.{Joined}
 
 -- ---- numbers from 1 to below n
 unfoldable pub below : ℕ → ℕ → Bool
@@ -108,22 +66,6 @@ below-all count n x g i = below-bools count n x (ltb x 1) (ltb count x) refl ref
 unfoldable pub KindsTo : Schema → (ℕ → ℕ) → ℕ → List ℕ → Type 0
 KindsTo sch kind n ks = (length ks ≡ 256) × ((k x : ℕ) → member (entry ks k) x ≡ (below n x && kindSuits sch k (kind x)))
 
-put-same : (t : List ℕ) (i x : ℕ) → i < length t → entry (put t i x) i ≡ bitOr (entry t i) (2 ^ x)
-unfolding put entry
-put-same t i x h = getD-set-same t i _ 0 h
-
-put-other : (t : List ℕ) (i x k : ℕ) → (i ≡ k → ⊥) → entry (put t i x) k ≡ entry t k
-unfolding put entry
-put-other t i x k d = getD-set-other t i k _ 0 (λ (e : k ≡ i). d (sym e))
-
-length-put : (t : List ℕ) (i x : ℕ) → length (put t i x) ≡ length t
-unfolding put
-length-put t i x = length-set t i _
-
-entry-empty : (n i : ℕ) → entry (empty n) i ≡ 0
-unfolding entry empty
-entry-empty n i = zeros n i
-
 -- an object put into the set of its own kind is in the set of each kind that this suits
 pub put-joined : (sch : Schema) (kind x : ℕ) (t new : List ℕ) → x < 32 → kind < length t → new ≡ put t kind x → Joined sch kind x t new
 unfolding Joined
@@ -151,18 +93,6 @@ unfoldable pub RowsTo : (ℕ → ℕ) → (ℕ → ℕ) → ℕ → List ℕ →
 RowsTo first second n t =
     (length t ≡ 512)
     × ((q : ℕ) → q < 256 → (entry t q ≡ cond (below n q) (first q) 0) × (entry t (256 + q) ≡ cond (below n q) (second q) 0))
-
-stored-same : (t : List ℕ) (i m : ℕ) → i < length t → entry (stored t i m) i ≡ m
-unfolding stored entry
-stored-same t i m h = getD-set-same t i m 0 h
-
-stored-other : (t : List ℕ) (i m k : ℕ) → (i ≡ k → ⊥) → entry (stored t i m) k ≡ entry t k
-unfolding stored entry
-stored-other t i m k d = getD-set-other t i k m 0 (λ (e : k ≡ i). d (sym e))
-
-length-stored : (t : List ℕ) (i m : ℕ) → length (stored t i m) ≡ length t
-unfolding stored
-length-stored t i m = length-set t i m
 
 module _ (first second : ℕ → ℕ) where
   pub rows-none : (t : List ℕ) → t ≡ empty 512 → RowsTo first second 1 t

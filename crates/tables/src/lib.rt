@@ -1,6 +1,5 @@
-// Tables of what suits, made once for a record or an order: each fact and each step is then tested by a few reads. A set of objects is one
-// number, whose bit x stands for object x, and bit 0 for an unused place. Uses input, terms, and the bits of mask.
-use terms::Fact;
+// Tables of what suits, made once for a record or an order: each fact and each step is then tested by a few reads. Uses input, terms and
+// objectset, whose sets stand in the tables.
 use terms::Object;
 use terms::Objects;
 use terms::Param;
@@ -12,41 +11,17 @@ ghost use Prim.Native.Nat.{_≤_, _<_};
 ghost use lib.ListN.{length};
 ghost use Rattle.limits.specs.Limits.{maxParams};
 ghost use Rattle.mask.specs.Sets.{empty};
+ghost use Rattle.objectset.specs.Sets.{stored};
 ghost use Rattle.terms.specs.Schema.{schema, hall};
 ghost use Rattle.terms.specs.Steps.{argumentBad, stepBad};
-ghost use Rattle.tables.specs.Tables.{member, entry, put, stored, Joined, Kinds, kindsBad, placeSet, tableBad, Follows, ForKinds};
-
-fn member(set: u32, x: u8) -> bool
-    ensures { λ r. ⌜ r ≡ member set x ⌝ }
-{
-    (x < 32) & ((set >> (x % 32)) % 2 == 1)
-}
-
-fn entry(t: &[u32], i: usize) -> u32
-    ensures { λ r. ⌜ r ≡ entry (now (t .entry)) i ⌝ }
-{
-    if i < t.len() {
-        return t[i];
-    }
-    0
-}
-
-fn put(t: &mut [u32], i: usize, x: u8)
-    requires { ⌜ x < 32 ⌝ }
-    ensures { λ _. ⌜ now (t .exit) ≡ put (now (t .entry)) i x ⌝ }
-{
-    if t.len() <= i {
-        return;
-    }
-    t[i] = t[i] | (1u32 << x);
-}
+ghost use Rattle.tables.specs.Tables.{Joined, Kinds, kindsBad, placeSet, Follows, ForKinds};
 
 // Puts an object into the set of each kind that its own kind suits: its own, as long as no kind lies under another.
 fn put_object(book: &[u8], h: Sections, kinds: &mut [u32; 256], kind: u8, x: u8)
     requires { ⌜ (x < 32) × (length (now kinds) ≡ 256) ⌝ }
     ensures { λ _. ⌜ Joined (schema h (now (book .entry))) kind x (now (kinds .entry)) (now (kinds .exit)) ⌝ }
 {
-    put(kinds, kind as usize, x);
+    objectset::put(kinds, kind as usize, x);
 }
 
 fn no_kinds() -> [u32; 256]
@@ -86,32 +61,24 @@ pub fn kinds_of(book: &[u8], h: Sections, s: &[u8], objects: Objects) -> [u32; 2
 fn object_bad(kinds: &[u32; 256], used: bool, named: u8, x: Object) -> bool
     ensures { λ r. ⌜ r ≡ kindsBad (now (kinds .entry)) used named x ⌝ }
 {
-    (used & !member(entry(kinds, named as usize), x.0)) | (!used & !(x.0 == 0))
+    (used & !objectset::member(objectset::entry(kinds, named as usize), x.0))
+        | (!used & !(x.0 == 0))
 }
 
 fn place_set(book: &[u8], h: Sections, kinds: &[u32; 256], r: Relation, i: u8) -> u32
     ensures { λ m. ⌜ m ≡ placeSet (schema h (now (book .entry))) (now (kinds .entry)) r i ⌝ }
 {
     if i <= h.places(book, r) {
-        return entry(kinds, h.place_kind(book, r, i) as usize);
+        return objectset::entry(kinds, h.place_kind(book, r, i) as usize);
     }
     1
-}
-
-fn store(t: &mut [u32], i: usize, set: u32)
-    ensures { λ _. ⌜ now (t .exit) ≡ stored (now (t .entry)) i set ⌝ }
-{
-    if t.len() <= i {
-        return;
-    }
-    t[i] = set;
 }
 
 // Stores the set that suits a place.
 fn store_place(t: &mut [u32; 512], i: usize, set: u32)
     ensures { λ _. ⌜ now (t .exit) ≡ stored (now (t .entry)) i set ⌝ }
 {
-    store(t, i, set);
+    objectset::store(t, i, set);
 }
 
 // The table by relation. A number over 255 is no byte's.
@@ -132,22 +99,15 @@ pub fn table_of(book: &[u8], h: Sections, kinds: &[u32; 256]) -> [u32; 512]
     t
 }
 
-pub fn fact_bad(table: &[u32; 512], f: Fact) -> bool
-    ensures { λ r. ⌜ r ≡ tableBad (now (table .entry)) f ⌝ }
-{
-    let r = f.relation.0 as usize;
-    !(member(entry(table, r), f.first.0) & member(entry(table, 256 + r), f.second.0))
-}
-
-// Row 9 of one parameter.
-fn argument_bad(book: &[u8], h: Sections, kinds: &[u32; 256], st: Step, i: u8) -> bool
-    requires { ⌜ i ≤ maxParams ⌝ }
+// Row 9 of one parameter. The move has so many.
+fn argument_bad(book: &[u8], h: Sections, kinds: &[u32; 256], st: Step, params: u8, i: u8) -> bool
+    requires { ⌜ (i ≤ maxParams) × (params ≡ schema h (now book) .params (st .action)) ⌝ }
     ensures { λ r. ⌜ ForKinds (schema h (now (book .entry))) (now (kinds .entry)) (λ hl. r ≡ argumentBad (schema h (now (book .entry))) hl st i) ⌝ }
 {
     let b = st.binding;
     object_bad(
         kinds,
-        i <= h.params(book, st.action),
+        i <= params,
         h.param_kind(book, st.action, Param(i)),
         b.object(Param(i)),
     )
@@ -157,9 +117,10 @@ fn argument_bad(book: &[u8], h: Sections, kinds: &[u32; 256], st: Step, i: u8) -
 pub fn step_bad(book: &[u8], h: Sections, kinds: &[u32; 256], st: Step) -> bool
     ensures { λ r. ⌜ ForKinds (schema h (now (book .entry))) (now (kinds .entry)) (λ hl. r ≡ stepBad (schema h (now (book .entry))) hl st) ⌝ }
 {
+    let params = h.params(book, st.action);
     terms::number_bad(h.moves.count, st.action.0)
-        | argument_bad(book, h, kinds, st, 1)
-        | argument_bad(book, h, kinds, st, 2)
-        | argument_bad(book, h, kinds, st, 3)
-        | argument_bad(book, h, kinds, st, 4)
+        | argument_bad(book, h, kinds, st, params, 1)
+        | argument_bad(book, h, kinds, st, params, 2)
+        | argument_bad(book, h, kinds, st, params, 3)
+        | argument_bad(book, h, kinds, st, params, 4)
 }

@@ -1,3 +1,4 @@
 pub mod Suits
+pub mod Order
 pub mod Atoms
 pub mod Agree

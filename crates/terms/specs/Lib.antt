@@ -4,3 +4,4 @@ pub mod Schema
 pub mod Facts
 pub mod Steps
 pub mod Agree
+pub mod Told

@@ -1,11 +1,13 @@
 // The words of the formats as values: typed numbers, sections, facts and steps, each read from bytes, and the tests that need no table.
-// Uses input. Every test is one Bool definition of specs/; whether a fact or a step suits the book's schema is asked of `tables`.
+// Uses input, and objectset for the tables that tell whether a fact suits; crate `tables` makes these. Every test is one Bool definition of specs/.
 ghost use mathlib.Core.Path.{_≡_};
-ghost use Prim.Native.Nat.{_-_, _≤_, _<_};
-ghost use Rattle.limits.specs.Limits.{maxParams, maxAtoms};
+ghost use Prim.Native.Nat.{_+_, _-_, _≤_, _<_};
+ghost use lib.ListN.{length};
+ghost use Rattle.limits.specs.Limits.{maxParams, maxAtoms, factSize, stepSize};
 ghost use Rattle.terms.specs.Sections.{sectionsOf};
 ghost use Rattle.terms.specs.Schema.{schema, numberBad, relationAt, moveAt, kindSuits};
 ghost use Rattle.terms.specs.Facts.{factAt, precedes, noFact};
+ghost use Rattle.terms.specs.Told.{suits, factKey};
 ghost use Rattle.terms.specs.Steps.{objectOf, stepAt, samePair, repeats, atomRelation, atomFirst, atomSecond};
 
 // Numbers that count from 1. Each has a type of its own, so that a binding is the only way from a parameter to an object.
@@ -158,6 +160,19 @@ pub fn kind_suits(book: &[u8], h: Sections, named: u8, kind: u8) -> bool
 }
 
 impl Fact {
+    // A fact that is not cut: no byte is tested, which counts in a loop over facts.
+    pub fn whole(s: &[u8], at: usize) -> Fact
+        requires { ⌜ (at ≤ 1000000) × (at + factSize ≤ length (now s)) ⌝ }
+        ensures { λ r. ⌜ r ≡ factAt (now (s .entry)) at ⌝ }
+    {
+        Fact {
+            relation: Relation(s[at]),
+            first: Object(s[at + 1]),
+            second: Object(s[at + 2]),
+        }
+    }
+
+    // Any fact, cut or not.
     pub fn read(s: &[u8], at: usize) -> Fact
         requires { ⌜ at ≤ 1000000 ⌝ }
         ensures { λ r. ⌜ r ≡ factAt (now (s .entry)) at ⌝ }
@@ -180,12 +195,28 @@ impl Fact {
         }
     }
 
-    pub fn precedes(self, other: Fact) -> bool
-        ensures { λ r. ⌜ r ≡ precedes self other ⌝ }
+    // Suit: the table tells which objects its places may have.
+    pub fn suits(self, table: &[u32; 512]) -> bool
+        ensures { λ r. ⌜ r ≡ suits (now (table .entry)) self ⌝ }
     {
-        let second = self.second.0 < other.second.0;
-        let first = (self.first.0 < other.first.0) | ((self.first.0 == other.first.0) & second);
-        (self.relation.0 < other.relation.0) | ((self.relation.0 == other.relation.0) & first)
+        let r = self.relation.0 as usize;
+        objectset::member(objectset::entry(table, r), self.first.0)
+            & objectset::member(objectset::entry(table, 256 + r), self.second.0)
+    }
+
+    // Its bytes as one number: facts stand in the order of their keys.
+    pub fn key(self) -> u32
+        ensures { λ r. ⌜ r ≡ factKey self ⌝ }
+    {
+        self.relation.0 as u32 * 65536 + self.first.0 as u32 * 256 + self.second.0 as u32
+    }
+
+    // Order, byte by byte: it stands behind `last`, whose key is told, so that a loop over facts makes each key once.
+    pub fn follows(self, last: Fact, key: u32) -> bool
+        requires { ⌜ key ≡ factKey last ⌝ }
+        ensures { λ r. ⌜ r ≡ precedes last self ⌝ }
+    {
+        key < self.key()
     }
 }
 
@@ -201,6 +232,25 @@ impl Binding {
 }
 
 impl Step {
+    // A step that is not cut.
+    pub fn whole(s: &[u8], at: usize) -> Step
+        requires { ⌜ (at ≤ 1000000) × (at + stepSize ≤ length (now s)) ⌝ }
+        ensures { λ r. ⌜ r ≡ stepAt (now (s .entry)) at ⌝ }
+    {
+        Step {
+            action: Move(s[at]),
+            binding: Binding {
+                objects: [
+                    Object(s[at + 1]),
+                    Object(s[at + 2]),
+                    Object(s[at + 3]),
+                    Object(s[at + 4]),
+                ],
+            },
+        }
+    }
+
+    // Any step, cut or not.
     pub fn read(s: &[u8], at: usize) -> Step
         requires { ⌜ at ≤ 1000000 ⌝ }
         ensures { λ r. ⌜ r ≡ stepAt (now (s .entry)) at ⌝ }

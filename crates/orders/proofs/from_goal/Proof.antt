@@ -17,7 +17,7 @@ returns : tie.Need-returns
 unfolding ForKinds ForTabled Follows fromGoal
 returns c hl right =
     let d = c .before .before in
-    part-stays _ _ _ _ (d .goal .ensures _ hl (d .before .before .before .pre hl right)) (c .before .is-refused .ensures) (c .if1 .taken)
+    part-stays _ _ _ _ (d .goal .ensures _ hl (d .before .before .before .pre .0 hl right)) (c .before .is-refused .ensures) (c .if1 .taken)
 
 plan-requires : tie.Need-plan-requires
 plan-requires c κs = search needs
@@ -28,7 +28,7 @@ returns-2 c hl right =
     let e = c .before in
     let d = e .before .before in
     c .plan .ensures hl right
-    ∙ part-then _ _ _ _ (d .goal .ensures _ hl (d .before .before .before .pre hl right)) (e .before .is-refused .ensures) (e .if1 .left)
+    ∙ part-then _ _ _ _ (d .goal .ensures _ hl (d .before .before .before .pre .0 hl right)) (e .before .is-refused .ensures) (e .if1 .left)
 
 pub from-goal-spec : {M : Type 1} → statement M
 from-goal-spec =

@@ -3,59 +3,77 @@ use Prim.Native.Nat.{_+_, _*_, _≤_}
 use mathlib.Core.Path.{_≡_, _∙_}
 use native.Mathlib.Omega.{arith}
 use borrow.Author.Needs.{needs}
+use lib.ListN.{length}
 use Rattle.terms.specs.Facts.{noFact}
+use Rattle.terms.specs.Told.{factKey}
 use Rattle.limits.specs.Limits.{entrySize}
-use Rattle.format.specs.Order.{goalCount, goalAt, entries}
+use Rattle.format.specs.Order.{goalCount, goalAt, stepsAt, entries}
 use Rattle.tables.specs.Tables.{ForTabled}
 use Rattle.format.proofs.Chains.{chain-same, chain-none, chain-refused, chain-good}
 use Rattle.format.proofs.Orders.{goal-chain}
+use Rattle.states.proofs.Cursors.{fact-of}
+use Rattle.orders.proofs.Tests.{entry-bad-by}
 use Rattle.orders.proofs.goal.Statement.{statement}
 use Rattle.orders.proofs.goal.Tie as tie
 
 abbrev Inv-loop : tie.InvT-loop
 Inv-loop o table c₀ c =
-    (c .at + entrySize * c .left ≤ 600000)
+    (c .size ≡ entrySize)
+    × (c .key ≡ factKey (c .last))
+    × (c .at + entrySize * c .left ≤ length o)
+    × (c .at + entrySize * c .left ≤ 600000)
     × ForTabled table (λ sch hl. entries sch hl o (c .left) (c .last) (c .at) ≡ entries sch hl o (goalCount o) noFact (goalAt o))
 
 abbrev μ-loop : tie.MeasureT-loop
 μ-loop o table c₀ c = c .left
 
-new-requires : tie.Need-new-requires Inv-loop μ-loop
-new-requires c κs = search needs
-
 loop-holds : tie.Need-loop-holds Inv-loop μ-loop
-unfolding ForTabled
-loop-holds c = let e = c .new .ensures in (omega arith, λ sch hl right. chain-same (goal-chain sch hl _) (e .0) (e .1) (e .2))
+unfolding ForTabled stepsAt
+loop-holds c =
+    let e = c .new .ensures in
+    let a = c .before .goal-at .ensures in
+    let n = c .before .before .goal-count .ensures in
+    (e .3, e .4, omega arith, omega arith, λ sch hl right. chain-same (goal-chain sch hl _) (e .0 ∙ a .0) (e .1 ∙ n) (e .2))
 
 bad-requires : tie.Need-bad-requires Inv-loop μ-loop
-bad-requires c κs = search needs
+bad-requires c κs =
+    let i = c .before .before .before .loop .inv in
+    record { whole = omega arith; within = omega arith; near = omega arith; key = i .1 }
 
 returns : tie.Need-returns Inv-loop μ-loop
 unfolding ForTabled
 returns c sch hl right =
-    let d = c .before .before in
-    chain-refused (goal-chain sch hl _) (d .before .before .loop .inv .1 sch hl right) (d .if1 .taken) (c .before .bad .ensures sch hl right) (c .if2 .taken)
+    let w = c .before .before in
+    let l = w .before .before .before .loop in
+    chain-refused (goal-chain sch hl _) (l .inv .4 sch hl right) (w .before .if1 .taken)
+    (entry-bad-by _ _ _ _ _ _ (l .inv .0) (w .byte-at .ensures) (c .before .bad .ensures sch hl right)) (c .if2 .taken)
 
 next-requires : tie.Need-next-requires Inv-loop μ-loop
-next-requires c κs = search needs
-
-loop-less : tie.Need-loop-less Inv-loop μ-loop
-loop-less c = search needs
+next-requires c κs =
+    let i = c .before .before .before .before .before .loop .inv in
+    (record { whole = omega arith; within = omega arith; near = omega arith; key = i .1 }, omega arith)
 
 loop-again : tie.Need-loop-again Inv-loop μ-loop
 unfolding ForTabled
 loop-again c =
-    let d = c .before .before .before in
-    let e = c .next .ensures in (
+    let b = c .before .before in
+    let w = b .before in
+    let l = w .before .before .before .loop in
+    let e = c .next .ensures in
+    let p : c .next .result .at ≡ l .c .at + entrySize = omega arith in (
+      e .3 ∙ l .inv .0,
+      e .4,
+      omega arith,
       omega arith,
       λ sch hl right.
-          chain-same (goal-chain sch hl _) (e .0) (e .1) (e .2)
-          ∙ chain-good (goal-chain sch hl _) (d .before .before .loop .inv .1 sch hl right) (d .if1 .taken) (c .before .before .bad .ensures sch hl right) (c .before .if2 .left),
+          chain-same (goal-chain sch hl _) p (e .1) (e .2 ∙ fact-of sch hl _ _ _ (omega arith))
+          ∙ chain-good (goal-chain sch hl _) (l .inv .4 sch hl right) (w .before .if1 .taken)
+          (entry-bad-by _ _ _ _ _ _ (l .inv .0) (w .byte-at .ensures) (b .bad .ensures sch hl right)) (c .before .if2 .left),
     )
 
 returns-2 : tie.Need-returns-2 Inv-loop μ-loop
 unfolding ForTabled
-returns-2 c sch hl right = chain-none (goal-chain sch hl _) (c .before .before .loop .inv .1 sch hl right) (omega arith)
+returns-2 c sch hl right = chain-none (goal-chain sch hl _) (c .before .before .loop .inv .4 sch hl right) (omega arith)
 
 pub goal-spec : {M : Type 1} → statement M
 goal-spec =
@@ -63,11 +81,15 @@ goal-spec =
     (tie.spec
     Inv-loop
     μ-loop
-    new-requires
+    (λ c κs. search needs)
+    (λ c. search needs)
+    (λ c κs. search needs)
+    (λ c κs. search needs)
     loop-holds
+    (λ c κs. search needs)
     bad-requires
     returns
     next-requires
-    loop-less
+    (λ c. search needs)
     loop-again
     returns-2)

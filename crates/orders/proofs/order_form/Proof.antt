@@ -1,5 +1,6 @@
 -- `order_form` meets its contract: the header, the objects, then what follows them.
 use mathlib.Core.Path.{sym, _∙_}
+use native.Mathlib.Omega.{arith}
 use Rattle.format.proofs.Orders.{order-header-good}
 use Rattle.orders.proofs.Tests.{kinds-are, row-fourteen, row-fifteen, rows-behind}
 use borrow.Author.Needs.{needs}
@@ -27,8 +28,8 @@ returns-2 c =
 from-start-requires : tie.Need-from-start-requires
 from-start-requires c κs =
     let d = c .before .before .before in
-    let g = order-header-good _ (sym (d .before .header-bad .ensures) ∙ d .if1 .left) .counts in
-    (g .objects, g .starts)
+    let g = order-header-good _ (sym (d .before .header-bad .ensures) ∙ d .if1 .left) in
+    (g .counts .objects, g .counts .starts, omega (arith, g .size))
 
 returns-3 : tie.Need-returns-3
 returns-3 c =

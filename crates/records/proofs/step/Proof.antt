@@ -16,9 +16,9 @@ returns c =
     let d = c .before in
     sym (step-nine _ _ _ _ _ _ (d .step-refused .ensures _ (d .before .before .pre .0 .kinds)) (c .if1 .taken))
 
-read-requires : tie.Need-read-requires
+whole-requires : tie.Need-whole-requires
 unfolding ForKinds
-read-requires c κs =
+whole-requires c κs =
     let d = c .before in
     let w = step-fits _ _ _ _ _ _ (d .step-refused .ensures _ (d .before .before .pre .0 .kinds)) (c .if1 .left) in
     (omega arith, omega arith)
@@ -31,7 +31,7 @@ unfolding ForKinds
 returns-2 c =
     let e = c .before .before in
     let d = e .before .before in
-    sym (step-repeats _ _ _ _ _ _ _ (d .step-refused .ensures _ (d .before .before .pre .0 .kinds)) (e .before .if1 .left) (e .read .ensures) _ (c .before .repeats .ensures) (c .if2 .taken))
+    sym (step-repeats _ _ _ _ _ _ _ (d .step-refused .ensures _ (d .before .before .pre .0 .kinds)) (e .before .if1 .left) (e .whole .ensures) _ (c .before .repeats .ensures) (c .if2 .taken))
 
 add-state : tie.Need-add-state
 add-state c = search needs
@@ -47,7 +47,7 @@ returns-3 c =
     let d = e .before .before in
     let p = d .before .before .pre in
     c .state .ensures _ _ (p .0 .table)
-    ∙ sym (step-state _ _ _ _ _ _ _ (d .step-refused .ensures _ (p .0 .kinds)) (e .before .if1 .left) (e .read .ensures) _ (f .before .repeats .ensures) (f .if2 .left))
+    ∙ sym (step-state _ _ _ _ _ _ _ (d .step-refused .ensures _ (p .0 .kinds)) (e .before .if1 .left) (e .whole .ensures) _ (f .before .repeats .ensures) (f .if2 .left))
 
 pub step-spec : {M : Type 1} → statement M
 step-spec =
@@ -55,7 +55,7 @@ step-spec =
     (tie.spec
     step-refused-requires
     returns
-    read-requires
+    whole-requires
     repeats-requires
     returns-2
     add-state

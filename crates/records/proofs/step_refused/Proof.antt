@@ -12,15 +12,15 @@ returns : tie.Need-returns
 unfolding ForKinds
 returns c hl right = step-cut _ _ _ _ _ (c .if1 .taken)
 
-read-requires : tie.Need-read-requires
-read-requires c κs = search needs
+whole-requires : tie.Need-whole-requires
+whole-requires c κs = search needs
 
 step-bad-requires : tie.Need-step-bad-requires
 step-bad-requires c κs = search needs
 
 returns-2 : tie.Need-returns-2
 unfolding ForKinds
-returns-2 c hl right = step-whole _ _ _ _ _ _ _ (c .before .before .if1 .left) (c .before .read .ensures) (c .step-bad .ensures hl right)
+returns-2 c hl right = step-whole _ _ _ _ _ _ _ (c .before .before .if1 .left) (c .before .whole .ensures) (c .step-bad .ensures hl right)
 
 pub step-refused-spec : {M : Type 1} → statement M
-step-refused-spec = tie.close (tie.spec add-if1 returns read-requires step-bad-requires returns-2)
+step-refused-spec = tie.close (tie.spec add-if1 returns whole-requires step-bad-requires returns-2)

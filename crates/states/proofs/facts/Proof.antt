@@ -1,16 +1,82 @@
--- `facts` meets its contract, for its slice has bytes.
-use mathlib.Core.Path.{_∙_}
+-- `facts` meets its contract: facts still left at the cursor answer as all of them do.
+use Prim.Native.Nat.{_+_, _*_, _≤_}
+use mathlib.Core.Path.{_≡_, _∙_}
+use native.Mathlib.Omega.{arith}
+use Rattle.terms.specs.Facts.{noFact}
+use Rattle.terms.specs.Told.{factKey}
+use Rattle.limits.specs.Limits.{factSize}
+use Rattle.format.specs.States.{facts}
+use Rattle.format.proofs.Chains.{chain-same, chain-none, chain-refused, chain-good}
+use Rattle.format.proofs.States.{facts-chain}
 use Rattle.tables.specs.Tables.{ForTabled}
-use Rattle.states.proofs.Keys.{keyed-all}
+use Rattle.states.proofs.Cursors.{fact-of}
 use borrow.Author.Needs.{needs}
 use Rattle.states.proofs.facts.Statement.{statement}
 use Rattle.states.proofs.facts.Tie as tie
 
-returns : tie.Need-returns
+abbrev Inv-loop : tie.InvT-loop
+Inv-loop number t table end n from c₀ c =
+    (c .size ≡ factSize)
+    × (c .key ≡ factKey (c .last))
+    × (c .at + factSize * c .left ≤ from + factSize * n)
+    × ForTabled table (λ sch hl. facts number sch hl t end (c .left) (c .last) (c .at) ≡ facts number sch hl t end n noFact from)
+
+abbrev μ-loop : tie.MeasureT-loop
+μ-loop number t table end n from c₀ c = c .left
+
+loop-holds : tie.Need-loop-holds Inv-loop μ-loop
+unfolding ForTabled
+loop-holds c =
+    let e = c .new .ensures in
+    (e .3, e .4, omega arith, λ sch hl right. chain-same (facts-chain _ sch hl _ _) (e .0) (e .1) (e .2))
+
+refused-requires : tie.Need-refused-requires Inv-loop μ-loop
+refused-requires c κs =
+    let i = c .before .before .loop .inv in
+    (omega arith, omega arith, i .0, i .1)
+
+returns : tie.Need-returns Inv-loop μ-loop
 unfolding ForTabled
 returns c sch hl right =
-    let d = c .before in
-    c .keyed .ensures ∙ keyed-all sch hl _ _ _ (λ i. d .shared-slice-known .given i .fits) right _ _ _
+    let d = c .before .before in
+    chain-refused (facts-chain _ sch hl _ _) (d .before .before .loop .inv .3 sch hl right) (d .if1 .taken) (c .before .refused .ensures .1 sch hl right) (c .if2 .taken)
+
+next-requires : tie.Need-next-requires Inv-loop μ-loop
+next-requires c κs =
+    let i = c .before .before .before .before .loop .inv in
+    let w = c .before .refused .ensures .0 (c .if2 .left) in
+    (record { whole = omega arith; within = omega arith; near = omega arith; key = i .1 }, omega arith)
+
+loop-again : tie.Need-loop-again Inv-loop μ-loop
+unfolding ForTabled
+loop-again c =
+    let d = c .before .before .before in
+    let l = d .before .before .loop in
+    let e = c .next .ensures in
+    let p : c .next .result .at ≡ l .c .at + factSize = omega arith in (
+      e .3 ∙ l .inv .0,
+      e .4,
+      omega arith,
+      λ sch hl right.
+          chain-same (facts-chain _ sch hl _ _) p (e .1) (e .2 ∙ fact-of sch hl _ _ _ (omega arith))
+          ∙ chain-good (facts-chain _ sch hl _ _) (l .inv .3 sch hl right) (d .if1 .taken) (c .before .before .refused .ensures .1 sch hl right) (c .before .if2 .left),
+    )
+
+returns-2 : tie.Need-returns-2 Inv-loop μ-loop
+unfolding ForTabled
+returns-2 c sch hl right = chain-none (facts-chain _ sch hl _ _) (c .before .before .loop .inv .3 sch hl right) (omega arith)
 
 pub facts-spec : {M : Type 1} → statement M
-facts-spec = tie.close (tie.spec (λ c κs. search needs) returns)
+facts-spec =
+    tie.close
+    (tie.spec
+    Inv-loop
+    μ-loop
+    (λ c κs. search needs)
+    loop-holds
+    refused-requires
+    returns
+    next-requires
+    (λ c. search needs)
+    loop-again
+    returns-2)

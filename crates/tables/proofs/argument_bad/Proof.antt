@@ -11,9 +11,9 @@ returns : tie.Need-returns
 unfolding ForKinds argumentBad
 returns c hl right =
     let d = c .before in
-    c .object-bad .ensures ∙ rw (d .before .before .params .ensures, d .before .param-kind .ensures, d .object .ensures) (kinds-bad _ hl _ right _ _ _)
+    c .object-bad .ensures ∙ rw (d .before .before .before .before .pre .1, d .before .param-kind .ensures, d .object .ensures) (kinds-bad _ hl _ right _ _ _)
 
 pub argument-bad-spec : {M : Type 1} → statement M
 argument-bad-spec =
     tie.close
-    (tie.spec (λ c κs. search needs) (λ c κs. search needs) (λ c κs. search needs) (λ c κs. search needs) returns)
+    (tie.spec (λ c κs. search needs) (λ c κs. search needs) (λ c κs. search needs) returns)

@@ -2,6 +2,7 @@
 use Rattle.terms.specs.Schema.{schema}
 use Rattle.terms.specs.Steps.{stepBad}
 use Rattle.tables.specs.Tables.{ForKinds}
+use native.Mathlib.Omega.{arith}
 use borrow.Author.Needs.{needs}
 use Rattle.tables.proofs.step_bad.Statement.{statement}
 use Rattle.tables.proofs.step_bad.Tie as tie
@@ -21,4 +22,11 @@ returns c hl right =
 pub step-bad-spec : {M : Type 1} → statement M
 step-bad-spec =
     tie.close
-    (tie.spec (λ c κs. search needs) (λ c κs. search needs) (λ c κs. search needs) (λ c κs. search needs) (λ c κs. search needs) returns)
+    (tie.spec
+    (λ c κs. search needs)
+    (λ c κs. search needs)
+    (λ c κs. (omega arith, c .before .params .ensures))
+    (λ c κs. (omega arith, c .before .before .params .ensures))
+    (λ c κs. (omega arith, c .before .before .before .params .ensures))
+    (λ c κs. (omega arith, c .before .before .before .before .params .ensures))
+    returns)
