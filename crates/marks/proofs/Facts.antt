@@ -12,7 +12,7 @@ use Rattle.input.specs.Bytes.{two}
 use Rattle.terms.specs.declared.Binding.{Binding}
 use Rattle.terms.specs.declared.Fact.{Fact}
 use Rattle.terms.specs.Facts.{factAt}
-use Rattle.limits.specs.Limits.{factSize}
+use Rattle.limits.specs.Limits.{factSize, nearCeiling}
 use Rattle.format.specs.Decode.{factsAt, stateAt, stateEnd}
 use Rattle.held.specs.Inverse.{mark, marks, unbound, sameFacts, unboundChanged}
 use Rattle.marks.specs.declared.Cursor.{Cursor}
@@ -30,7 +30,7 @@ module _ (s : List ℕ) where
   facts-first zero at h = absurd (omega arith)
   facts-first (suc n) at h = rw sub-one
 
-  pub of-state-by : (at n : ℕ) → n ≡ two s at → n < 65536 → at ≤ 200000 → stateEnd s at ≤ length s
+  pub of-state-by : (at n : ℕ) → n ≡ two s at → n < 65536 → at ≤ nearCeiling → stateEnd s at ≤ length s
       → (rest s (record { at = at + 2; left = n }) ≡ stateAt s at) × Ahead s (record { at = at + 2; left = n })
   unfolding rest stateAt stateEnd
   of-state-by at n e h k l = (rw e, record { within = omega (arith, e, l); near = omega arith })

@@ -8,7 +8,7 @@ use lib.ListN.{length, getD, replicate}
 use Rattle.terms.specs.declared.Object.{Object}
 use Rattle.terms.specs.declared.Binding.{Binding}
 use Rattle.terms.specs.declared.Fact.{Fact}
-use Rattle.limits.specs.Limits.{factSize, atomsPerRelation}
+use Rattle.limits.specs.Limits.{factSize, atomsPerRelation, farCeiling}
 use Rattle.format.specs.Decode.{factsAt}
 use Rattle.held.specs.Inverse.{paramOf, placeBound, marks, atomsIn, unboundChanged}
 use Rattle.marks.specs.declared.Cursor.{Cursor}
@@ -42,7 +42,7 @@ rest s c = factsAt s (c .left) (c .at)
 -- they lie within the bytes
 pub record Ahead (s : List ℕ) (c : Cursor) : Type 0 where
   pub within : c .at + factSize * c .left ≤ length s
-  pub near : c .at + factSize * c .left ≤ 500000
+  pub near : c .at + factSize * c .left ≤ farCeiling
 
 -- behind the next fact
 unfoldable pub next : Cursor → Cursor

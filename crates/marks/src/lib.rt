@@ -4,7 +4,7 @@ ghost use mathlib.Core.Path.{_≡_};
 ghost use Prim.Native.Nat.{_+_, _*_, _≤_, _<_};
 ghost use mathlib.Core.List.{[]};
 ghost use lib.ListN.{length, set};
-ghost use Rattle.limits.specs.Limits.{setSize};
+ghost use Rattle.limits.specs.Limits.{setSize, nearCeiling, farCeiling};
 ghost use Rattle.mask.specs.Sets.{empty};
 ghost use Rattle.format.specs.Decode.{stateAt, stateEnd};
 ghost use Rattle.held.specs.Inverse.{mark, marks, sameFact, unboundChanged};
@@ -90,7 +90,7 @@ struct Cursor {
 
 impl Cursor {
     fn of_state(s: &[u8], at: usize) -> Cursor
-        requires { ⌜ (at ≤ 200000) × (stateEnd (now s) at ≤ length (now s)) ⌝ }
+        requires { ⌜ (at ≤ nearCeiling) × (stateEnd (now s) at ≤ length (now s)) ⌝ }
         ensures { λ r. ⌜ (rest (now (s .entry)) r ≡ stateAt (now (s .entry)) at) × Ahead (now (s .entry)) r ⌝ }
     {
         Cursor {
@@ -108,7 +108,7 @@ impl Cursor {
 
     // Past the next fact `f`, which is marked.
     fn pass(self, m: &mut [u8], b: Binding, f: Fact, pair: usize) -> Cursor
-        requires { ⌜ (pair ≡ pairOf b f) × (0 < self .left) × (self .at ≤ 500000) ⌝ }
+        requires { ⌜ (pair ≡ pairOf b f) × (0 < self .left) × (self .at ≤ farCeiling) ⌝ }
         ensures { λ r. ⌜ (now (m .exit) ≡ mark b (now (m .entry)) f) × (r ≡ next self) ⌝ }
     {
         mark(m, b, f, pair);
@@ -187,7 +187,7 @@ pub fn mark_step(
     before: &mut [u8],
     after: &mut [u8],
 ) -> bool
-    requires { ⌜ (pre ≤ 200000) × (post ≤ 200000) × (stateEnd (now s) pre ≤ length (now s)) × (stateEnd (now s) post ≤ length (now s)) ⌝ }
+    requires { ⌜ (pre ≤ nearCeiling) × (post ≤ nearCeiling) × (stateEnd (now s) pre ≤ length (now s)) × (stateEnd (now s) post ≤ length (now s)) ⌝ }
     requires { ⌜ (now before ≡ empty setSize) × (now after ≡ empty setSize) ⌝ }
     ensures { λ r. ⌜ StepMarked b (stateAt (now (s .entry)) pre) (stateAt (now (s .entry)) post) (now (before .exit)) (now (after .exit)) r ⌝ }
 {

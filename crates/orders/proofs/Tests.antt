@@ -19,7 +19,7 @@ use Rattle.terms.specs.declared.Step.{Step}
 use Rattle.terms.specs.Schema.{Schema, Hall, schema, hall, numberBad}
 use Rattle.terms.specs.Facts.{factAt, factBad, precedes, noFact}
 use Rattle.terms.specs.Steps.{stepAt, stepBad, repeats}
-use Rattle.limits.specs.Limits.{headerSize, maxObjects, entrySize}
+use Rattle.limits.specs.Limits.{headerSize, maxObjects, entrySize, nearCeiling}
 use Rattle.format.specs.States.{facts}
 use Rattle.format.specs.Order.{objectCount, startCount, startAt, orderObjects, orderObject, entryBad, orderForm, fromStart, orderHeaderBad, planStepBad}
 use Rattle.tables.specs.Tables.{Kinds}
@@ -63,7 +63,7 @@ pub object-bad-by : (kinds : ℕ) (o : List ℕ) (at kind : ℕ) (b : Bool) → 
 object-bad-by kinds o at kind b p q = rw (← p) q
 
 -- the objects stand behind the header, and are few enough for a table
-pub objects-fit : (o : List ℕ) (objects : Objects) → objects ≡ orderObjects o → objectCount o ≤ maxObjects → (objects .at ≤ 100000) × (objects .count < 32)
+pub objects-fit : (o : List ℕ) (objects : Objects) → objects ≡ orderObjects o → objectCount o ≤ maxObjects → (objects .at ≤ nearCeiling) × (objects .count < 32)
 unfolding orderObjects
 objects-fit o objects e l = rw e (omega arith, omega arith)
 

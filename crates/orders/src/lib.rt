@@ -12,7 +12,7 @@ ghost use Rattle.answer.specs.Walk.{walk};
 ghost use Rattle.terms.specs.Schema.{schema, hall};
 ghost use Rattle.terms.specs.Facts.{noFact};
 ghost use Rattle.terms.specs.Steps.{repeats};
-ghost use Rattle.limits.specs.Limits.{headerSize, maxObjects, maxFacts};
+ghost use Rattle.limits.specs.Limits.{headerSize, maxObjects, maxFacts, farCeiling};
 ghost use Rattle.format.specs.States.{facts};
 ghost use Rattle.format.specs.Order.{objectCount, startCount, goalCount, stepCount, startAt, goalAt, stepsAt, orderObjects};
 ghost use Rattle.format.specs.Order.{orderObject, entries, planStepBad, planStep, fromGoal, fromStart, orderForm};
@@ -71,7 +71,7 @@ fn goal(o: &[u8], table: &[u32; 512]) -> Answer
 
 // Row 18, of the step at an offset.
 fn step_bad(book: &[u8], h: Sections, kinds: &[u32; 256], o: &[u8], at: usize) -> bool
-    requires { ⌜ at ≤ 1000000 ⌝ }
+    requires { ⌜ at ≤ farCeiling ⌝ }
     ensures { λ r. ⌜ ForKinds (schema h (now (book .entry))) (now (kinds .entry)) (λ hl. r ≡ planStepBad (schema h (now (book .entry))) hl (now (o .entry)) at) ⌝ }
 {
     let step = Step::read(o, at);

@@ -9,7 +9,7 @@ ghost use Prim.Native.Nat.{_≤_};
 ghost use lib.ListN.{length};
 ghost use Rattle.answer.specs.Walk.{walk};
 ghost use Rattle.terms.specs.Schema.{schema, hall};
-ghost use Rattle.limits.specs.Limits.{maxLength, maxObjects};
+ghost use Rattle.limits.specs.Limits.{maxLength, maxObjects, nearCeiling};
 ghost use Rattle.format.specs.Records.{headBad, object, stepRefused, step, trajectory, closed, body, recordAt};
 ghost use Rattle.tables.specs.Tables.{ForKinds};
 ghost use Rattle.records.specs.Head.{headOf};
@@ -50,7 +50,7 @@ fn head_bad(s: &[u8], head: Head, at: usize) -> bool
 
 // Row 7, for a number of objects.
 fn objects(s: &[u8], kinds: u16, end: usize, n: usize, from: usize) -> Answer
-    requires { ⌜ (from ≤ 100000) × (n ≤ 255) ⌝ }
+    requires { ⌜ (from ≤ nearCeiling) × (n ≤ 255) ⌝ }
     ensures { λ r. ⌜ r ≡ walk (object kinds (now (s .entry)) end) n from ⌝ }
 {
     let mut left = n;
@@ -67,7 +67,7 @@ fn objects(s: &[u8], kinds: u16, end: usize, n: usize, from: usize) -> Answer
 
 // Row 9.
 fn step_refused(book: &[u8], h: Sections, kinds: &[u32; 256], end: usize, at: usize) -> bool
-    requires { ⌜ (end ≤ length (now book)) × (at ≤ 90000) ⌝ }
+    requires { ⌜ (end ≤ length (now book)) × (at ≤ maxLength) ⌝ }
     ensures { λ r. ⌜ ForKinds (schema h (now (book .entry))) (now (kinds .entry)) (λ hl. r ≡ stepRefused (schema h (now (book .entry))) hl (now (book .entry)) end at) ⌝ }
 {
     if end < at + limits::STEP_SIZE {
@@ -86,7 +86,7 @@ struct Scope {
 
 // Rows 9 and 10, then row 8 for the state after the step.
 fn step(book: &[u8], c: Scope, kinds: &[u32; 256], table: &[u32; 512], at: usize) -> Answer
-    requires { ⌜ Readable (now book) c (now kinds) (now table) × (at ≤ 90000) ⌝ }
+    requires { ⌜ Readable (now book) c (now kinds) (now table) × (at ≤ maxLength) ⌝ }
     ensures { λ r. ⌜ r ≡ step (schema (c .h) (now (book .entry))) (hall (c .objects) (now (book .entry))) (now (book .entry)) (c .end) at ⌝ }
 {
     if step_refused(book, c.h, kinds, c.end, at) {
@@ -100,7 +100,7 @@ fn step(book: &[u8], c: Scope, kinds: &[u32; 256], table: &[u32; 512], at: usize
 }
 
 fn steps(book: &[u8], c: Scope, kinds: &[u32; 256], table: &[u32; 512], from: usize) -> Answer
-    requires { ⌜ Readable (now book) c (now kinds) (now table) × (from ≤ 90000) ⌝ }
+    requires { ⌜ Readable (now book) c (now kinds) (now table) × (from ≤ maxLength) ⌝ }
     ensures { λ r. ⌜ r ≡ walk (step (schema (c .h) (now (book .entry))) (hall (c .objects) (now (book .entry))) (now (book .entry)) (c .end)) (c .steps) from ⌝ }
 {
     let mut left = c.steps;
@@ -121,7 +121,7 @@ fn steps(book: &[u8], c: Scope, kinds: &[u32; 256], table: &[u32; 512], from: us
 
 // A state, then steps each with the state after it.
 fn trajectory(book: &[u8], c: Scope, kinds: &[u32; 256], table: &[u32; 512], at: usize) -> Answer
-    requires { ⌜ Readable (now book) c (now kinds) (now table) × (at ≤ 100000) ⌝ }
+    requires { ⌜ Readable (now book) c (now kinds) (now table) × (at ≤ nearCeiling) ⌝ }
     ensures { λ r. ⌜ r ≡ trajectory (schema (c .h) (now (book .entry))) (hall (c .objects) (now (book .entry))) (now (book .entry)) (c .end) (c .steps) at ⌝ }
 {
     let first = states::state(book, table, c.end, at);

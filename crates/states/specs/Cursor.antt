@@ -8,14 +8,14 @@ use Rattle.terms.specs.declared.Fact.{Fact}
 use Rattle.terms.specs.Schema.{Schema, Hall}
 use Rattle.terms.specs.Facts.{factAt, factBad, precedes}
 use Rattle.terms.specs.Told.{factKey}
-use Rattle.limits.specs.Limits.{factSize}
+use Rattle.limits.specs.Limits.{factSize, farCeiling}
 use Rattle.states.specs.declared.FactCursor.{FactCursor}
 
 -- the item at the cursor has a fact, and lies within the bytes, at an offset that can be added to; the key is that of the fact before
 pub record Ahead (s : List ℕ) (c : FactCursor) : Type 0 where
   pub whole : factSize ≤ c .size
   pub within : c .at + c .size ≤ length s
-  pub near : c .at + c .size ≤ 1000000
+  pub near : c .at + c .size ≤ farCeiling
   pub key : c .key ≡ factKey (c .last)
 
 -- the fact at the end of that item

@@ -7,7 +7,7 @@ ghost use mathlib.Core.Path.{_≡_};
 ghost use mathlib.Core.Bool.{false};
 ghost use Prim.Native.Nat.{_+_, _-_, _*_, _≤_, _<_};
 ghost use lib.ListN.{length};
-ghost use Rattle.limits.specs.Limits.{countSize, maxFacts, factSize};
+ghost use Rattle.limits.specs.Limits.{countSize, maxFacts, factSize, nearCeiling, farCeiling};
 ghost use Rattle.input.specs.Bytes.{two};
 ghost use Rattle.terms.specs.Facts.{noFact};
 ghost use Rattle.terms.specs.Told.{factKey};
@@ -72,7 +72,7 @@ impl FactCursor {
 
 // The fact at the cursor is cut, wrong, or not behind the one before it.
 fn refused(c: FactCursor, t: &[u8], table: &[u32; 512], end: usize) -> bool
-    requires { ⌜ (end ≤ length (now t)) × (c .at ≤ 200000) × (c .size ≡ factSize) × (c .key ≡ factKey (c .last)) ⌝ }
+    requires { ⌜ (end ≤ length (now t)) × (c .at + factSize ≤ farCeiling) × (c .size ≡ factSize) × (c .key ≡ factKey (c .last)) ⌝ }
     ensures { λ r. ⌜ (r ≡ false → c .at + factSize ≤ end) × ForTabled (now (table .entry)) (λ sch hl. r ≡ factRefused sch hl (now (t .entry)) end (c .last) (c .at)) ⌝ }
 {
     if end < c.at + limits::FACT_SIZE {
@@ -90,7 +90,7 @@ pub fn facts(
     n: usize,
     from: usize,
 ) -> Answer
-    requires { ⌜ (end ≤ length (now t)) × (from ≤ 100010) × (n ≤ maxFacts) ⌝ }
+    requires { ⌜ (end ≤ length (now t)) × (from ≤ nearCeiling + countSize) × (n ≤ maxFacts) ⌝ }
     ensures { λ r. ⌜ ForTabled (now (table .entry)) (λ sch hl. r ≡ facts number sch hl (now (t .entry)) end n noFact from) ⌝ }
 {
     let mut c = FactCursor::new(limits::FACT_SIZE, n, from);
@@ -111,14 +111,14 @@ fn joined(high: u8, low: u8) -> u16
 
 // A count that is not cut.
 fn count(s: &[u8], at: usize) -> u16
-    requires { ⌜ (at ≤ 100000) × (at + countSize ≤ length (now s)) ⌝ }
+    requires { ⌜ (at ≤ nearCeiling) × (at + countSize ≤ length (now s)) ⌝ }
     ensures { λ r. ⌜ r ≡ two (now (s .entry)) at ⌝ }
 {
     joined(s[at], s[at + 1])
 }
 
 fn count_bad(s: &[u8], end: usize, at: usize) -> bool
-    requires { ⌜ (end ≤ length (now s)) × (at ≤ 100000) ⌝ }
+    requires { ⌜ (end ≤ length (now s)) × (at ≤ nearCeiling) ⌝ }
     ensures { λ r. ⌜ r ≡ countBad (now (s .entry)) end at ⌝ }
 {
     if end < at + limits::COUNT_SIZE {
@@ -129,7 +129,7 @@ fn count_bad(s: &[u8], end: usize, at: usize) -> bool
 
 // Row 8.
 pub fn state(book: &[u8], table: &[u32; 512], end: usize, at: usize) -> Answer
-    requires { ⌜ (end ≤ length (now book)) × (at ≤ 100000) ⌝ }
+    requires { ⌜ (end ≤ length (now book)) × (at ≤ nearCeiling) ⌝ }
     ensures { λ r. ⌜ ForTabled (now (table .entry)) (λ sch hl. r ≡ state sch hl (now (book .entry)) end at) ⌝ }
 {
     if count_bad(book, end, at) {

@@ -9,7 +9,7 @@ use terms::Step;
 ghost use mathlib.Core.Path.{_≡_};
 ghost use Prim.Native.Nat.{_≤_, _<_};
 ghost use lib.ListN.{length};
-ghost use Rattle.limits.specs.Limits.{maxParams};
+ghost use Rattle.limits.specs.Limits.{maxParams, nearCeiling};
 ghost use Rattle.mask.specs.Sets.{empty};
 ghost use Rattle.objectset.specs.Sets.{stored};
 ghost use Rattle.terms.specs.Schema.{schema, hall};
@@ -38,7 +38,7 @@ fn no_places() -> [u32; 512]
 
 // The table by kind, of the objects in `s`.
 pub fn kinds_of(book: &[u8], h: Sections, s: &[u8], objects: Objects) -> [u32; 256]
-    requires { ⌜ (objects .at ≤ 100000) × (objects .count < 32) ⌝ }
+    requires { ⌜ (objects .at ≤ nearCeiling) × (objects .count < 32) ⌝ }
     ensures { λ r. ⌜ Kinds (schema h (now (book .entry))) (hall objects (now (s .entry))) r ⌝ }
 {
     let n = objects.count;

@@ -17,10 +17,11 @@ use Rattle.terms.specs.declared.Binding.{Binding}
 use Rattle.terms.specs.declared.Fact.{Fact}
 use Rattle.terms.specs.declared.Step.{Step}
 use Rattle.terms.specs.declared.Sections.{Sections}
-use Rattle.terms.specs.Schema.{Schema, Hall, numberBad, relationAt, moveAt, schema, kindSuits, objectBad}
+use Rattle.terms.specs.Schema.{Schema, Hall, numberBad, relationAt, moveAt, schema, objectBad}
 use Rattle.terms.specs.Facts.{factBad}
 use Rattle.terms.specs.Steps.{argumentBad, stepBad, atomRelation, atomFirst, atomSecond, parameterFills, isAtom, placed, ground}
 use Rattle.terms.specs.Agree.{SameSchema}
+use Rattle.terms.proofs.Suits.{suits-same}
 use Rattle.terms.proofs.Atoms.{number-out, relation-from-1, first-range, second-range, atom-out, atom-in}
 
 pub same-sym : (S T : Schema) → SameSchema S T → SameSchema T S
@@ -64,17 +65,12 @@ pub record SameHall (H K : Hall) : Type 0 where
   pub kind : (x : Object) → 1 ≤ x .0 → x .0 ≤ H .count → H .kind x ≡ K .kind x
 
 module _ (S T : Schema) (h : SameSchema S T) where
-  -- Kinds suit alike: whatever else two schemas must share for it is in the record.
-  pub suits-same : (named kind : ℕ) → kindSuits S named kind ≡ kindSuits T named kind
-  unfolding kindSuits
-  suits-same named kind = refl
-
   fills-same : (m : Move) (r : Relation) → 1 ≤ m .0 → m .0 ≤ S .moves → 1 ≤ r .0 → r .0 ≤ S .relations
       → (i : ℕ) → i ≤ maxPlaces → (p : Param) → p .0 ≤ maxParams → parameterFills S m r i p ≡ parameterFills T m r i p
   unfolding parameterFills
   fills-same m r low high low′ high′ i l p k =
       rw (
-        suits-same (S .placeKind r i) (S .paramKind m p),
+        suits-same S T h (S .placeKind r i) (S .paramKind m p),
         h .places r low′ high′,
         h .params m low high,
         h .placeKind r low′ high′ i l,
@@ -107,7 +103,7 @@ module _ (S T : Schema) (h : SameSchema S T) where
     unfolding objectBad
     object-over true named x e =
         let w = number-out (H .count) (x .0) (neither (numberBad (H .count) (x .0)) _ (neither _ _ e .0) .0) in
-        rw (← suits-same named (K .kind x), ← o .count, ← o .kind x (w .0) (w .1)) e
+        rw (← suits-same S T h named (K .kind x), ← o .count, ← o .kind x (w .0) (w .1)) e
     object-over false named x e = e
 
     pub fact-over : (f : Fact) → factBad S H f ≡ false → factBad T K f ≡ false

@@ -4,6 +4,7 @@ use mathlib.Core.Path.{_≡_, refl, sym, _∙_}
 use mathlib.Core.Bool.{true, false}
 use borrow.Author.Tests.{eqb-true, eq-eqb, ne-eqb}
 use Rattle.terms.specs.Schema.{Schema, kindSuits}
+use Rattle.terms.specs.Agree.{SameSchema}
 
 module _ (sch : Schema) where
   -- a kind suits where it is named itself
@@ -27,3 +28,8 @@ module _ (sch : Schema) where
   pub parameter-suits : (place parameter kind : ℕ) → kindSuits sch place kind ≡ true → kindSuits sch parameter kind ≡ true → kindSuits sch place parameter ≡ true
   unfolding kindSuits
   parameter-suits place parameter kind e f = eq-eqb parameter place (sym (eqb-true kind parameter f) ∙ eqb-true kind place e)
+
+-- Kinds suit alike in two schemas that say the same: whatever they must share for it is in the record.
+pub suits-same : (S T : Schema) → SameSchema S T → (named kind : ℕ) → kindSuits S named kind ≡ kindSuits T named kind
+unfolding kindSuits
+suits-same S T h named kind = refl

@@ -3,7 +3,7 @@
 ghost use mathlib.Core.Path.{_≡_};
 ghost use Prim.Native.Nat.{_+_, _-_, _≤_, _<_};
 ghost use lib.ListN.{length};
-ghost use Rattle.limits.specs.Limits.{maxParams, maxAtoms, factSize, stepSize};
+ghost use Rattle.limits.specs.Limits.{maxParams, maxAtoms, factSize, stepSize, nearCeiling, farCeiling};
 ghost use Rattle.terms.specs.Sections.{sectionsOf};
 ghost use Rattle.terms.specs.Schema.{schema, numberBad, relationAt, moveAt, kindSuits};
 ghost use Rattle.terms.specs.Facts.{factAt, precedes, noFact};
@@ -77,13 +77,13 @@ impl Sections {
     }
 
     pub fn relation_at(self, r: Relation) -> usize
-        ensures { λ at. ⌜ (at ≡ relationAt self r) × (at ≤ 70000) ⌝ }
+        ensures { λ at. ⌜ (at ≡ relationAt self r) × (at ≤ nearCeiling) ⌝ }
     {
         self.relations.at as usize + limits::RELATION_SIZE * index(r.0)
     }
 
     pub fn move_at(self, m: Move) -> usize
-        ensures { λ at. ⌜ (at ≡ moveAt self m) × (at ≤ 70000) ⌝ }
+        ensures { λ at. ⌜ (at ≡ moveAt self m) × (at ≤ nearCeiling) ⌝ }
     {
         self.moves.at as usize + limits::MOVE_SIZE * index(m.0)
     }
@@ -162,7 +162,7 @@ pub fn kind_suits(book: &[u8], h: Sections, named: u8, kind: u8) -> bool
 impl Fact {
     // A fact that is not cut: no byte is tested, which counts in a loop over facts.
     pub fn whole(s: &[u8], at: usize) -> Fact
-        requires { ⌜ (at ≤ 1000000) × (at + factSize ≤ length (now s)) ⌝ }
+        requires { ⌜ (at ≤ farCeiling) × (at + factSize ≤ length (now s)) ⌝ }
         ensures { λ r. ⌜ r ≡ factAt (now (s .entry)) at ⌝ }
     {
         Fact {
@@ -174,7 +174,7 @@ impl Fact {
 
     // Any fact, cut or not.
     pub fn read(s: &[u8], at: usize) -> Fact
-        requires { ⌜ at ≤ 1000000 ⌝ }
+        requires { ⌜ at ≤ farCeiling ⌝ }
         ensures { λ r. ⌜ r ≡ factAt (now (s .entry)) at ⌝ }
     {
         Fact {
@@ -234,7 +234,7 @@ impl Binding {
 impl Step {
     // A step that is not cut.
     pub fn whole(s: &[u8], at: usize) -> Step
-        requires { ⌜ (at ≤ 1000000) × (at + stepSize ≤ length (now s)) ⌝ }
+        requires { ⌜ (at ≤ farCeiling) × (at + stepSize ≤ length (now s)) ⌝ }
         ensures { λ r. ⌜ r ≡ stepAt (now (s .entry)) at ⌝ }
     {
         Step {
@@ -252,7 +252,7 @@ impl Step {
 
     // Any step, cut or not.
     pub fn read(s: &[u8], at: usize) -> Step
-        requires { ⌜ at ≤ 1000000 ⌝ }
+        requires { ⌜ at ≤ farCeiling ⌝ }
         ensures { λ r. ⌜ r ≡ stepAt (now (s .entry)) at ⌝ }
     {
         Step {

@@ -4,36 +4,6 @@ use borrow.Author.Needs.{needs}
 use Rattle.marks.proofs.invert.Statement.{statement}
 use Rattle.marks.proofs.invert.Tie as tie
 
-object-requires : tie.Need-object-requires
-object-requires c κs = search needs
-
-give-requires : tie.Need-give-requires
-give-requires c κs = search needs
-
-object-requires-2 : tie.Need-object-requires-2
-object-requires-2 c κs = search needs
-
-give-requires-2 : tie.Need-give-requires-2
-give-requires-2 c κs = search needs
-
-object-requires-3 : tie.Need-object-requires-3
-object-requires-3 c κs = search needs
-
-give-requires-3 : tie.Need-give-requires-3
-give-requires-3 c κs = search needs
-
-object-requires-4 : tie.Need-object-requires-4
-object-requires-4 c κs = search needs
-
-give-requires-4 : tie.Need-give-requires-4
-give-requires-4 c κs = search needs
-
-give-requires-5 : tie.Need-give-requires-5
-give-requires-5 c κs = search needs
-
-same-length : tie.Need-same-length
-same-length c = search needs
-
 returns : tie.Need-returns
 returns c =
     let g₅ = c .before .before in
@@ -51,15 +21,5 @@ returns c =
 pub invert-spec : {M : Type 1} → statement M
 invert-spec =
     tie.close
-    (tie.spec
-    object-requires
-    give-requires
-    object-requires-2
-    give-requires-2
-    object-requires-3
-    give-requires-3
-    object-requires-4
-    give-requires-4
-    give-requires-5
-    same-length
-    returns)
+    (tie.spec (λ c κs. search needs) (λ c κs. search needs) (λ c κs. search needs) (λ c κs. search needs) (λ c κs. search needs)
+    (λ c κs. search needs) (λ c κs. search needs) (λ c κs. search needs) (λ c κs. search needs) (λ c. search needs) returns)

@@ -9,21 +9,6 @@ use Rattle.marks.proofs.mark.Tie as tie
 returns : tie.Need-returns
 returns c = mark-unbound _ _ _ (c .before .before .pre) _ (c .if1 .taken)
 
-index-requires : tie.Need-index-requires
-index-requires c κs = search needs
-
-mul-set-bit : tie.Need-mul-set-bit
-mul-set-bit c = search needs
-
-add-set-bit : tie.Need-add-set-bit
-add-set-bit c = search needs
-
-set-bit-requires : tie.Need-set-bit-requires
-set-bit-requires c κs = search needs
-
-same-length : tie.Need-same-length
-same-length c = search needs
-
 returns-2 : tie.Need-returns-2
 returns-2 c =
     let n = c .before .before in
@@ -33,11 +18,4 @@ returns-2 c =
 pub mark-spec : {M : Type 1} → statement M
 mark-spec =
     tie.close
-    (tie.spec
-    returns
-    index-requires
-    mul-set-bit
-    add-set-bit
-    set-bit-requires
-    same-length
-    returns-2)
+    (tie.spec returns (λ c κs. search needs) (λ c. search needs) (λ c. search needs) (λ c κs. search needs) (λ c. search needs) returns-2)

@@ -40,16 +40,4 @@ returns : tie.Need-returns Inv-loop μ-loop
 returns c = marked-all _ _ (c .before .before .loop .inv .0) (omega arith)
 
 pub mark-rest-spec : {M : Type 1} → statement M
-mark-rest-spec =
-    tie.close
-    (tie.spec
-    Inv-loop
-    μ-loop
-    loop-holds
-    fact-requires
-    pair-requires
-    pass-requires
-    loop-less
-    loop-again
-    same-length
-    returns)
+mark-rest-spec = tie.close (tie.spec Inv-loop μ-loop loop-holds fact-requires pair-requires pass-requires loop-less loop-again same-length returns)

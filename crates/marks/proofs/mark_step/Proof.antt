@@ -15,30 +15,12 @@ Inv-loop s b pre post before₀ after₀ t w₀ before after w =
 abbrev μ-loop : tie.MeasureT-loop
 μ-loop s b pre post before₀ after₀ t w₀ before after w = toCome w
 
-no-shares-requires : tie.Need-no-shares-requires Inv-loop μ-loop
-no-shares-requires c κs = search needs
-
-slice-aggregate-invert : tie.Need-slice-aggregate-invert Inv-loop μ-loop
-slice-aggregate-invert c = search needs
-
-invert-requires : tie.Need-invert-requires Inv-loop μ-loop
-invert-requires c κs = search needs
-
-of-state-requires : tie.Need-of-state-requires Inv-loop μ-loop
-of-state-requires c κs = search needs
-
-of-state-requires-2 : tie.Need-of-state-requires-2 Inv-loop μ-loop
-of-state-requires-2 c κs = search needs
-
 loop-holds : tie.Need-loop-holds Inv-loop μ-loop
 loop-holds c =
     let o = c .before in
     let i = o .before .before in
     let p = i .before .before .before .before .before .before .pre in
     (stands-first _ _ _ _ _ _ _ _ (o .of-state .ensures) (c .of-state2 .ensures) (p .1 .0) (p .1 .1), i .invert .ensures, refl, refl)
-
-slice-aggregate-turn : tie.Need-slice-aggregate-turn Inv-loop μ-loop
-slice-aggregate-turn c = search needs
 
 turn-requires : tie.Need-turn-requires Inv-loop μ-loop
 turn-requires c κs =
@@ -57,27 +39,15 @@ loop-again c =
     let i = t .before .before .before .before .before .before .before .loop .inv in
     (stands-next _ _ (i .0) (t .turn .ensures), i .1, t .turn .kept .0 ∙ i .2, t .turn .kept .1 .0 ∙ i .3)
 
-slice-aggregate-mark-rest : tie.Need-slice-aggregate-mark-rest Inv-loop μ-loop
-slice-aggregate-mark-rest c = search needs
-
 mark-rest-requires : tie.Need-mark-rest-requires Inv-loop μ-loop
 mark-rest-requires c κs =
     let i = c .before .before .before .before .before .before .before .loop .inv in
     (i .1, i .0 .ahead)
 
-slice-aggregate-mark-rest-2 : tie.Need-slice-aggregate-mark-rest-2 Inv-loop μ-loop
-slice-aggregate-mark-rest-2 c = search needs
-
 mark-rest-requires-2 : tie.Need-mark-rest-requires-2 Inv-loop μ-loop
 mark-rest-requires-2 c κs =
     let i = c .before .before .before .before .before .before .before .before .before .before .before .before .loop .inv in
     (i .1, i .0 .aheadAfter)
-
-same-length : tie.Need-same-length Inv-loop μ-loop
-same-length c = search needs
-
-same-length-2 : tie.Need-same-length-2 Inv-loop μ-loop
-same-length-2 c = search needs
 
 returns : tie.Need-returns Inv-loop μ-loop
 returns c =
@@ -89,23 +59,6 @@ returns c =
 pub mark-step-spec : {M : Type 1} → statement M
 mark-step-spec =
     tie.close
-    (tie.spec
-    Inv-loop
-    μ-loop
-    no-shares-requires
-    slice-aggregate-invert
-    invert-requires
-    of-state-requires
-    of-state-requires-2
-    loop-holds
-    slice-aggregate-turn
-    turn-requires
-    loop-less
-    loop-again
-    slice-aggregate-mark-rest
-    mark-rest-requires
-    slice-aggregate-mark-rest-2
-    mark-rest-requires-2
-    same-length
-    same-length-2
-    returns)
+    (tie.spec Inv-loop μ-loop (λ c κs. search needs) (λ c. search needs) (λ c κs. search needs) (λ c κs. search needs) (λ c κs. search needs)
+    loop-holds (λ c. search needs) turn-requires loop-less loop-again (λ c. search needs) mark-rest-requires (λ c. search needs) mark-rest-requires-2
+    (λ c. search needs) (λ c. search needs) returns)

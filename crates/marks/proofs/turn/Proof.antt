@@ -5,32 +5,11 @@ use Rattle.marks.proofs.Steps.{turned-both, turned-before, turned-after
 use Rattle.marks.proofs.turn.Statement.{statement}
 use Rattle.marks.proofs.turn.Tie as tie
 
-fact-requires : tie.Need-fact-requires
-fact-requires c κs = search needs
-
-fact-requires-2 : tie.Need-fact-requires-2
-fact-requires-2 c κs = search needs
-
-pair-requires : tie.Need-pair-requires
-pair-requires c κs = search needs
-
-same-fact-requires : tie.Need-same-fact-requires
-same-fact-requires c κs = search needs
-
-pass-requires : tie.Need-pass-requires
-pass-requires c κs = search needs
-
 pass-requires-2 : tie.Need-pass-requires-2
 pass-requires-2 c κs =
     let x = c .before .before .before .before .before .before .before in
     let p = x .before .before .before .before .before .before .before .before .before .pre in
     (x .pair .ensures, p .4, omega (arith, p .2 .near))
-
-same-length : tie.Need-same-length
-same-length c = search needs
-
-same-length-2 : tie.Need-same-length-2
-same-length-2 c = search needs
 
 returns : tie.Need-returns
 returns c =
@@ -41,12 +20,6 @@ returns c =
     let g = e .before .before in
     turned-both _ _ _ _ _ _ (g .before .fact .ensures) _ (g .fact2 .ensures) _ (e .same-fact .ensures) (u .if1 .taken) _ _ _ _ (p .pass .ensures) (q .pass2 .ensures)
 
-pass-requires-3 : tie.Need-pass-requires-3
-pass-requires-3 c κs = search needs
-
-same-length-3 : tie.Need-same-length-3
-same-length-3 c = search needs
-
 returns-2 : tie.Need-returns-2
 returns-2 c =
     let p = c .before .before in
@@ -55,15 +28,6 @@ returns-2 c =
     let f = x .before .before in
     let a = f .before .before .before .before .before .before .before .pre in
     turned-before _ _ _ _ _ _ (f .fact .ensures) (a .2) _ (x .pair .ensures) (u .if2 .taken) _ _ (p .pass3 .ensures)
-
-pair-requires-2 : tie.Need-pair-requires-2
-pair-requires-2 c κs = search needs
-
-pass-requires-4 : tie.Need-pass-requires-4
-pass-requires-4 c κs = search needs
-
-same-length-4 : tie.Need-same-length-4
-same-length-4 c = search needs
 
 returns-3 : tie.Need-returns-3
 returns-3 c =
@@ -80,20 +44,6 @@ returns-3 c =
 pub turn-spec : {M : Type 1} → statement M
 turn-spec =
     tie.close
-    (tie.spec
-    fact-requires
-    fact-requires-2
-    pair-requires
-    same-fact-requires
-    pass-requires
-    pass-requires-2
-    same-length
-    same-length-2
-    returns
-    pass-requires-3
-    same-length-3
-    returns-2
-    pair-requires-2
-    pass-requires-4
-    same-length-4
-    returns-3)
+    (tie.spec (λ c κs. search needs) (λ c κs. search needs) (λ c κs. search needs) (λ c κs. search needs) (λ c κs. search needs) pass-requires-2
+    (λ c. search needs) (λ c. search needs) returns (λ c κs. search needs) (λ c. search needs) returns-2 (λ c κs. search needs) (λ c κs. search needs)
+    (λ c. search needs) returns-3)

@@ -7,20 +7,11 @@ use Rattle.orders.proofs.from_goal.Statement.{statement}
 use Rattle.orders.proofs.from_goal.Tie as tie
 use Rattle.format.specs.Order.{fromGoal}
 
-goal-requires : tie.Need-goal-requires
-goal-requires c κs = search needs
-
-is-refused-requires : tie.Need-is-refused-requires
-is-refused-requires c κs = search needs
-
 returns : tie.Need-returns
 unfolding ForKinds ForTabled Follows fromGoal
 returns c hl right =
     let d = c .before .before in
     part-stays _ _ _ _ (d .goal .ensures _ hl (d .before .before .before .pre .0 hl right)) (c .before .is-refused .ensures) (c .if1 .taken)
-
-plan-requires : tie.Need-plan-requires
-plan-requires c κs = search needs
 
 returns-2 : tie.Need-returns-2
 unfolding ForKinds ForTabled Follows fromGoal
@@ -31,5 +22,4 @@ returns-2 c hl right =
     ∙ part-then _ _ _ _ (d .goal .ensures _ hl (d .before .before .before .pre .0 hl right)) (e .before .is-refused .ensures) (e .if1 .left)
 
 pub from-goal-spec : {M : Type 1} → statement M
-from-goal-spec =
-    tie.close (tie.spec goal-requires is-refused-requires returns plan-requires returns-2)
+from-goal-spec = tie.close (tie.spec (λ c κs. search needs) (λ c κs. search needs) returns (λ c κs. search needs) returns-2)

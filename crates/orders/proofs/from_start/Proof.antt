@@ -8,20 +8,8 @@ use Rattle.orders.proofs.from_start.Statement.{statement}
 use Rattle.orders.proofs.from_start.Tie as tie
 use Rattle.format.specs.Order.{fromStart}
 
-objects-of-requires : tie.Need-objects-of-requires
-objects-of-requires c κs = search needs
-
 kinds-of-requires : tie.Need-kinds-of-requires
 kinds-of-requires c κs = objects-fit _ _ (c .objects-of .ensures) (c .before .before .before .pre .0)
-
-table-of-requires : tie.Need-table-of-requires
-table-of-requires c κs = search needs
-
-start-requires : tie.Need-start-requires
-start-requires c κs = search needs
-
-is-refused-requires : tie.Need-is-refused-requires
-is-refused-requires c κs = search needs
 
 returns : tie.Need-returns
 unfolding ForTabled Follows fromStart
@@ -31,9 +19,6 @@ returns c =
     let k = t .before .before in
     let right = own-kinds _ _ _ _ (k .before .objects-of .ensures) (k .kinds-of .ensures) in
     part-stays _ _ _ _ (d .start .ensures _ _ (t .table-of .ensures _ right)) (c .before .is-refused .ensures) (c .if1 .taken)
-
-from-goal-requires : tie.Need-from-goal-requires
-from-goal-requires c κs = search needs
 
 returns-2 : tie.Need-returns-2
 unfolding ForKinds ForTabled Follows fromStart
@@ -49,12 +34,5 @@ returns-2 c =
 pub from-start-spec : {M : Type 1} → statement M
 from-start-spec =
     tie.close
-    (tie.spec
-    objects-of-requires
-    kinds-of-requires
-    table-of-requires
-    start-requires
-    is-refused-requires
-    returns
-    from-goal-requires
-    returns-2)
+    (tie.spec (λ c κs. search needs) kinds-of-requires (λ c κs. search needs) (λ c κs. search needs) (λ c κs. search needs) returns
+    (λ c κs. search needs) returns-2)

@@ -6,7 +6,7 @@ use borrow.Author.Needs.{needs}
 use lib.ListN.{length}
 use Rattle.terms.specs.Facts.{noFact}
 use Rattle.terms.specs.Told.{factKey}
-use Rattle.limits.specs.Limits.{entrySize}
+use Rattle.limits.specs.Limits.{entrySize, nearCeiling}
 use Rattle.format.specs.Order.{goalCount, goalAt, stepsAt, entries}
 use Rattle.tables.specs.Tables.{ForTabled}
 use Rattle.format.proofs.Chains.{chain-same, chain-none, chain-refused, chain-good}
@@ -21,7 +21,7 @@ Inv-loop o table c₀ c =
     (c .size ≡ entrySize)
     × (c .key ≡ factKey (c .last))
     × (c .at + entrySize * c .left ≤ length o)
-    × (c .at + entrySize * c .left ≤ 600000)
+    × (c .at + entrySize * c .left ≤ nearCeiling)
     × ForTabled table (λ sch hl. entries sch hl o (c .left) (c .last) (c .at) ≡ entries sch hl o (goalCount o) noFact (goalAt o))
 
 abbrev μ-loop : tie.MeasureT-loop
@@ -78,18 +78,5 @@ returns-2 c sch hl right = chain-none (goal-chain sch hl _) (c .before .before .
 pub goal-spec : {M : Type 1} → statement M
 goal-spec =
     tie.close
-    (tie.spec
-    Inv-loop
-    μ-loop
-    (λ c κs. search needs)
-    (λ c. search needs)
-    (λ c κs. search needs)
-    (λ c κs. search needs)
-    loop-holds
-    (λ c κs. search needs)
-    bad-requires
-    returns
-    next-requires
-    (λ c. search needs)
-    loop-again
-    returns-2)
+    (tie.spec Inv-loop μ-loop (λ c κs. search needs) (λ c. search needs) (λ c κs. search needs) (λ c κs. search needs) loop-holds
+    (λ c κs. search needs) bad-requires returns next-requires (λ c. search needs) loop-again returns-2)

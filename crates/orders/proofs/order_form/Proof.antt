@@ -7,17 +7,8 @@ use borrow.Author.Needs.{needs}
 use Rattle.orders.proofs.order_form.Statement.{statement}
 use Rattle.orders.proofs.order_form.Tie as tie
 
-header-bad-requires : tie.Need-header-bad-requires
-header-bad-requires c κs = search needs
-
 returns : tie.Need-returns
 returns c = row-fourteen _ _ _ (c .before .header-bad .ensures) (c .if1 .taken)
-
-objects-requires : tie.Need-objects-requires
-objects-requires c κs = search needs
-
-is-refused-requires : tie.Need-is-refused-requires
-is-refused-requires c κs = search needs
 
 returns-2 : tie.Need-returns-2
 returns-2 c =
@@ -42,11 +33,4 @@ returns-3 c =
 pub order-form-spec : {M : Type 1} → statement M
 order-form-spec =
     tie.close
-    (tie.spec
-    header-bad-requires
-    returns
-    objects-requires
-    is-refused-requires
-    returns-2
-    from-start-requires
-    returns-3)
+    (tie.spec (λ c κs. search needs) returns (λ c κs. search needs) (λ c κs. search needs) returns-2 from-start-requires returns-3)

@@ -7,7 +7,7 @@ use Rattle.answer.specs.Walk.{walk}
 use Rattle.answer.specs.Turns.{turn-none}
 use Rattle.answer.specs.Entries.{entry-refused, entry-good}
 use Rattle.terms.specs.Schema.{schema}
-use Rattle.limits.specs.Limits.{stepSize}
+use Rattle.limits.specs.Limits.{stepSize, farCeiling}
 use Rattle.format.specs.Order.{stepCount, stepsAt, planStep}
 use Rattle.tables.specs.Tables.{ForKinds}
 use Rattle.format.proofs.Orders.{plan-step-entry}
@@ -17,39 +17,21 @@ use Rattle.orders.proofs.plan.Tie as tie
 
 abbrev Inv-loop : tie.InvT-loop
 Inv-loop book h kinds o left₀ at₀ left at =
-    (at + stepSize * left ≤ 1000000)
+    (at + stepSize * left ≤ farCeiling)
     × ForKinds (schema h book) kinds (λ hl. walk (planStep (schema h book) hl o) left at ≡ walk (planStep (schema h book) hl o) (stepCount o) (stepsAt o))
 
 abbrev μ-loop : tie.MeasureT-loop
 μ-loop book h kinds o left₀ at₀ left at = left
 
-step-count-requires : tie.Need-step-count-requires Inv-loop μ-loop
-step-count-requires c κs = search needs
-
-steps-at-requires : tie.Need-steps-at-requires Inv-loop μ-loop
-steps-at-requires c κs = search needs
-
 loop-holds : tie.Need-loop-holds Inv-loop μ-loop
 unfolding ForKinds
 loop-holds c = (omega arith, λ hl right. walk-same _ _ _ _ _ (c .before .step-count .ensures) (c .steps-at .ensures .0))
-
-step-bad-requires : tie.Need-step-bad-requires Inv-loop μ-loop
-step-bad-requires c κs = search needs
 
 returns : tie.Need-returns Inv-loop μ-loop
 unfolding ForKinds
 returns c hl right =
     let d = c .before in
     entry-refused _ _ 18 stepSize (plan-step-entry _ _ _) _ _ _ _ (d .before .before .loop .inv .1 hl right) (d .before .loop-test .taken) (d .step-bad .ensures hl right) (c .if1 .taken)
-
-add-at : tie.Need-add-at Inv-loop μ-loop
-add-at c = search needs
-
-sub-left : tie.Need-sub-left Inv-loop μ-loop
-sub-left c = search needs
-
-loop-less : tie.Need-loop-less Inv-loop μ-loop
-loop-less c = search needs
 
 loop-again : tie.Need-loop-again Inv-loop μ-loop
 unfolding ForKinds
@@ -67,16 +49,5 @@ returns-2 c hl right = turn-none _ _ _ _ (c .before .loop .inv .1 hl right) (ome
 pub plan-spec : {M : Type 1} → statement M
 plan-spec =
     tie.close
-    (tie.spec
-    Inv-loop
-    μ-loop
-    step-count-requires
-    steps-at-requires
-    loop-holds
-    step-bad-requires
-    returns
-    add-at
-    sub-left
-    loop-less
-    loop-again
-    returns-2)
+    (tie.spec Inv-loop μ-loop (λ c κs. search needs) (λ c κs. search needs) loop-holds (λ c κs. search needs) returns (λ c. search needs)
+    (λ c. search needs) (λ c. search needs) loop-again returns-2)

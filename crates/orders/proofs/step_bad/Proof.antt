@@ -5,18 +5,9 @@ use borrow.Author.Needs.{needs}
 use Rattle.orders.proofs.step_bad.Statement.{statement}
 use Rattle.orders.proofs.step_bad.Tie as tie
 
-read-requires : tie.Need-read-requires
-read-requires c κs = search needs
-
-step-bad-requires : tie.Need-step-bad-requires
-step-bad-requires c κs = search needs
-
-repeats-requires : tie.Need-repeats-requires
-repeats-requires c κs = search needs
-
 returns : tie.Need-returns
 unfolding ForKinds
 returns c hl right = step-bad-by _ _ _ _ _ _ _ (c .before .before .read .ensures) (c .before .step-bad .ensures hl right) (c .repeats .ensures)
 
 pub step-bad-spec : {M : Type 1} → statement M
-step-bad-spec = tie.close (tie.spec read-requires step-bad-requires repeats-requires returns)
+step-bad-spec = tie.close (tie.spec (λ c κs. search needs) (λ c κs. search needs) (λ c κs. search needs) returns)

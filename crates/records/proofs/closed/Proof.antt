@@ -4,14 +4,8 @@ use borrow.Author.Needs.{needs}
 use Rattle.records.proofs.closed.Statement.{statement}
 use Rattle.records.proofs.closed.Tie as tie
 
-is-refused-requires : tie.Need-is-refused-requires
-is-refused-requires c κs = search needs
-
 returns : tie.Need-returns
 returns c = closed-stays _ _ _ _ (c .before .is-refused .ensures) (c .if1 .taken)
-
-value-of-requires : tie.Need-value-of-requires
-value-of-requires c κs = search needs
 
 returns-2 : tie.Need-returns-2
 returns-2 c =
@@ -24,5 +18,4 @@ returns-3 c =
     closed-good _ _ _ _ _ (d .before .is-refused .ensures) (d .if1 .left) (c .before .value-of .ensures) (c .if2 .left)
 
 pub closed-spec : {M : Type 1} → statement M
-closed-spec =
-    tie.close (tie.spec is-refused-requires returns value-of-requires returns-2 returns-3)
+closed-spec = tie.close (tie.spec (λ c κs. search needs) returns (λ c κs. search needs) returns-2 returns-3)

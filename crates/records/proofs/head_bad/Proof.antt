@@ -8,10 +8,4 @@ use Rattle.records.proofs.head_bad.Tie as tie
 
 pub head-bad-spec : {M : Type 1} → statement M
 unfolding headBad cut headOf
-head-bad-spec =
-    tie.close
-    (tie.spec
-    (λ c. search needs)
-    (λ c. search needs)
-    (λ c. search needs)
-    (λ c. rw (c .before .before .before .pre .1)))
+head-bad-spec = tie.close (tie.spec (λ c. search needs) (λ c. search needs) (λ c. search needs) (λ c. rw (c .before .before .before .pre .1)))

@@ -28,11 +28,5 @@ returns-2 c =
 pub record-at-spec : {M : Type 1} → statement M
 record-at-spec =
     tie.close
-    (tie.spec
-    (λ c κs. search needs)
-    (λ c κs. (search needs, c .read .ensures))
-    (λ c. record-refused _ _ _ _ (c .before .head-bad .ensures) (c .if1 .taken))
-    (λ c. search needs)
-    (λ c. search needs)
-    body-requires
-    returns-2)
+    (tie.spec (λ c κs. search needs) (λ c κs. (search needs, c .read .ensures))
+    (λ c. record-refused _ _ _ _ (c .before .head-bad .ensures) (c .if1 .taken)) (λ c. search needs) (λ c. search needs) body-requires returns-2)

@@ -7,9 +7,6 @@ use borrow.Author.Needs.{needs}
 use Rattle.records.proofs.step.Statement.{statement}
 use Rattle.records.proofs.step.Tie as tie
 
-step-refused-requires : tie.Need-step-refused-requires
-step-refused-requires c κs = search needs
-
 returns : tie.Need-returns
 unfolding ForKinds
 returns c =
@@ -23,21 +20,12 @@ whole-requires c κs =
     let w = step-fits _ _ _ _ _ _ (d .step-refused .ensures _ (d .before .before .pre .0 .kinds)) (c .if1 .left) in
     (omega arith, omega arith)
 
-repeats-requires : tie.Need-repeats-requires
-repeats-requires c κs = search needs
-
 returns-2 : tie.Need-returns-2
 unfolding ForKinds
 returns-2 c =
     let e = c .before .before in
     let d = e .before .before in
     sym (step-repeats _ _ _ _ _ _ _ (d .step-refused .ensures _ (d .before .before .pre .0 .kinds)) (e .before .if1 .left) (e .whole .ensures) _ (c .before .repeats .ensures) (c .if2 .taken))
-
-add-state : tie.Need-add-state
-add-state c = search needs
-
-state-requires : tie.Need-state-requires
-state-requires c κs = search needs
 
 returns-3 : tie.Need-returns-3
 unfolding ForKinds ForTabled
@@ -52,12 +40,4 @@ returns-3 c =
 pub step-spec : {M : Type 1} → statement M
 step-spec =
     tie.close
-    (tie.spec
-    step-refused-requires
-    returns
-    whole-requires
-    repeats-requires
-    returns-2
-    add-state
-    state-requires
-    returns-3)
+    (tie.spec (λ c κs. search needs) returns whole-requires (λ c κs. search needs) returns-2 (λ c. search needs) (λ c κs. search needs) returns-3)

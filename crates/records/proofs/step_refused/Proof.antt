@@ -5,22 +5,13 @@ use borrow.Author.Needs.{needs}
 use Rattle.records.proofs.step_refused.Statement.{statement}
 use Rattle.records.proofs.step_refused.Tie as tie
 
-add-if1 : tie.Need-add-if1
-add-if1 c = search needs
-
 returns : tie.Need-returns
 unfolding ForKinds
 returns c hl right = step-cut _ _ _ _ _ (c .if1 .taken)
-
-whole-requires : tie.Need-whole-requires
-whole-requires c κs = search needs
-
-step-bad-requires : tie.Need-step-bad-requires
-step-bad-requires c κs = search needs
 
 returns-2 : tie.Need-returns-2
 unfolding ForKinds
 returns-2 c hl right = step-whole _ _ _ _ _ _ _ (c .before .before .if1 .left) (c .before .whole .ensures) (c .step-bad .ensures hl right)
 
 pub step-refused-spec : {M : Type 1} → statement M
-step-refused-spec = tie.close (tie.spec add-if1 returns whole-requires step-bad-requires returns-2)
+step-refused-spec = tie.close (tie.spec (λ c. search needs) returns (λ c κs. search needs) (λ c κs. search needs) returns-2)

@@ -3,6 +3,7 @@ use Prim.Native.Nat.{_≤_}
 use mathlib.Core.Path.{_≡_, refl, sym, _∙_}
 use native.Mathlib.Omega.{arith}
 use borrow.Author.Needs.{needs}
+use Rattle.limits.specs.Limits.{maxLength}
 use Rattle.answer.specs.Walk.{walk}
 use Rattle.terms.specs.Schema.{schema, hall}
 use Rattle.format.specs.Records.{step}
@@ -14,7 +15,7 @@ use Rattle.records.proofs.steps.Tie as tie
 abbrev Inv-loop : tie.InvT-loop
 Inv-loop book scope kinds table from left₀ at₀ left at =
     let one = step (schema (scope .h) book) (hall (scope .objects) book) book (scope .end) in
-    (at ≤ 90000) × (walk one left at ≡ walk one (scope .steps) from)
+    (at ≤ maxLength) × (walk one left at ≡ walk one (scope .steps) from)
 
 abbrev μ-loop : tie.MeasureT-loop
 μ-loop book scope kinds table from left₀ at₀ left at = left
@@ -22,25 +23,10 @@ abbrev μ-loop : tie.MeasureT-loop
 loop-holds : tie.Need-loop-holds Inv-loop μ-loop
 loop-holds c = (c .before .pre .1, refl)
 
-step-requires : tie.Need-step-requires Inv-loop μ-loop
-step-requires c κs = search needs
-
-enum-known-k : tie.Need-enum-known-k Inv-loop μ-loop
-enum-known-k c = search needs
-
 returns : tie.Need-returns Inv-loop μ-loop
 returns c =
     let d = c .before .before .before in
     turn-refused _ _ _ _ _ _ _ (d .before .before .loop .inv .1) (d .before .loop-test .taken) (d .step .ensures) (c .before .k .given .1)
-
-enum-known-next : tie.Need-enum-known-next Inv-loop μ-loop
-enum-known-next c = search needs
-
-sub-left : tie.Need-sub-left Inv-loop μ-loop
-sub-left c = search needs
-
-loop-less : tie.Need-loop-less Inv-loop μ-loop
-loop-less c = search needs
 
 loop-again : tie.Need-loop-again Inv-loop μ-loop
 loop-again c =
@@ -55,15 +41,5 @@ returns-2 c = turn-none _ _ _ _ (c .before .loop .inv .1) (omega arith)
 pub steps-spec : {M : Type 1} → statement M
 steps-spec =
     tie.close
-    (tie.spec
-    Inv-loop
-    μ-loop
-    loop-holds
-    step-requires
-    enum-known-k
-    returns
-    enum-known-next
-    sub-left
-    loop-less
-    loop-again
-    returns-2)
+    (tie.spec Inv-loop μ-loop loop-holds (λ c κs. search needs) (λ c. search needs) returns (λ c. search needs) (λ c. search needs)
+    (λ c. search needs) loop-again returns-2)

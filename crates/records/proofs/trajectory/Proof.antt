@@ -9,20 +9,11 @@ use borrow.Author.Needs.{needs}
 use Rattle.records.proofs.trajectory.Statement.{statement}
 use Rattle.records.proofs.trajectory.Tie as tie
 
-state-requires : tie.Need-state-requires
-state-requires c κs = search needs
-
-is-refused-requires : tie.Need-is-refused-requires
-is-refused-requires c κs = search needs
-
 returns : tie.Need-returns
 unfolding ForTabled
 returns c =
     let d = c .before .before in
     trajectory-stays _ _ _ _ _ _ _ _ (d .state .ensures _ _ (d .before .before .pre .0 .table)) (c .before .is-refused .ensures) (c .if1 .taken)
-
-value-of-requires : tie.Need-value-of-requires
-value-of-requires c κs = search needs
 
 steps-requires : tie.Need-steps-requires
 unfolding ForTabled
@@ -40,12 +31,4 @@ returns-2 c =
     trajectory-steps _ _ _ _ _ _ _ _ _ _ (d .before .before .state .ensures _ _ (d .before .before .before .before .pre .0 .table)) (d .before .is-refused .ensures) (d .if1 .left) (c .before .value-of .ensures) (c .steps .ensures)
 
 pub trajectory-spec : {M : Type 1} → statement M
-trajectory-spec =
-    tie.close
-    (tie.spec
-    state-requires
-    is-refused-requires
-    returns
-    value-of-requires
-    steps-requires
-    returns-2)
+trajectory-spec = tie.close (tie.spec (λ c κs. search needs) (λ c κs. search needs) returns (λ c κs. search needs) steps-requires returns-2)

@@ -69,14 +69,4 @@ returns-2 c sch hl right = chain-none (facts-chain _ sch hl _ _) (c .before .bef
 pub facts-spec : {M : Type 1} → statement M
 facts-spec =
     tie.close
-    (tie.spec
-    Inv-loop
-    μ-loop
-    (λ c κs. search needs)
-    loop-holds
-    refused-requires
-    returns
-    next-requires
-    (λ c. search needs)
-    loop-again
-    returns-2)
+    (tie.spec Inv-loop μ-loop (λ c κs. search needs) loop-holds refused-requires returns next-requires (λ c. search needs) loop-again returns-2)

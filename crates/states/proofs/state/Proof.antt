@@ -30,13 +30,4 @@ returns-2 c sch hl right =
     c .facts .ensures sch hl right ∙ sym (state-facts _ _ _ _ _ _ (sym (d .before .count-bad .ensures) ∙ d .if1 .left) (c .before .count .ensures))
 
 pub state-spec : {M : Type 1} → statement M
-state-spec =
-    tie.close
-    (tie.spec
-    (λ c κs. search needs)
-    returns
-    count-requires
-    (λ c. search needs)
-    (λ c. search needs)
-    facts-requires
-    returns-2)
+state-spec = tie.close (tie.spec (λ c κs. search needs) returns count-requires (λ c. search needs) (λ c. search needs) facts-requires returns-2)

@@ -22,11 +22,6 @@ returns c hl right =
 pub step-bad-spec : {M : Type 1} → statement M
 step-bad-spec =
     tie.close
-    (tie.spec
-    (λ c κs. search needs)
-    (λ c κs. search needs)
-    (λ c κs. (omega arith, c .before .params .ensures))
-    (λ c κs. (omega arith, c .before .before .params .ensures))
-    (λ c κs. (omega arith, c .before .before .before .params .ensures))
-    (λ c κs. (omega arith, c .before .before .before .before .params .ensures))
-    returns)
+    (tie.spec (λ c κs. search needs) (λ c κs. search needs) (λ c κs. (omega arith, c .before .params .ensures))
+    (λ c κs. (omega arith, c .before .before .params .ensures)) (λ c κs. (omega arith, c .before .before .before .params .ensures))
+    (λ c κs. (omega arith, c .before .before .before .before .params .ensures)) returns)

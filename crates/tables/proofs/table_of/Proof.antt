@@ -17,12 +17,6 @@ Inv-loop book h kinds n t₀ r₀ t r = (1 ≤ r) × (r ≤ n + 1) × (n ≡ sch
 abbrev μ-loop : tie.MeasureT-loop
 μ-loop book h kinds n t₀ r₀ t r = n + 1 - r
 
-cast-n : tie.Need-cast-n Inv-loop μ-loop
-cast-n c = search needs
-
-no-places-requires : tie.Need-no-places-requires Inv-loop μ-loop
-no-places-requires c κs = search needs
-
 loop-holds : tie.Need-loop-holds Inv-loop μ-loop
 unfolding schema
 loop-holds c = (omega arith, omega arith, refl, rows-none _ _ _ (c .no-places .ensures))
@@ -32,24 +26,6 @@ cast-number c =
     let l = c .before in
     let o = goes-on (l .before .before .before .before .args .h .relations .count) (l .loop .r) (c .loop-test .taken) in
     omega arith
-
-place-set-requires : tie.Need-place-set-requires Inv-loop μ-loop
-place-set-requires c κs = search needs
-
-place-set-requires-2 : tie.Need-place-set-requires-2 Inv-loop μ-loop
-place-set-requires-2 c κs = search needs
-
-store-place-requires : tie.Need-store-place-requires Inv-loop μ-loop
-store-place-requires c κs = search needs
-
-add-store-place : tie.Need-add-store-place Inv-loop μ-loop
-add-store-place c = search needs
-
-store-place-requires-2 : tie.Need-store-place-requires-2 Inv-loop μ-loop
-store-place-requires-2 c κs = search needs
-
-add-r : tie.Need-add-r Inv-loop μ-loop
-add-r c = search needs
 
 loop-less : tie.Need-loop-less Inv-loop μ-loop
 loop-less c =
@@ -81,19 +57,5 @@ returns c =
 pub table-of-spec : {M : Type 1} → statement M
 table-of-spec =
     tie.close
-    (tie.spec
-    Inv-loop
-    μ-loop
-    cast-n
-    no-places-requires
-    loop-holds
-    cast-number
-    place-set-requires
-    place-set-requires-2
-    store-place-requires
-    add-store-place
-    store-place-requires-2
-    add-r
-    loop-less
-    loop-again
-    returns)
+    (tie.spec Inv-loop μ-loop (λ c. search needs) (λ c κs. search needs) loop-holds cast-number (λ c κs. search needs) (λ c κs. search needs)
+    (λ c κs. search needs) (λ c. search needs) (λ c κs. search needs) (λ c. search needs) loop-less loop-again returns)

@@ -5,16 +5,10 @@ use borrow.Author.Needs.{needs}
 use Rattle.marks.proofs.Cursor.of_state.Statement.{statement}
 use Rattle.marks.proofs.Cursor.of_state.Tie as tie
 
-add-t3 : tie.Need-add-t3
-add-t3 c = search needs
-
-two-at-requires : tie.Need-two-at-requires
-two-at-requires c κs = search needs
-
 returns : tie.Need-returns
 returns c =
     let p = c .before .before .pre in
     of-state-by _ _ _ (c .two-at .ensures) (omega arith) (p .0) (p .1)
 
 pub of-state-spec : {M : Type 1} → statement M
-of-state-spec = tie.close (tie.spec add-t3 two-at-requires returns)
+of-state-spec = tie.close (tie.spec (λ c. search needs) (λ c κs. search needs) returns)

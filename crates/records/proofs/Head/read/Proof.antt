@@ -9,10 +9,5 @@ pub read-spec : {M : Type 1} → statement M
 unfolding headOf objectsIn stepsIn lengthIn
 read-spec =
     tie.close
-    (tie.spec
-    (λ c κs. search needs)
-    (λ c. search needs)
-    (λ c κs. search needs)
-    (λ c. search needs)
-    (λ c κs. search needs)
+    (tie.spec (λ c κs. search needs) (λ c. search needs) (λ c κs. search needs) (λ c. search needs) (λ c κs. search needs)
     (λ c. rw (c .before .before .byte-at .ensures, c .before .byte-at2 .ensures, c .two-at .ensures)))

@@ -4,21 +4,9 @@ use Rattle.terms.specs.Schema.{relationAt}
 use Rattle.terms.proofs.Sections.relation_at.Statement.{statement}
 use Rattle.terms.proofs.Sections.relation_at.Tie as tie
 
-cast-result : tie.Need-cast-result
-cast-result c = search needs
-
-index-requires : tie.Need-index-requires
-index-requires c κs = search needs
-
-mul-result : tie.Need-mul-result
-mul-result c = search needs
-
-add-result : tie.Need-add-result
-add-result c = search needs
-
 returns : tie.Need-returns
 unfolding relationAt
 returns c = search needs
 
 pub relation-at-spec : {M : Type 1} → statement M
-relation-at-spec = tie.close (tie.spec cast-result index-requires mul-result add-result returns)
+relation-at-spec = tie.close (tie.spec (λ c. search needs) (λ c κs. search needs) (λ c. search needs) (λ c. search needs) returns)
