@@ -44,7 +44,7 @@ fn add_by(new: &mut [u8], book: &[u8], bytes: &[u8], out: &mut [u8]) -> Answer
         return Answer::Refused(2, 0);
     }
     form(new, book, bytes);
-    let looked = lookover::records(&new[..size], 1, book.len());
+    let looked = lookover::last_record(&new[..size], book.len());
     if answer::is_refused(looked) {
         return looked;
     }

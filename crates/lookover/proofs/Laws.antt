@@ -1,19 +1,30 @@
 -- Looking over as the code does it, rows 1 to 5 and then the records; and bounds of every answer, for packing it.
-use Prim.Native.Nat.{ℕ}
-use mathlib.Core.Path.{_≡_, refl, _∙_}
+use Prim.Native.Nat.{ℕ, _≤_, _<_}
+use mathlib.Core.Path.{_≡_, refl, sym, ap, _∙_}
 use mathlib.Core.Bool.{Bool, true, false}
 use mathlib.Core.List.{List}
+use native.Mathlib.Nat.{add-zero}
 use native.Mathlib.Omega.{arith}
+use borrow.Author.Tests.{lt-ltb, le-ltb}
+use lib.Dec.{ltb}
+use lib.ListN.{length}
 use Rattle.answer.specs.declared.Answer.{Answer}
-use Rattle.answer.specs.Answer.{isRefused}
+use Rattle.answer.specs.declared.Answer.the-variants.{Good, Refused}
+use Rattle.answer.specs.Answer.{_>>=_, refuse, isRefused, valueOf}
+use Rattle.answer.specs.Laws.{bind-unit, refuse-met, refuse-unmet}
+use Rattle.answer.specs.Walk.{walk}
 use Rattle.terms.specs.declared.Sections.{Sections}
 use Rattle.terms.specs.Sections.{sectionsOf}
 use Rattle.limits.specs.Limits.{maxLength}
 use Rattle.format.specs.Header.{sections}
-use Rattle.format.specs.LookOver.{allRecords, lookOverBy, lookOver}
+use Rattle.format.specs.Records.{stepsIn, recordAt}
+use Rattle.format.specs.LookOver.{stepTotal, allRecords, lookOverBy, lookOver}
 use Rattle.format.proofs.Header.{sections-good, sections-place}
 use Rattle.answer.specs.Bounds.{Bounded, bounded-of, bounded-good, bounded-then, bounded-row, bounded-wider}
 use Rattle.answer.specs.Turns.{part-stays, part-follows}
+use Rattle.records.specs.declared.Head.{Head}
+use Rattle.records.specs.Head.{headOf}
+use Rattle.reader.specs.Reader.{recordFrom, record-from}
 use Rattle.records.proofs.Bounds.{records-bounded, total-bounded}
 
 -- the records by the header that was read
@@ -51,3 +62,33 @@ look-over-by-bounded h s =
 pub look-over-bounded : (s : List ℕ) → Bounded maxLength (lookOver s)
 unfolding lookOver
 look-over-bounded s = look-over-by-bounded (sectionsOf s) s
+
+-- one record that ends the book: its own rows, then the book's tail
+pub one-record : (h : Sections) (s : List ℕ) (at : ℕ)
+    → allRecords h s 1 at ≡ (recordAt h s at >>= λ last. refuse (ltb last (length s)) 6 last >>= λ _. Good (stepsIn s at))
+unfolding allRecords walk stepTotal
+one-record h s at = rw (bind-unit, add-zero)
+
+-- its three answers, by what the calls in the code return
+module _ (s : List ℕ) (at : ℕ) (long : length s ≤ maxLength) (low : at ≤ maxLength) (a : Answer) (is : a ≡ recordFrom s at) (b : Bool) (told : b ≡ isRefused a) where
+  rest : ℕ → Answer
+  rest last = refuse (ltb last (length s)) 6 last >>= λ _. Good (stepsIn s at)
+
+  own : (recordAt (sectionsOf s) s at >>= rest) ≡ allRecords (sectionsOf s) s 1 at
+  unfolding rest
+  own = sym (one-record (sectionsOf s) s at)
+
+  pub last-refused : b ≡ true → a ≡ allRecords (sectionsOf s) s 1 at
+  last-refused e = part-stays _ rest a b (is ∙ record-from s at long low) told e ∙ own
+
+  module _ (e : b ≡ false) (v : ℕ) (value : v ≡ valueOf a) where
+    after : rest v ≡ allRecords (sectionsOf s) s 1 at
+    after = part-follows _ rest a b v (is ∙ record-from s at long low) told e value ∙ own
+
+    pub last-tail : v < length s → Refused 6 v ≡ allRecords (sectionsOf s) s 1 at
+    unfolding rest
+    last-tail l = sym (refuse-met _ _ _ _ (lt-ltb v (length s) l)) ∙ after
+
+    pub last-good : length s ≤ v → (head : Head) → head ≡ headOf s at → Good (head .steps) ≡ allRecords (sectionsOf s) s 1 at
+    unfolding rest headOf
+    last-good l head h = ap (λ (x : Head). Good (x .steps)) h ∙ sym (refuse-unmet _ _ _ _ (le-ltb v (length s) l)) ∙ after

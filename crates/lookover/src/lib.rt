@@ -1,6 +1,8 @@
 // Looking over a book: rows 1 to 10 of the refusal table, for any bytes; the count of all steps is good.
-// Uses answer, terms, sections and walk, and the definitions of format. The records are walked once, and nothing is noted.
+// Uses answer, limits, terms, sections, records, the reader of one record and walk, and the definitions of format. The records are walked once, and
+// nothing is noted.
 use answer::Answer;
+use records::Head;
 use terms::Sections;
 ghost use mathlib.Core.Path.{_≡_};
 ghost use Prim.Native.Nat.{_≤_};
@@ -10,13 +12,30 @@ ghost use Rattle.limits.specs.Limits.{maxLength, maxRecords};
 ghost use Rattle.format.specs.LookOver.{lookOver, allRecords};
 
 // A number of records, which end the book; the count of all steps is good.
-pub fn records(s: &[u8], n: usize, from: usize) -> Answer
+fn records(s: &[u8], n: usize, from: usize) -> Answer
     requires { ⌜ (length (now s) ≤ maxLength) × (from ≤ maxLength) × (n ≤ maxRecords) ⌝ }
     ensures { λ r. ⌜ r ≡ allRecords (sectionsOf (now (s .entry))) (now (s .entry)) n from ⌝ }
 {
     let mut none = [0u8; 0];
     let w = walk::records(s, n, from, false, &mut none);
     w.answer
+}
+
+// The record at an offset, which ends the book; the count of its steps is good.
+pub fn last_record(s: &[u8], at: usize) -> Answer
+    requires { ⌜ (length (now s) ≤ maxLength) × (at ≤ maxLength) ⌝ }
+    ensures { λ r. ⌜ r ≡ allRecords (sectionsOf (now (s .entry))) (now (s .entry)) 1 at ⌝ }
+{
+    let a = reader::record_from(s, at);
+    if answer::is_refused(a) {
+        return a;
+    }
+    let next = answer::value_of(a);
+    if next < s.len() {
+        return Answer::Refused(6, next);
+    }
+    let head = Head::read(s, at);
+    Answer::Good(head.steps as usize)
 }
 
 pub fn look_over(s: &[u8]) -> Answer

@@ -28,11 +28,11 @@ form-requires c κs =
     let x = c .before .before .before .before .before in
     (long-enough _ _ _ (x .before .before .look-over .ensures) (x .before .is-refused .ensures) (x .if1 .left), omega arith)
 
-slice-aggregate-records : tie.Need-slice-aggregate-records
-slice-aggregate-records c = simp length-take (omega arith)
+slice-aggregate-last-record : tie.Need-slice-aggregate-last-record
+slice-aggregate-last-record c = simp length-take (omega arith)
 
-records-requires : tie.Need-records-requires
-records-requires c κs = (simp length-take (omega arith), omega arith, omega arith)
+last-record-requires : tie.Need-last-record-requires
+last-record-requires c κs = (simp length-take (omega arith), omega arith)
 
 returns-4 : tie.Need-returns-4
 returns-4 c =
@@ -44,7 +44,7 @@ returns-4 c =
     let y = h .before in
     let x = y .before in
     new-refused _ _ _ _ _ (x .before .before .look-over .ensures) (x .before .is-refused .ensures) (x .if1 .left)
-    _ (h .read .ensures) (y .if2 .left) (z .if3 .left) _ _ (f .form .ensures) _ _ (m .records .ensures) (j .is-refused2 .ensures) (c .if4 .taken)
+    _ (h .read .ensures) (y .if2 .left) (z .if3 .left) _ _ (f .form .ensures) _ _ (m .last-record .ensures) (j .is-refused2 .ensures) (c .if4 .taken)
 
 returns-5 : tie.Need-returns-5
 returns-5 c =
@@ -57,7 +57,7 @@ returns-5 c =
     let y = h .before in
     let x = y .before in
     no-room _ _ _ _ _ (x .before .before .look-over .ensures) (x .before .is-refused .ensures) (x .if1 .left)
-    _ (h .read .ensures) (y .if2 .left) (z .if3 .left) _ _ (f .form .ensures) _ _ (m .records .ensures) (j .is-refused2 .ensures) (k .if4 .left) (c .if5 .taken)
+    _ (h .read .ensures) (y .if2 .left) (z .if3 .left) _ _ (f .form .ensures) _ _ (m .last-record .ensures) (j .is-refused2 .ensures) (k .if4 .left) (c .if5 .taken)
 
 slice-aggregate-write-bytes : tie.Need-slice-aggregate-write-bytes
 slice-aggregate-write-bytes c = simp length-take (omega arith)
@@ -78,11 +78,11 @@ returns-6 c =
     let y = h .before in
     let x = y .before in
     stored _ _ _ _ _ (x .before .before .look-over .ensures) (x .before .is-refused .ensures) (x .if1 .left)
-    _ (h .read .ensures) (y .if2 .left) (z .if3 .left) _ _ (f .form .ensures) _ _ (m .records .ensures) (j .is-refused2 .ensures) (k .if4 .left) _ (q .if5 .left) (o .write-bytes .ensures)
+    _ (h .read .ensures) (y .if2 .left) (z .if3 .left) _ _ (f .form .ensures) _ _ (m .last-record .ensures) (j .is-refused2 .ensures) (k .if4 .left) _ (q .if5 .left) (o .write-bytes .ensures)
 
 pub add-by-spec : {M : Type 1} → statement M
 add-by-spec =
     tie.close
     (tie.spec (λ c κs. search needs) (λ c κs. search needs) returns (λ c. search needs) returns-2 (λ c κs. search needs) returns-3 form-requires
-    (λ c. search needs) slice-aggregate-records records-requires (λ c κs. search needs) (λ c. search needs) returns-4 (λ c. search needs) returns-5
+    (λ c. search needs) slice-aggregate-last-record last-record-requires (λ c κs. search needs) (λ c. search needs) returns-4 (λ c. search needs) returns-5
     (λ c. search needs) slice-aggregate-write-bytes write-bytes-requires (λ c. search needs) (λ c. search needs) returns-6)
