@@ -14,7 +14,7 @@ use Rattle.answer.specs.Bounds.{Bounded, bounded-good, bounded-then, bounded-ro
 use Rattle.format.proofs.LookOver.{look-over-good}
 use Rattle.lookover.proofs.Laws.{look-over-bounded}
 use Rattle.model.specs.Quantify.{Mem, here, there, first, least}
-use Rattle.model.specs.Domain.{State, Step as GroundAction, Transition, Entry}
+use Rattle.model.specs.Domain.{State, GroundAction, Transition, GoalLiteral}
 use Rattle.model.specs.Model.{Run, stopped, ended}
 use Rattle.model.specs.Judge.{wrong}
 use Rattle.model.specs.Learned.{conflicting}
@@ -90,7 +90,7 @@ unfolding planOf
 plan-count s o = simp length-map (length-plan o)
 
 -- of a plan from any start, with any goal
-plan-bounded : (s : List ℕ) (start : State) (plan : List GroundAction) (goal : List Entry) (steps : ℕ)
+plan-bounded : (s : List ℕ) (start : State) (plan : List GroundAction) (goal : List GoalLiteral) (steps : ℕ)
     → steps ≤ maxSteps → length plan ≤ maxSteps → length goal ≤ maxEntries → Bounded maxLength (runAnswer steps goal (planRun s start plan))
 unfolding planRun runAnswer goalAnswer Bounded
 plan-bounded s start plan goal steps few short least = go (planRun s start plan) (λ k e. run-within _ _ plan start 1 k e .1)

@@ -18,7 +18,7 @@ use Rattle.mask.proofs.Whole.{length-maskOf, test-maskOf}
 use Rattle.format.specs.LookOver.{lookOver}
 use Rattle.format.specs.Order.{stepCount, orderForm}
 use Rattle.model.specs.Quantify.{Mem, first}
-use Rattle.model.specs.Domain.{State, Step as GroundAction, Entry}
+use Rattle.model.specs.Domain.{State, GroundAction, GoalLiteral}
 use Rattle.model.specs.Model.{Run, stopped, ended}
 use Rattle.model.specs.Judge.{Verdict, impossible, passes, wrong}
 use Rattle.model.specs.Check.{reached, judgedRun, checked}
@@ -53,7 +53,7 @@ late (Refused num p) from (inl e) = clash (upTo 13 11) (rw e at (from num p refl
 late (Refused num p) from (inr e) = clash (upTo 13 12) (rw e at (from num p refl)) refl
 
 -- what a run comes to as an answer is what it comes to as a verdict
-run-answers : (steps : ℕ) (goal : List Entry) (r : Run) → Answers steps (judgedRun goal r) (runAnswer steps goal r)
+run-answers : (steps : ℕ) (goal : List GoalLiteral) (r : Run) → Answers steps (judgedRun goal r) (runAnswer steps goal r)
 unfolding judgedRun reached runAnswer goalAnswer number place
 run-answers steps goal (stopped k) = (refl, refl)
 run-answers steps goal (ended end) = go (first (wrong end) goal)
@@ -62,7 +62,7 @@ run-answers steps goal (ended end) = go (first (wrong end) goal)
     go zero = (refl, refl)
     go (suc i) = (refl, refl)
 
-from-run : (steps : ℕ) (goal : List Entry) (r : Run) → MetFrom 13 (runAnswer steps goal r)
+from-run : (steps : ℕ) (goal : List GoalLiteral) (r : Run) → MetFrom 13 (runAnswer steps goal r)
 unfolding runAnswer goalAnswer table rowFrom row upTo
 from-run steps goal (stopped k) = from-refused 13 19 k refl
 from-run steps goal (ended end) = go (first (wrong end) goal)
@@ -72,7 +72,7 @@ from-run steps goal (ended end) = go (first (wrong end) goal)
     go (suc i) = from-refused 13 20 (suc i) refl
 
 -- a run that comes to a pass ended there, and its answer is good
-pass-run : (steps : ℕ) (goal : List Entry) (r : Run) (end : State) → judgedRun goal r ≡ passes end
+pass-run : (steps : ℕ) (goal : List GoalLiteral) (r : Run) (end : State) → judgedRun goal r ≡ passes end
     → (r ≡ ended end) × (runAnswer steps goal r ≡ Good steps)
 unfolding judgedRun reached runAnswer goalAnswer
 pass-run steps goal (stopped k) end e = absurd (let z : _≡_ {A = ℕ} 0 1 = cc in omega arith)
@@ -108,7 +108,7 @@ module _ (s : List ℕ) (n : ℕ) (good : lookOver s ≡ Good n) where
       (from-bind 13 _ _ (from-earlier 13 14 _ refl (order-met (schemaOf s) o)) (λ y. from-run (stepCount o) (goalOf o) (orderRun s o))))
 
   -- ---- a plan from any start, with any goal
-  module _ (start : State) (plan : List GroundAction) (goal : List Entry) (grounded : Grounded (domain (schemaOf s)) plan) where
+  module _ (start : State) (plan : List GroundAction) (goal : List GoalLiteral) (grounded : Grounded (domain (schemaOf s)) plan) where
     -- the judge's verdict is what the model's check says
     says : (v : Verdict) → BookVerdict s start plan goal v ↔ (checked (domain (schemaOf s)) (transitionsOf s) plan start goal ≡ v)
     says = judge .verdict plan grounded start goal

@@ -11,7 +11,7 @@ use Rattle.limits.specs.Limits.{stateSize, endSheetSize}
 use Rattle.mask.specs.Sets.{maskOf}
 use Rattle.format.specs.Order.{stepCount, orderForm}
 use Rattle.model.specs.Quantify.{first}
-use Rattle.model.specs.Domain.{State, Step as GroundAction, Entry}
+use Rattle.model.specs.Domain.{State, GroundAction, GoalLiteral}
 use Rattle.model.specs.Model.{Run, stopped, ended, run}
 use Rattle.model.specs.Judge.{wrong}
 use Rattle.jobs.specs.Planning.{domain, schemaOf, startState, planOf, goalOf}
@@ -30,7 +30,7 @@ unfoldable pub goalAnswer : ℕ → ℕ → Answer
 goalAnswer steps zero = Good steps
 goalAnswer steps (suc i) = Refused 20 (suc i)
 
-unfoldable pub runAnswer : ℕ → List Entry → Run → Answer
+unfoldable pub runAnswer : ℕ → List GoalLiteral → Run → Answer
 runAnswer steps goal (stopped k) = Refused 19 k
 runAnswer steps goal (ended end) = goalAnswer steps (first (wrong end) goal)
 

@@ -1,7 +1,7 @@
 -- The judge of a book: he holds every model that is consistent with the book's transitions. Nothing learned is cited here.
 use Prim.Native.Nat.{ℕ}
 use mathlib.Core.List.{List}
-use Rattle.model.specs.Domain.{State, Step as GroundAction, Entry}
+use Rattle.model.specs.Domain.{State, GroundAction, GoalLiteral}
 use Rattle.model.specs.Model.{Model, Consistent}
 use Rattle.model.specs.Judge.{Verdict, Judged}
 use Rattle.jobs.specs.Planning.{domain, schemaOf, transitionsOf, startState, planOf, goalOf}
@@ -11,7 +11,7 @@ abbrev pub FitsBook : List ℕ → Model → Type 0
 FitsBook s M = Consistent (domain (schemaOf s)) (transitionsOf s) M
 
 -- his verdict on a plan from a start on, with a goal, wherever these stand
-abbrev pub BookVerdict : List ℕ → State → List GroundAction → List Entry → Verdict → Type 0
+abbrev pub BookVerdict : List ℕ → State → List GroundAction → List GoalLiteral → Verdict → Type 0
 BookVerdict s start plan goal v = Judged (domain (schemaOf s)) (FitsBook s) plan start goal v
 
 -- his verdict on an order

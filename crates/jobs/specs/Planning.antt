@@ -12,7 +12,7 @@ use Rattle.terms.specs.Steps.{isAtom, ground}
 use Rattle.format.specs.Decode.{Filed, filed}
 use Rattle.format.specs.Order.{GoalEntry, startFacts, goal, plan}
 use Rattle.model.specs.Quantify.{any}
-use Rattle.model.specs.Domain.{Domain, State, Step as GroundAction, Transition, Entry}
+use Rattle.model.specs.Domain.{Domain, State, GroundAction, Transition, GoalLiteral}
 
 -- bound facts are numbered 16 to a relation, facts 256 to a relation
 unfoldable pub domain : Schema → Domain
@@ -28,7 +28,7 @@ groundAction sch st = record { action = st .action .0; ground = ground sch (st .
 unfoldable pub transition : Schema → Filed → Transition
 transition sch f = record { step = groundAction sch (f .step); pre = holding (f .pre); post = holding (f .post) }
 
-unfoldable pub goalEntry : GoalEntry → Entry
+unfoldable pub goalEntry : GoalEntry → GoalLiteral
 goalEntry e = record { wanted = e .wanted; fact = factNumber (e .fact) }
 
 -- what a book says: its schema, and its steps as filed and as transitions
@@ -48,5 +48,5 @@ startState o = holding (startFacts o)
 unfoldable pub planOf : Schema → List ℕ → List GroundAction
 planOf sch o = map (groundAction sch) (plan o)
 
-unfoldable pub goalOf : List ℕ → List Entry
+unfoldable pub goalOf : List ℕ → List GoalLiteral
 goalOf o = map goalEntry (goal o)

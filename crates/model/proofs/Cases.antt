@@ -8,7 +8,7 @@ use mathlib.Core.List.{List, [], _∷_}
 use lib.Dec.{eqb, ltb}
 use lib.ListN.{getD}
 use Rattle.model.specs.Quantify.{same, below, any, later, first}
-use Rattle.model.specs.Domain.{Domain, State, Step, Transition, Entry}
+use Rattle.model.specs.Domain.{Domain, State, GroundAction, Transition, GoalLiteral}
 use Rattle.model.specs.Model.{image, inapplicable, next, run}
 use Rattle.model.specs.Judge.{Verdict, impossible, stops, misses, passes, wrong}
 use Rattle.model.specs.Learned.{saw, before, after, turned, learned, unboundEffect, conflicting}
@@ -20,13 +20,13 @@ hall = record { atom = λ a n. eqb a 1 && ltb n 4; atoms = 4; facts = 6; actions
 abbrev state : List ℕ → State
 state fs f = any (eqb f) fs
 
-abbrev roll : List ℕ → Step
+abbrev roll : List ℕ → GroundAction
 roll facts = record { action = 1; ground = λ n. getD facts n 0 }
 
-abbrev roll23 : Step
+abbrev roll23 : GroundAction
 roll23 = roll (0 ∷ 1 ∷ 3 ∷ 4 ∷ [])
 
-abbrev roll34 : Step
+abbrev roll34 : GroundAction
 roll34 = roll (1 ∷ 2 ∷ 4 ∷ 5 ∷ [])
 
 abbrev seen : List ℕ → List ℕ → Transition
@@ -35,7 +35,7 @@ seen pre post = record { step = roll23; pre = state pre; post = state post }
 abbrev filed : Transition
 filed = seen (0 ∷ 4 ∷ []) (1 ∷ 3 ∷ [])
 
-abbrev at4 : List Entry
+abbrev at4 : List GoalLiteral
 at4 = record { wanted = true; fact = 2 } ∷ []
 
 -- the facts of the end state, where the plan passes
@@ -45,7 +45,7 @@ ends (stops k) = []
 ends (misses i) = []
 ends (passes e) = e 0 ∷ e 1 ∷ e 2 ∷ e 3 ∷ e 4 ∷ e 5 ∷ []
 
-tried : List Transition → List Step → List ℕ → Verdict
+tried : List Transition → List GroundAction → List ℕ → Verdict
 tried ts plan start = checked hall ts plan (state start) at4
 
 -- M2, M3, M5, M6, M7 and M9; then a stop at step 2, row 12 by a fact that was once removed and once left, row 11 by spot 4,

@@ -7,7 +7,7 @@ use mathlib.Core.Bool.{Bool, true, false}
 use mathlib.Core.List.{List}
 use Rattle.truth.specs.Bools.{decide, is-true}
 use Rattle.model.specs.Quantify.{has, first}
-use Rattle.model.specs.Domain.{Domain, State, Step, Transition, Entry}
+use Rattle.model.specs.Domain.{Domain, State, GroundAction, Transition, GoalLiteral}
 use Rattle.model.specs.Model.{Model, Valid, Consistent, Run, stopped, ended, run}
 use Rattle.model.specs.Judge.{impossible, wrong, MissesAt, Judged}
 use Rattle.model.specs.Learned.{learned}
@@ -23,7 +23,7 @@ use Rattle.model.proofs.Judge.{not-both, one-end, unique}
 
 module _ (D : Domain) (P : Model → Type 0) (valid : (M : Model) → P M → Valid D M) (L : Model) (own : P L) (strict : (M : Model) → P M → Stricter D L M) where
   -- Whatever models the judge holds: if one of them is stricter than each, his verdict is what that one's run comes to.
-  pub exact-run : (plan : List Step) → Grounded D plan → (st : State) (goal : List Entry) → Judged D P plan st goal (judgedRun goal (run D L plan st 1))
+  pub exact-run : (plan : List GroundAction) → Grounded D plan → (st : State) (goal : List GoalLiteral) → Judged D P plan st goal (judgedRun goal (run D L plan st 1))
   unfolding judgedRun reached
   exact-run plan grounded st goal = go (run D L plan st 1) refl (λ M m. lockstep D L M (strict M m) (valid L own) (valid M m) plan grounded st 1)
     where
@@ -39,7 +39,7 @@ module _ (D : Domain) (P : Model → Type 0) (valid : (M : Model) → P M → Va
           reach (suc i) law =
               (λ M m j stop. not-both _ j end stop (ahead M m), (L, own, (end, e, law .0)), λ M m j miss. law .1 j (missed M m j miss))
 
-module _ (none : Bool) (D : Domain) (L : Model) (plan : List Step) (st : State) (goal : List Entry) where
+module _ (none : Bool) (D : Domain) (L : Model) (plan : List GroundAction) (st : State) (goal : List GoalLiteral) where
   pub checked-none : none ≡ true → checkedBy none D L plan st goal ≡ impossible
   unfolding checkedBy
   checked-none e = rw (e, checkedBy)
@@ -74,7 +74,7 @@ module _ (D : Domain) (P : Model → Type 0) (valid : (M : Model) → P M → Va
         );
       }
     where
-      judged : (plan : List Step) → Grounded D plan → (st : State) (goal : List Entry) → Judged D P plan st goal (checkedBy none D L plan st goal)
+      judged : (plan : List GroundAction) → Grounded D plan → (st : State) (goal : List GoalLiteral) → Judged D P plan st goal (checkedBy none D L plan st goal)
       judged plan grounded st goal = go (decide none)
         where
           go : (none ≡ true) ⊎ (none ≡ false) → Judged D P plan st goal (checkedBy none D L plan st goal)

@@ -5,7 +5,7 @@ use native.Mathlib.Nat.{le-antisymm}
 use mathlib.Core.Path.{_≡_, refl, ap}
 use mathlib.Core.Logic.{_↔_}
 use mathlib.Core.List.{List}
-use Rattle.model.specs.Domain.{Domain, State, Step, Entry}
+use Rattle.model.specs.Domain.{Domain, State, GroundAction, GoalLiteral}
 use Rattle.model.specs.Model.{Model, Run, stopped, ended}
 use Rattle.model.specs.Judge.{Verdict, impossible, stops, misses, passes, Judged}
 
@@ -16,7 +16,7 @@ not-both r k end p q = let z : _≡_ {A = ℕ} 0 1 = cc in omega arith
 pub one-end : (r : Run) (e f : State) → r ≡ ended e → r ≡ ended f → e ≡ f
 one-end r e f p q = cc
 
-module _ (D : Domain) (P : Model → Type 0) (plan : List Step) (st : State) (goal : List Entry) where
+module _ (D : Domain) (P : Model → Type 0) (plan : List GroundAction) (st : State) (goal : List GoalLiteral) where
   -- Two verdicts that are both the judge's are one.
   pub unique : (v w : Verdict) → Judged D P plan st goal v → Judged D P plan st goal w → v ≡ w
   unique impossible impossible h j = refl

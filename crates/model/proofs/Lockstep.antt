@@ -9,13 +9,13 @@ use mathlib.Core.List.{List, [], _∷_}
 use lib.ListN.{length}
 use Rattle.truth.specs.Bools.{clash, decide, is-false}
 use Rattle.model.specs.Quantify.{here, there}
-use Rattle.model.specs.Domain.{Domain, State, Step}
+use Rattle.model.specs.Domain.{Domain, State, GroundAction}
 use Rattle.model.specs.Model.{Model, Valid, Run, stopped, ended, image, inapplicable, next, run}
 use Rattle.model.specs.Formed.{Proper, Grounded}
 use Rattle.model.specs.Stricter.{Stricter}
 use Rattle.model.proofs.Next.{each-fact, next-at, next-off, inapplicable-in, inapplicable-out}
 
-module _ (D : Domain) (M : Model) (s : Step) (plan : List Step) (st : State) (k : ℕ) where
+module _ (D : Domain) (M : Model) (s : GroundAction) (plan : List GroundAction) (st : State) (k : ℕ) where
   pub run-stop : inapplicable D M s st ≡ true → run D M (s ∷ plan) st k ≡ stopped k
   unfolding run
   run-stop e = rw (e, run)
@@ -25,7 +25,7 @@ module _ (D : Domain) (M : Model) (s : Step) (plan : List Step) (st : State) (k 
   run-go e = rw (e, run)
 
 -- a run stops at the number of one of its steps
-pub run-within : (D : Domain) (M : Model) (plan : List Step) (st : State) (k j : ℕ) → run D M plan st k ≡ stopped j
+pub run-within : (D : Domain) (M : Model) (plan : List GroundAction) (st : State) (k j : ℕ) → run D M plan st k ≡ stopped j
     → (k ≤ j) × (j < k + length plan)
 unfolding run
 run-within D M [] st k j e = absurd (let z : _≡_ {A = ℕ} 0 1 = cc in omega arith)
@@ -44,7 +44,7 @@ Ahead (ended end) r = r ≡ ended end
 
 module _ (D : Domain) (L M : Model) (strict : Stricter D L M) where
   -- A step that is applicable under the stricter model is applicable under the other.
-  pub goes-too : (s : Step) (st : State) → inapplicable D L s st ≡ false → inapplicable D M s st ≡ false
+  pub goes-too : (s : GroundAction) (st : State) → inapplicable D L s st ≡ false → inapplicable D M s st ≡ false
   goes-too s st goes =
       is-false
       _
@@ -52,7 +52,7 @@ module _ (D : Domain) (L M : Model) (strict : Stricter D L M) where
 
   module _ (valid : Valid D L) (valid′ : Valid D M) where
     -- And it yields the same state under both.
-    pub same-next : (s : Step) (st : State) → Proper D s → inapplicable D L s st ≡ false → next D M s st ≡ next D L s st
+    pub same-next : (s : GroundAction) (st : State) → Proper D s → inapplicable D L s st ≡ false → next D M s st ≡ next D L s st
     same-next s st proper goes = λ i f. each-fact D s (λ g. next D M s st g ≡ next D L s st g) on off f i
       where
         met : (n : ℕ) → D .atom (s .action) n ≡ true → L .precondition (not (st (s .ground n))) (s .action) n ≡ false
@@ -65,7 +65,7 @@ module _ (D : Domain) (L M : Model) (strict : Stricter D L M) where
         off f e = next-off D s M valid′ st f e ∙ sym (next-off D s L valid st f e)
 
     -- Where the stricter run ends, the other ends in the same state; where it stops, the other does not stop earlier.
-    pub lockstep : (plan : List Step) → Grounded D plan → (st : State) (k : ℕ) → Ahead (run D L plan st k) (run D M plan st k)
+    pub lockstep : (plan : List GroundAction) → Grounded D plan → (st : State) (k : ℕ) → Ahead (run D L plan st k) (run D M plan st k)
     unfolding run
     lockstep [] grounded st k = refl
     lockstep (s ∷ plan) grounded st k = go (decide (inapplicable D L s st)) (lockstep plan (λ r m. grounded r (there m)) (next D L s st) (suc k))

@@ -6,13 +6,13 @@ use mathlib.Core.Bool.{Bool, true, false, not, and-true}
 use lib.Dec.{eqb}
 use borrow.Author.Tests.{eqb-true, eq-eqb}
 use Rattle.truth.specs.Bools.{clash, decide, is-false, bool-eq, and-in, and-out}
-use Rattle.model.specs.Domain.{Domain, State, Step}
+use Rattle.model.specs.Domain.{Domain, State, GroundAction}
 use Rattle.model.specs.Model.{Model, Valid, image, inapplicable, next}
 use Rattle.model.specs.Formed.{Proper}
 use Rattle.model.specs.Stricter.{value}
 use Rattle.model.proofs.Quantify.{below-in, below-out}
 
-module _ (D : Domain) (s : Step) where
+module _ (D : Domain) (s : GroundAction) where
   pub image-in : (q : ℕ → Bool) (n : ℕ) → n < D .atoms → q n ≡ true → image D q s (s .ground n) ≡ true
   unfolding image
   image-in q n h e = below-in _ _ n h (and-in (q n) _ e (eq-eqb (s .ground n) _ refl))

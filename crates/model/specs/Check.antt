@@ -3,7 +3,7 @@ use Prim.Native.Nat.{ℕ, zero, suc}
 use mathlib.Core.Bool.{Bool, true, false, _||_}
 use mathlib.Core.List.{List}
 use Rattle.model.specs.Quantify.{any, below, first}
-use Rattle.model.specs.Domain.{Domain, State, Step, Transition, Entry}
+use Rattle.model.specs.Domain.{Domain, State, GroundAction, Transition, GoalLiteral}
 use Rattle.model.specs.Model.{Model, Run, stopped, ended, run}
 use Rattle.model.specs.Judge.{Verdict, impossible, stops, misses, passes, wrong}
 use Rattle.model.specs.Learned.{learned, unboundEffect, conflicting}
@@ -14,12 +14,12 @@ reached end zero = passes end
 reached end (suc i) = misses (suc i)
 
 -- what a run comes to, with the goal
-unfoldable pub judgedRun : List Entry → Run → Verdict
+unfoldable pub judgedRun : List GoalLiteral → Run → Verdict
 judgedRun goal (stopped k) = stops k
 judgedRun goal (ended end) = reached end (first (wrong end) goal)
 
 -- a check by one model: impossible where there is none to be had, else what the model's run comes to
-unfoldable pub checkedBy : Bool → Domain → Model → List Step → State → List Entry → Verdict
+unfoldable pub checkedBy : Bool → Domain → Model → List GroundAction → State → List GoalLiteral → Verdict
 checkedBy none D L plan st goal = elim none [ true ↦ impossible | false ↦ judgedRun goal (run D L plan st 1) ]
 
 -- rows 11 and 12
@@ -27,5 +27,5 @@ unfoldable pub inconsistent : Domain → List Transition → Bool
 inconsistent D ts = any (unboundEffect D) ts || below (D .actions) (λ a. conflicting D ts (suc a))
 
 -- the whole check: impossible by row 11 or 12, else the plan under the learned model
-unfoldable pub checked : Domain → List Transition → List Step → State → List Entry → Verdict
+unfoldable pub checked : Domain → List Transition → List GroundAction → State → List GoalLiteral → Verdict
 checked D ts = checkedBy (inconsistent D ts) D (learned D ts)

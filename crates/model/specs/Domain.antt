@@ -15,17 +15,17 @@ abbrev pub State : Type 0
 State = ℕ → Bool
 
 -- a ground action (the paper's step): an action, and the fact that each of its lifted atoms becomes under the binding
-pub record Step : Type 0 where
+pub record GroundAction : Type 0 where
   pub action : ℕ
   pub ground : ℕ → ℕ
 
 -- a step with the states before and after it
 pub record Transition : Type 0 where
-  pub step : Step
+  pub step : GroundAction
   pub pre : State
   pub post : State
 
 -- a goal literal: a fact and the value wanted of it
-pub record Entry : Type 0 where
+pub record GoalLiteral : Type 0 where
   pub wanted : Bool
   pub fact : ℕ

@@ -4,10 +4,10 @@ use mathlib.Core.Path.{_≡_}
 use mathlib.Core.Bool.{true}
 use mathlib.Core.List.{List}
 use Rattle.model.specs.Quantify.{Mem}
-use Rattle.model.specs.Domain.{Domain, Step, Transition}
+use Rattle.model.specs.Domain.{Domain, GroundAction, Transition}
 
 -- The atoms of the step's action are counted by the domain, and no two of them become one fact: the binding is injective.
-pub record Proper (D : Domain) (s : Step) : Type 0 where
+pub record Proper (D : Domain) (s : GroundAction) : Type 0 where
   pub ranged : (n : ℕ) → D .atom (s .action) n ≡ true → n < D .atoms
   pub apart : (m n : ℕ) → D .atom (s .action) m ≡ true → D .atom (s .action) n ≡ true → s .ground m ≡ s .ground n → m ≡ n
 
@@ -18,5 +18,5 @@ pub record Formed (D : Domain) (ts : List Transition) : Type 0 where
   pub within : (t : Transition) → Mem t ts → (f : ℕ) → D .facts ≤ f → t .pre f ≡ t .post f
 
 -- the same of a plan, of which no more is asked
-abbrev pub Grounded : Domain → List Step → Type 0
-Grounded D plan = (s : Step) → Mem s plan → Proper D s
+abbrev pub Grounded : Domain → List GroundAction → Type 0
+Grounded D plan = (s : GroundAction) → Mem s plan → Proper D s

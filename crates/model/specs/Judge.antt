@@ -4,7 +4,7 @@ use mathlib.Core.Path.{_≡_}
 use mathlib.Core.Bool.{Bool, true, not}
 use mathlib.Core.List.{List}
 use Rattle.model.specs.Quantify.{same, has}
-use Rattle.model.specs.Domain.{Domain, State, Step, Entry}
+use Rattle.model.specs.Domain.{Domain, State, GroundAction, GoalLiteral}
 use Rattle.model.specs.Model.{Model, stopped, ended, run}
 
 pub data Verdict : Type 0 where
@@ -14,11 +14,11 @@ pub data Verdict : Type 0 where
   passes : State → Verdict
 
 -- the end state has not the value that the entry wants
-unfoldable pub wrong : State → Entry → Bool
+unfoldable pub wrong : State → GoalLiteral → Bool
 wrong end e = not (same (end (e .fact)) (e .wanted))
 
 -- `P` are the models that the judge holds; the plan starts in `st`
-module _ (D : Domain) (P : Model → Type 0) (plan : List Step) (st : State) (goal : List Entry) where
+module _ (D : Domain) (P : Model → Type 0) (plan : List GroundAction) (st : State) (goal : List GoalLiteral) where
   abbrev pub StopsAt : Model → ℕ → Type 0
   StopsAt M k = run D M plan st 1 ≡ stopped k
 

@@ -5,7 +5,7 @@ use mathlib.Core.Bool.{Bool, true, false, _&&_, _||_, not}
 use mathlib.Core.List.{List, [], _∷_}
 use lib.Dec.{eqb}
 use Rattle.model.specs.Quantify.{below, Mem}
-use Rattle.model.specs.Domain.{Domain, State, Step, Transition}
+use Rattle.model.specs.Domain.{Domain, State, GroundAction, Transition}
 
 -- Four sets of lifted atoms for each action. `precondition true`: needed to hold; `precondition false`: needed not to hold;
 -- `effect true`: added; `effect false`: deleted.
@@ -20,15 +20,15 @@ pub record Valid (D : Domain) (M : Model) : Type 0 where
   pub exclusive : (a n : ℕ) → M .effect true a n ≡ true → M .effect false a n ≡ true → ⊥
 
 -- `f` is the fact of an atom of the set `q` under the step's binding
-unfoldable pub image : Domain → (ℕ → Bool) → Step → State
+unfoldable pub image : Domain → (ℕ → Bool) → GroundAction → State
 image D q s f = below (D .atoms) (λ n. q n && eqb (s .ground n) f)
 
 -- the step is not applicable: an atom is needed to be what its fact is not
-unfoldable pub inapplicable : Domain → Model → Step → State → Bool
+unfoldable pub inapplicable : Domain → Model → GroundAction → State → Bool
 inapplicable D M s st = below (D .atoms) (λ n. M .precondition (not (st (s .ground n))) (s .action) n)
 
 -- the state after an applicable step: added facts hold, deleted ones do not, all others stay
-unfoldable pub next : Domain → Model → Step → State → State
+unfoldable pub next : Domain → Model → GroundAction → State → State
 next D M s st f = image D (M .effect true (s .action)) s f || (st f && not (image D (M .effect false (s .action)) s f))
 
 -- the model carries the transition: the step is applicable and yields the state after it
@@ -47,6 +47,6 @@ pub data Run : Type 0 where
   ended : State → Run
 
 -- the plan from a state on, its first step having the number given
-unfoldable pub run : Domain → Model → List Step → State → ℕ → Run
+unfoldable pub run : Domain → Model → List GroundAction → State → ℕ → Run
 run D M [] st k = ended st
 run D M (s ∷ plan) st k = elim (inapplicable D M s st) [ true ↦ stopped k | false ↦ run D M plan (next D M s st) (suc k) ]

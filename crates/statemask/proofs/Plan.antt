@@ -14,7 +14,7 @@ use Rattle.terms.specs.Facts.{factNumber}
 use Rattle.format.specs.Order.{GoalEntry}
 use Rattle.mask.specs.Sets.{maskOf}
 use Rattle.model.specs.Quantify.{same, first, here, there}
-use Rattle.model.specs.Domain.{Domain, State, Step as GroundAction}
+use Rattle.model.specs.Domain.{Domain, State, GroundAction}
 use Rattle.model.specs.Model.{Model, Valid, Run, stopped, ended, inapplicable, next, run}
 use Rattle.model.specs.Judge.{wrong}
 use Rattle.model.proofs.Quantify.{first-map}

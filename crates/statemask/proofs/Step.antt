@@ -10,7 +10,7 @@ use Rattle.truth.specs.Bools.{is-false, and-out}
 use Rattle.limits.specs.Limits.{stateSize, setSize, maxAtoms}
 use Rattle.mask.specs.Sets.{maskOf}
 use Rattle.mask.proofs.Whole.{test-maskOf, maskOf-same}
-use Rattle.model.specs.Domain.{Domain, State, Step}
+use Rattle.model.specs.Domain.{Domain, State, GroundAction}
 use Rattle.model.specs.Model.{Model, Valid, image, inapplicable, next}
 use Rattle.model.proofs.Quantify.{below-cong, below-wide}
 use Rattle.model.proofs.Next.{image-out}
@@ -29,7 +29,7 @@ put-last true removed x = refl
 put-last false true x = sym (and-false x)
 put-last false false x = sym (and-true x)
 
-module _ (D : Domain) (M : Model) (few : D .atoms ≤ maxAtoms) (valid : Valid D M) (s : Step) (fits : InMask D s) where
+module _ (D : Domain) (M : Model) (few : D .atoms ≤ maxAtoms) (valid : Valid D M) (s : GroundAction) (fits : InMask D s) where
   -- the facts of a set of the model's are those of its mask
   image-mask : (q : ℕ → Bool) → ((n : ℕ) → q n ≡ true → D .atom (s .action) n ≡ true)
       → (f : ℕ) → touched (maskOf setSize q) (s .ground) maxAtoms f ≡ image D q s f

@@ -11,7 +11,7 @@ use Rattle.terms.specs.Schema.{Schema}
 use Rattle.format.specs.Order.{GoalEntry}
 use Rattle.mask.specs.Sets.{maskOf}
 use Rattle.model.specs.Quantify.{Mem}
-use Rattle.model.specs.Domain.{Domain, State, Step as GroundAction}
+use Rattle.model.specs.Domain.{Domain, State, GroundAction}
 use Rattle.model.specs.Model.{Model, Valid, Run, stopped, ended}
 use Rattle.jobs.specs.SheetBits.{needSet, effectSet}
 use Rattle.jobs.specs.Planning.{groundAction}

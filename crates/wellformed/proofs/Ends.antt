@@ -7,7 +7,7 @@ use mathlib.Core.List.{List, [], _∷_}
 use native.Mathlib.Omega.{arith}
 use Rattle.truth.specs.Bools.{decide, is-false}
 use Rattle.model.specs.Quantify.{Mem, here, there}
-use Rattle.model.specs.Domain.{Domain, State, Step}
+use Rattle.model.specs.Domain.{Domain, State, GroundAction}
 use Rattle.model.specs.Model.{Model, Valid, ended, image, inapplicable, next, run}
 use Rattle.model.proofs.Next.{image-out}
 use Rattle.model.proofs.Lockstep.{run-stop, run-go}
@@ -19,10 +19,10 @@ Under bound st = (f : ℕ) → bound ≤ f → st f ≡ false
 
 module _ (D : Domain) (M : Model) (valid : Valid D M) (bound : ℕ) where
   -- the atoms of the step's action become facts under the bound
-  abbrev pub GroundsUnder : Step → Type 0
+  abbrev pub GroundsUnder : GroundAction → Type 0
   GroundsUnder s = (n : ℕ) → D .atom (s .action) n ≡ true → s .ground n < bound
 
-  next-under : (s : Step) → GroundsUnder s → (st : State) → Under bound st → Under bound (next D M s st)
+  next-under : (s : GroundAction) → GroundsUnder s → (st : State) → Under bound st → Under bound (next D M s st)
   unfolding next
   next-under s grounds st under f h =
       let off : image D (M .effect true (s .action)) s f ≡ false = is-false _
@@ -33,7 +33,7 @@ module _ (D : Domain) (M : Model) (valid : Valid D M) (bound : ℕ) where
       rw (off, under f h)
 
   -- A run keeps to the facts under a bound.
-  pub run-under : (plan : List Step) → ((s : Step) → Mem s plan → GroundsUnder s) → (st : State) → Under bound st
+  pub run-under : (plan : List GroundAction) → ((s : GroundAction) → Mem s plan → GroundsUnder s) → (st : State) → Under bound st
       → (k : ℕ) (end : State) → run D M plan st k ≡ ended end → Under bound end
   unfolding run
   run-under [] grounds st under k end e = rw (one-end _ end st refl (sym e)) under

@@ -20,7 +20,7 @@ use Rattle.format.proofs.Chains.{chain-parted}
 use Rattle.format.proofs.Orders.{plan-step-entry, goal-chain, goal-entry-suits}
 use Rattle.format.proofs.OrderForm.{order-good}
 use Rattle.model.specs.Quantify.{Mem, here, there}
-use Rattle.model.specs.Domain.{Step as GroundAction}
+use Rattle.model.specs.Domain.{GroundAction}
 use Rattle.model.specs.Formed.{Proper, Grounded}
 use Rattle.jobs.specs.Planning.{domain, groundAction, startState, planOf}
 use Rattle.wellformed.specs.Right.{RightStep, orderHall, RightOrder}
