@@ -28,14 +28,14 @@ use Rattle.wellformed.proofs.Headers.{moves-few}
 use Rattle.wellformed.proofs.Records.{filed-somewhere}
 use Rattle.wellformed.proofs.Orders.{length-plan}
 use Rattle.format.proofs.OrderForm.{order-good, order-bounded}
-use Rattle.walk.specs.Walk.{Noteable}
-use Rattle.walk.proofs.Noting.{record-noteable}
+use Rattle.walk.specs.Walk.{Observable}
+use Rattle.walk.proofs.Noting.{record-observable}
 use Rattle.adding.proofs.Bounds.{add-bounded}
 use Rattle.changeover.proofs.Laws.{Fits, fits-by}
 
 -- ---- row 11: the place of a step lies within the book
-steps-placed : (s : List ℕ) (n at : ℕ) {f : Filed} → Noteable s n at → Mem f (filedAt s n at) → f .place ≤ maxLength
-unfolding Noteable filedAt filedStep
+steps-placed : (s : List ℕ) (n at : ℕ) {f : Filed} → Observable s n at → Mem f (filedAt s n at) → f .place ≤ maxLength
+unfolding Observable filedAt filedStep
 steps-placed s (suc n) at h here = h .2
 steps-placed s (suc n) at h (there m) = steps-placed s n (stateEnd s at + stepSize) (h .5) m
 
@@ -64,7 +64,7 @@ learnable-bounded s =
     (unbound-effects-bounded (schemaOf s) (filedIn s)
     (λ f m.
     let (from, next, good, k) = filed-somewhere s total e m in
-    steps-placed s _ _ (record-noteable (sectionsOf s) s (g .sections .size .most) (g .sections .counts .moves) from next good) k))
+    steps-placed s _ _ (record-observable (sectionsOf s) s (g .sections .size .most) (g .sections .counts .moves) from next good) k))
     (λ n i j.
     bounded-then maxLength _ _ (conflicting-bounded (schemaOf s) (transitionsOf s) (moves-few s total e))
     (λ n i j. bounded-good maxLength total l)))

@@ -1,4 +1,4 @@
--- For a book that learns, masks by what is held come to what a plan comes to under the learned model: of any right steps, then of an order of good form.
+-- For a book that learns, masks by what is observed come to what a plan comes to under the learned model: of any right steps, then of an order of good form.
 use Prim.Native.Nat.{ℕ, zero, suc, _+_, _*_, _≤_, _<_}
 use mathlib.Core.Path.{_≡_, sym, _∙_}
 use mathlib.Core.Bool.{true, false}
@@ -13,7 +13,7 @@ use Rattle.terms.specs.declared.Fact.{Fact}
 use Rattle.terms.specs.declared.Step.{Step}
 use Rattle.terms.specs.Schema.{Schema, Hall}
 use Rattle.terms.specs.Steps.{stepAt}
-use Rattle.limits.specs.Limits.{maxMoves, maxObjects, stepSize, heldSize}
+use Rattle.limits.specs.Limits.{maxMoves, maxObjects, stepSize, observedSize}
 use Rattle.format.specs.LookOver.{lookOver}
 use Rattle.format.specs.Order.{GoalEntry, stepCount, stepsAt, orderForm, startFacts, goal, plan, planFrom}
 use Rattle.model.specs.Quantify.{Mem, here, there}
@@ -23,11 +23,11 @@ use Rattle.model.proofs.Impossible.{learned-consistent}
 use Rattle.jobs.specs.Planning.{domain, holding, schemaOf, filedIn, transitionsOf, groundAction, goalEntry, startState, planOf, goalOf}
 use Rattle.jobs.specs.Learn.{learnable, learnedFrom}
 use Rattle.jobs.specs.Check.{planRun, orderRun, runAnswer, endSheet}
-use Rattle.held.specs.Rules.{ruleSet, heldSet}
-use Rattle.held.specs.Seen.{Seen, inSet}
-use Rattle.held.proofs.Hold.{seen-held}
-use Rattle.held.proofs.Sheet.{atoms-in, atoms-out}
-use Rattle.heldright.proofs.HeldRight.{filed-faithful}
+use Rattle.observed.specs.Rules.{ruleSet, observedSet}
+use Rattle.observed.specs.Seen.{Seen, inSet}
+use Rattle.observed.proofs.Observe.{seen-observed}
+use Rattle.observed.proofs.Sheet.{atoms-in, atoms-out}
+use Rattle.observedright.proofs.ObservedRight.{filed-faithful}
 use Rattle.wellformed.proofs.Headers.{relations-few, moves-few}
 use Rattle.wellformed.proofs.Formed.{formed}
 use Rattle.terms.proofs.Atoms.{atom-below}
@@ -41,17 +41,17 @@ use Rattle.statemask.specs.Carrying.{Under, Ruled, Carrying, carriedAnswer}
 use Rattle.statemask.proofs.Plan.{carry-start, carry-answer, agrees-sheet}
 use Rattle.format.proofs.OrderForm.{order-good}
 use Rattle.execution.specs.Execution.{Carriable}
-use Rattle.learner.specs.Learner.{heldOf}
+use Rattle.learner.specs.Learner.{observedOf}
 
 -- the sets of a move's rules are its learned ones
 ruled : (sch : Schema) (ts : List Transition) (l : List ℕ) → Seen sch ts l → (a : ℕ) → 1 ≤ a → a ≤ 32 → Ruled (learned (domain sch) ts) a (ruleSet sch l a)
 unfolding ruleSet learned domain inSet
 ruled sch ts l seen a h h′ =
     record {
-      positive = atoms-in sch a (heldSet l a 0) (inSet ts 0 a) (λ n. seen .says 0 (omega arith) a h h′ n);
-      negative = atoms-out sch a (heldSet l a 1) (inSet ts 1 a) (λ n. seen .says 1 (omega arith) a h h′ n);
-      added = atoms-in sch a (heldSet l a 4) (inSet ts 4 a) (λ n. seen .says 4 (omega arith) a h h′ n);
-      removed = atoms-in sch a (heldSet l a 5) (inSet ts 5 a) (λ n. seen .says 5 (omega arith) a h h′ n);
+      positive = atoms-in sch a (observedSet l a 0) (inSet ts 0 a) (λ n. seen .says 0 (omega arith) a h h′ n);
+      negative = atoms-out sch a (observedSet l a 1) (inSet ts 1 a) (λ n. seen .says 1 (omega arith) a h h′ n);
+      added = atoms-in sch a (observedSet l a 4) (inSet ts 4 a) (λ n. seen .says 4 (omega arith) a h h′ n);
+      removed = atoms-in sch a (observedSet l a 5) (inSet ts 5 a) (λ n. seen .says 5 (omega arith) a h h′ n);
     }
 
 -- a book that learns has no conflict
@@ -82,11 +82,11 @@ module _ (s : List ℕ) (n m : ℕ) (good : lookOver s ≡ Good n) (learns : lea
         let c = moves-few s n good in
         (a, omega arith)
 
-    carrying : Carrying (domain (schemaOf s)) (learnedFrom s) (schemaOf s) (heldOf s .masks) steps
-    unfolding heldOf learnedFrom transitionsOf domain groundAction
+    carrying : Carrying (domain (schemaOf s)) (learnedFrom s) (schemaOf s) (observedOf s .masks) steps
+    unfolding observedOf learnedFrom transitionsOf domain groundAction
     carrying =
         let sch = schemaOf s in
-        let seen = seen-held sch (moves-few s n good) (filedIn s) (filed-faithful s n good) in
+        let seen = seen-observed sch (moves-few s n good) (filedIn s) (filed-faithful s n good) in
         let size = relations-few s n good in
         record {
           few = omega arith;
@@ -106,14 +106,14 @@ module _ (s : List ℕ) (n m : ℕ) (good : lookOver s ≡ Good n) (learns : lea
     module _ (start : List Fact) (under : Under (holding start)) where
       -- rows 19 and 20, and the end sheet where no step stops
       plan-answer : (count : ℕ) (goals : List GoalEntry)
-          → runAnswer count (map goalEntry goals) (planRun s (holding start) (map (groundAction (schemaOf s)) steps)) ≡ carriedAnswer count goals (carry (schemaOf s) (heldOf s .masks) steps (startMask start) 1)
+          → runAnswer count (map goalEntry goals) (planRun s (holding start) (map (groundAction (schemaOf s)) steps)) ≡ carriedAnswer count goals (carry (schemaOf s) (observedOf s .masks) steps (startMask start) 1)
       unfolding planRun
-      plan-answer count goals = carry-answer (domain (schemaOf s)) (learnedFrom s) (schemaOf s) (heldOf s .masks) steps carrying start under count goals
+      plan-answer count goals = carry-answer (domain (schemaOf s)) (learnedFrom s) (schemaOf s) (observedOf s .masks) steps carrying start under count goals
 
-      plan-sheet : carry (schemaOf s) (heldOf s .masks) steps (startMask start) 1 .stop ≡ 0
-          → carry (schemaOf s) (heldOf s .masks) steps (startMask start) 1 .mask ≡ endSheet (planRun s (holding start) (map (groundAction (schemaOf s)) steps))
+      plan-sheet : carry (schemaOf s) (observedOf s .masks) steps (startMask start) 1 .stop ≡ 0
+          → carry (schemaOf s) (observedOf s .masks) steps (startMask start) 1 .mask ≡ endSheet (planRun s (holding start) (map (groundAction (schemaOf s)) steps))
       unfolding planRun
-      plan-sheet e = agrees-sheet _ _ (carry-start (domain (schemaOf s)) (learnedFrom s) (schemaOf s) (heldOf s .masks) steps carrying start under) e
+      plan-sheet e = agrees-sheet _ _ (carry-start (domain (schemaOf s)) (learnedFrom s) (schemaOf s) (observedOf s .masks) steps carrying start under) e
 
   -- what an order of good form supplies
   module _ (o : List ℕ) (k : ℕ) (order : orderForm (schemaOf s) o ≡ Good k) where
@@ -124,7 +124,7 @@ module _ (s : List ℕ) (n m : ℕ) (good : lookOver s ≡ Good n) (learns : lea
     unfolding startState
     start-in-mask f h = let size = relations-few s n good in start-under (schemaOf s) o k order f (omega arith)
 
-    pub carriable : (l : List ℕ) → length l ≡ heldSize → Carriable l o (stepCount o) (stepsAt o)
+    pub carriable : (l : List ℕ) → length l ≡ observedSize → Carriable l o (stepCount o) (stepsAt o)
     unfolding stepAt plan
     carriable l size =
         let g = order-good (schemaOf s) o k order .header in
@@ -134,11 +134,11 @@ module _ (s : List ℕ) (n m : ℕ) (good : lookOver s ≡ Good n) (learns : lea
           moves = λ i h. moves-known (orderHall o) (right .few) (plan o) (right .steps) (stepAt o (stepsAt o + stepSize * i)) (mem-plan o (stepCount o) (stepsAt o) i h);
         }
 
-    pub order-carried : runAnswer (stepCount o) (goalOf o) (orderRun s o) ≡ carriedAnswer (stepCount o) (goal o) (carry (schemaOf s) (heldOf s .masks) (plan o) (startMask (startFacts o)) 1)
+    pub order-carried : runAnswer (stepCount o) (goalOf o) (orderRun s o) ≡ carriedAnswer (stepCount o) (goal o) (carry (schemaOf s) (observedOf s .masks) (plan o) (startMask (startFacts o)) 1)
     unfolding goalOf orderRun planOf startState
     order-carried = plan-answer (orderHall o) (right .few) (plan o) (right .steps) (startFacts o) start-in-mask (stepCount o) (goal o)
 
-    pub order-sheet : carry (schemaOf s) (heldOf s .masks) (plan o) (startMask (startFacts o)) 1 .stop ≡ 0
-        → carry (schemaOf s) (heldOf s .masks) (plan o) (startMask (startFacts o)) 1 .mask ≡ endSheet (orderRun s o)
+    pub order-sheet : carry (schemaOf s) (observedOf s .masks) (plan o) (startMask (startFacts o)) 1 .stop ≡ 0
+        → carry (schemaOf s) (observedOf s .masks) (plan o) (startMask (startFacts o)) 1 .mask ≡ endSheet (orderRun s o)
     unfolding orderRun planOf startState
     order-sheet = plan-sheet (orderHall o) (right .few) (plan o) (right .steps) (startFacts o) start-in-mask

@@ -11,7 +11,7 @@ use Rattle.answer.specs.Answer.{_>>=_, refuse, isRefused, valueOf, kept}
 use Rattle.truth.specs.Bools.{clash}
 use Rattle.answer.specs.Laws.{good-refused, stays, bind-good, refuse-unmet}
 use Rattle.answer.specs.Turns.{is-good}
-use Rattle.limits.specs.Limits.{endSheetSize, heldSize}
+use Rattle.limits.specs.Limits.{endSheetSize, observedSize}
 use Rattle.terms.specs.declared.Sections.{Sections}
 use Rattle.terms.specs.Sections.{sectionsOf}
 use Rattle.terms.specs.Schema.{Schema, schema}
@@ -24,7 +24,7 @@ use Rattle.jobs.specs.Check.{orderRun, check, endSheet, checkBytes}
 use Rattle.statemask.specs.Statemask.{Carried, carry, startMask}
 use Rattle.statemask.specs.Carrying.{carriedAnswer}
 use Rattle.execution.specs.Execution.{Carriable}
-use Rattle.learner.specs.Learner.{heldOf, Noted}
+use Rattle.learner.specs.Learner.{observedOf, BookObserved}
 use Rattle.learner.proofs.Book.{schema-own, form-good}
 use Rattle.checker.specs.Checker.{CarriedOut, RunOutcome, fromOrder, Ready, OrderOutcome, CheckOutcome}
 use Rattle.checker.proofs.Carried.{carriable, order-carried, order-sheet}
@@ -64,7 +64,7 @@ module _ (sch : Schema) (l o old state new : List ℕ) (r : Answer) (b : Bool) (
   at-end e sheet f = record { says = own-out .says; bytes = rw (is-good r (sym told ∙ e)) (f ∙ own-out .mask) }
 
 -- ---- rows 14 to 20
-module _ (s o old : List ℕ) (h : Sections) (held : List ℕ) (ready : Ready s h held old) (a : Answer) (b : Bool) (form : a ≡ orderForm (schema h s) o) (told : b ≡ isRefused a) where
+module _ (s o old : List ℕ) (h : Sections) (observed : List ℕ) (ready : Ready s h observed old) (a : Answer) (b : Bool) (form : a ≡ orderForm (schema h s) o) (told : b ≡ isRefused a) where
   form-own : a ≡ orderForm (schemaOf s) o
   form-own = rw (schema-own s h (ready .own)) at form
 
@@ -82,15 +82,15 @@ module _ (s o old : List ℕ) (h : Sections) (held : List ℕ) (ready : Ready s 
     order : orderForm (schemaOf s) o ≡ Good (valueOf a)
     order = sym form-own ∙ is-good a (sym told ∙ passed)
 
-    pub order-carriable : Carriable held o (stepCount o) (stepsAt o)
-    order-carriable = carriable s (formed .0) _ (formed .1) (ready .learns) o _ order held (ready .room)
+    pub order-carriable : Carriable observed o (stepCount o) (stepsAt o)
+    order-carriable = carriable s (formed .0) _ (formed .1) (ready .learns) o _ order observed (ready .room)
 
-    module _ (new : List ℕ) (r : Answer) (out : RunOutcome (carry (schema h s) held (plan o) (startMask (startFacts o)) 1) o old new r) where
+    module _ (new : List ℕ) (r : Answer) (out : RunOutcome (carry (schema h s) observed (plan o) (startMask (startFacts o)) 1) o old new r) where
       abbrev own : Carried
-      own = carry (schemaOf s) (heldOf s .masks) (plan o) (startMask (startFacts o)) 1
+      own = carry (schemaOf s) (observedOf s .masks) (plan o) (startMask (startFacts o)) 1
 
       ran : RunOutcome own o old new r
-      ran = rw (schema-own s h (ready .own), ready .holds) at out
+      ran = rw (schema-own s h (ready .own), ready .observes) at out
 
       says : r ≡ fromOrder s o
       unfolding fromOrder
@@ -106,13 +106,13 @@ module _ (s o old : List ℕ) (h : Sections) (held : List ℕ) (ready : Ready s 
       at-run = record { says = says; bytes = rw (← says) (ran .bytes ∙ kept-sheet r (ran .says)) }
 
 -- ---- the whole check
-module _ (s held : List ℕ) (a : Answer) (b : Bool) (noted : Noted s held a) (told : b ≡ isRefused a) where
+module _ (s observed : List ℕ) (a : Answer) (b : Bool) (noted : BookObserved s observed a) (told : b ≡ isRefused a) where
   learns : b ≡ false → learnable s ≡ Good (valueOf (learnable s))
   learns passed = is-good _ (sym (ap isRefused (noted .says)) ∙ sym told ∙ passed)
 
-  pub ready-by : b ≡ false → (old : List ℕ) → length old ≡ endSheetSize → (h : Sections) → h ≡ sectionsOf s → length held ≡ heldSize → Ready s h held old
+  pub ready-by : b ≡ false → (old : List ℕ) → length old ≡ endSheetSize → (h : Sections) → h ≡ sectionsOf s → length observed ≡ observedSize → Ready s h observed old
   ready-by passed old size h own room =
-      record { own = own; learns = learns passed; holds = noted .holds _ (is-good a (sym told ∙ passed)); room = room; size = size }
+      record { own = own; learns = learns passed; observes = noted .observes _ (is-good a (sym told ∙ passed)); room = room; size = size }
 
   module _ (o old : List ℕ) where
     -- rows 1 to 12

@@ -6,14 +6,14 @@ use lib.ListN.{length}
 use Rattle.answer.specs.declared.Answer.{Answer}
 use Rattle.answer.specs.declared.Answer.the-variants.{Good}
 use Rattle.answer.specs.Answer.{_>>=_, valueOf, kept}
-use Rattle.limits.specs.Limits.{endSheetSize, heldSize}
+use Rattle.limits.specs.Limits.{endSheetSize, observedSize}
 use Rattle.terms.specs.declared.Sections.{Sections}
 use Rattle.terms.specs.Sections.{sectionsOf}
 use Rattle.format.specs.Order.{GoalEntry, stepCount, orderForm, goal}
 use Rattle.jobs.specs.Planning.{schemaOf, goalOf}
 use Rattle.jobs.specs.Learn.{learnable}
 use Rattle.jobs.specs.Check.{orderRun, runAnswer, check, endSheet, checkBytes}
-use Rattle.learner.specs.Learner.{heldOf}
+use Rattle.learner.specs.Learner.{observedOf}
 use Rattle.statemask.specs.Statemask.{Carried}
 use Rattle.statemask.specs.Carrying.{carriedAnswer}
 
@@ -31,12 +31,12 @@ pub record RunOutcome (c : Carried) (o old new : List ℕ) (r : Answer) : Type 0
 unfoldable pub fromOrder : List ℕ → List ℕ → Answer
 fromOrder s o = orderForm (schemaOf s) o >>= λ _. runAnswer (stepCount o) (goalOf o) (orderRun s o)
 
--- rows 1 to 13 are not met: the header that was read, what is held, and the lent end sheet
-pub record Ready (s : List ℕ) (h : Sections) (held end : List ℕ) : Type 0 where
+-- rows 1 to 13 are not met: the header that was read, what is observed, and the lent end sheet
+pub record Ready (s : List ℕ) (h : Sections) (observed end : List ℕ) : Type 0 where
   pub own : h ≡ sectionsOf s
   pub learns : learnable s ≡ Good (valueOf (learnable s))
-  pub holds : held ≡ heldOf s .masks
-  pub room : length held ≡ heldSize
+  pub observes : observed ≡ observedOf s .masks
+  pub room : length observed ≡ observedSize
   pub size : length end ≡ endSheetSize
 
 -- rows 14 to 20 with a lent end sheet: the answer, and every byte of the sheet afterwards

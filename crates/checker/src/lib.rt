@@ -15,15 +15,15 @@ ghost use Rattle.checker.specs.Checker.{CarriedOut, RunOutcome, Ready, O
 fn carry_out(
     book: &[u8],
     h: Sections,
-    held: &[u8],
+    observed: &[u8],
     o: &[u8],
     state: &mut [u8; limits::STATE_SIZE],
 ) -> Answer
-    requires { ⌜ Carriable (now held) (now o) (stepCount (now o)) (stepsAt (now o)) ⌝ }
-    ensures { λ r. ⌜ CarriedOut (carry (schema h (now (book .entry))) (now (held .entry)) (plan (now (o .entry))) (now (state .entry)) 1) (stepCount (now (o .entry))) (goal (now (o .entry))) (now (state .exit)) r ⌝ }
+    requires { ⌜ Carriable (now observed) (now o) (stepCount (now o)) (stepsAt (now o)) ⌝ }
+    ensures { λ r. ⌜ CarriedOut (carry (schema h (now (book .entry))) (now (observed .entry)) (plan (now (o .entry))) (now (state .entry)) 1) (stepCount (now (o .entry))) (goal (now (o .entry))) (now (state .exit)) r ⌝ }
 {
     let steps = orderhead::step_count(o) as usize;
-    let stop = execution::carry(book, h, held, o, steps, orderhead::steps_at(o), state);
+    let stop = execution::carry(book, h, observed, o, steps, orderhead::steps_at(o), state);
     if stop != 0 {
         return Answer::Refused(19, stop);
     }
@@ -59,12 +59,12 @@ fn start_of(o: &[u8]) -> [u8; limits::STATE_SIZE]
 }
 
 // Rows 19 and 20 from the start facts on; where neither is met, the end sheet.
-fn run_order(book: &[u8], h: Sections, held: &[u8], o: &[u8], end: &mut [u8]) -> Answer
-    requires { ⌜ Carriable (now held) (now o) (stepCount (now o)) (stepsAt (now o)) × (length (now end) ≡ endSheetSize) ⌝ }
-    ensures { λ r. ⌜ RunOutcome (carry (schema h (now (book .entry))) (now (held .entry)) (plan (now (o .entry))) (startMask (startFacts (now (o .entry)))) 1) (now (o .entry)) (now (end .entry)) (now (end .exit)) r ⌝ }
+fn run_order(book: &[u8], h: Sections, observed: &[u8], o: &[u8], end: &mut [u8]) -> Answer
+    requires { ⌜ Carriable (now observed) (now o) (stepCount (now o)) (stepsAt (now o)) × (length (now end) ≡ endSheetSize) ⌝ }
+    ensures { λ r. ⌜ RunOutcome (carry (schema h (now (book .entry))) (now (observed .entry)) (plan (now (o .entry))) (startMask (startFacts (now (o .entry)))) 1) (now (o .entry)) (now (end .entry)) (now (end .exit)) r ⌝ }
 {
     let mut state = start_of(o);
-    let a = carry_out(book, h, held, o, &mut state);
+    let a = carry_out(book, h, observed, o, &mut state);
     if answer::is_refused(a) {
         return a;
     }
@@ -73,28 +73,28 @@ fn run_order(book: &[u8], h: Sections, held: &[u8], o: &[u8], end: &mut [u8]) ->
 }
 
 // Rows 14 to 20 for a book that learns, with an end sheet of its size.
-fn check_order(s: &[u8], h: Sections, held: &[u8], o: &[u8], end: &mut [u8]) -> Answer
-    requires { ⌜ Ready (now s) h (now held) (now end) ⌝ }
+fn check_order(s: &[u8], h: Sections, observed: &[u8], o: &[u8], end: &mut [u8]) -> Answer
+    requires { ⌜ Ready (now s) h (now observed) (now end) ⌝ }
     ensures { λ r. ⌜ OrderOutcome (now (s .entry)) (now (o .entry)) (now (end .entry)) (now (end .exit)) r ⌝ }
 {
     let a = orders::order_form(s, h, o);
     if answer::is_refused(a) {
         return a;
     }
-    run_order(s, h, held, o, end)
+    run_order(s, h, observed, o, end)
 }
 
 pub fn check(s: &[u8], o: &[u8], end: &mut [u8]) -> Answer
     ensures { λ r. ⌜ CheckOutcome (now (s .entry)) (now (o .entry)) (now (end .entry)) (now (end .exit)) r ⌝ }
 {
     let h = Sections::read(s);
-    let mut held = [0u8; limits::HELD_SIZE];
-    let a = learner::note_book(s, h, &mut held);
+    let mut observed = [0u8; limits::OBSERVED_SIZE];
+    let a = learner::observe_book(s, h, &mut observed);
     if answer::is_refused(a) {
         return a;
     }
     if end.len() != limits::END_SHEET_SIZE {
         return Answer::Refused(13, 0);
     }
-    check_order(s, h, &held, o, end)
+    check_order(s, h, &observed, o, end)
 }

@@ -17,8 +17,8 @@ use Rattle.terms.specs.Schema.{Schema}
 use Rattle.model.specs.Quantify.{any}
 use Rattle.jobs.specs.Learn.{conflictAnswer}
 use Rattle.atoms.specs.Atoms.{atomSet}
-use Rattle.held.specs.Held.{alwaysAfter, everAfter, added, deleted}
-use Rattle.held.specs.Rules.{heldSet, unboundAnswer, conflictHeld, inUse, conflictSet}
+use Rattle.observed.specs.Observed.{alwaysAfter, everAfter, added, deleted}
+use Rattle.observed.specs.Rules.{observedSet, unboundAnswer, conflictObserved, inUse, conflictSet}
 
 -- ---- something is in a set
 pub in-use-here : (m : List ℕ) (i : ℕ) → i < length m → (getD m i 0 ≡ 0 → ⊥) → inUse (drop i m) ≡ true
@@ -44,21 +44,21 @@ any-common (x ∷ m) (suc y ∷ n) e = clash true refl (sym (ap (λ (t : Bool). 
 -- ---- row 12 of one move, put together from what the calls in the code return
 module _ (l : List ℕ) (a : ℕ) where
   pub conflict-set-by : {x unkept y kept r : List ℕ}
-      → x ≡ heldSet l a added
-      → unkept ≡ difference x (heldSet l a alwaysAfter)
-      → y ≡ heldSet l a deleted
-      → kept ≡ intersection y (heldSet l a everAfter)
+      → x ≡ observedSet l a added
+      → unkept ≡ difference x (observedSet l a alwaysAfter)
+      → y ≡ observedSet l a deleted
+      → kept ≡ intersection y (observedSet l a everAfter)
       → r ≡ union unkept kept
       → r ≡ conflictSet l a
   unfolding conflictSet
   conflict-set-by e f g h u = rw (u, f, h, e, g)
 
   module _ (sch : Schema) {either : List ℕ} (e : either ≡ conflictSet l a) where
-    pub conflicting-by : {atoms named : List ℕ} {r : Bool} → atoms ≡ atomSet sch a → named ≡ intersection atoms either → r ≡ inUse named → r ≡ conflictHeld sch l a
-    unfolding conflictHeld
+    pub conflicting-by : {atoms named : List ℕ} {r : Bool} → atoms ≡ atomSet sch a → named ≡ intersection atoms either → r ≡ inUse named → r ≡ conflictObserved sch l a
+    unfolding conflictObserved
     conflicting-by t n f = rw (f, n, t, e)
 
-    pub conflicting-none : {r : Bool} → r ≡ inUse either → not r ≡ true → false ≡ conflictHeld sch l a
+    pub conflicting-none : {r : Bool} → r ≡ inUse either → not r ≡ true → false ≡ conflictObserved sch l a
     conflicting-none {r} f n = sym (any-common (atomSet sch a) either (sym f ∙ not-true r n)) ∙ conflicting-by refl refl refl
 
 -- ---- the answers

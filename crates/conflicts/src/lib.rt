@@ -1,13 +1,13 @@
-// Rows 11 and 12 from what the learner holds: the answer for a changed fact that is no bound fact of its step, and the first move with a conflict.
+// Rows 11 and 12 from what the learner has observed: the answer for a changed fact that is no bound fact of its step, and the first move with a conflict.
 // Uses rulesheet for the sets that are held, atoms for a move's bound facts, mask for sets, answer; each contract names its definition.
 ghost use mathlib.Core.Path.{_≡_};
 ghost use Prim.Native.Nat.{_≤_};
 ghost use lib.ListN.{length};
-ghost use Rattle.limits.specs.Limits.{heldSize, maxMoves};
+ghost use Rattle.limits.specs.Limits.{observedSize, maxMoves};
 ghost use Rattle.terms.specs.Schema.{schema};
 ghost use Rattle.model.specs.Quantify.{least};
-ghost use Rattle.held.specs.Rules.{unboundAnswer, conflictHeld, conflictAmong, inUse, conflictSet};
-ghost use Rattle.rulesheet.specs.Sheet.{MoveHeld};
+ghost use Rattle.observed.specs.Rules.{unboundAnswer, conflictObserved, conflictAmong, inUse, conflictSet};
+ghost use Rattle.rulesheet.specs.Sheet.{MoveObserved};
 use answer::Answer;
 use terms::Move;
 use terms::Sections;
@@ -36,23 +36,23 @@ fn in_use(set: &[u8]) -> bool
 }
 
 // What was added and did not hold after every step, or was removed and held after some.
-fn conflict_set(held: &[u8], m: Move) -> [u8; 32]
-    requires { ⌜ MoveHeld (now held) (m .0) ⌝ }
-    ensures { λ r. ⌜ r ≡ conflictSet (now (held .entry)) (m .0) ⌝ }
+fn conflict_set(observed: &[u8], m: Move) -> [u8; 32]
+    requires { ⌜ MoveObserved (now observed) (m .0) ⌝ }
+    ensures { λ r. ⌜ r ≡ conflictSet (now (observed .entry)) (m .0) ⌝ }
 {
-    let added = rulesheet::held_set(held, m, held::ADDED);
-    let deleted = rulesheet::held_set(held, m, held::DELETED);
-    let unkept = rulesheet::outside_held(added, held, m, held::ALWAYS_AFTER);
-    let kept = rulesheet::within_held(deleted, held, m, held::EVER_AFTER);
+    let added = rulesheet::observed_set(observed, m, observed::ADDED);
+    let deleted = rulesheet::observed_set(observed, m, observed::DELETED);
+    let unkept = rulesheet::outside_observed(added, observed, m, observed::ALWAYS_AFTER);
+    let kept = rulesheet::within_observed(deleted, observed, m, observed::EVER_AFTER);
     mask::union32(unkept, kept)
 }
 
 // Where no fact is in conflict, the move's bound facts are not asked for.
-fn conflicting(book: &[u8], h: Sections, held: &[u8], m: Move) -> bool
-    requires { ⌜ MoveHeld (now held) (m .0) ⌝ }
-    ensures { λ r. ⌜ r ≡ conflictHeld (schema h (now (book .entry))) (now (held .entry)) (m .0) ⌝ }
+fn conflicting(book: &[u8], h: Sections, observed: &[u8], m: Move) -> bool
+    requires { ⌜ MoveObserved (now observed) (m .0) ⌝ }
+    ensures { λ r. ⌜ r ≡ conflictObserved (schema h (now (book .entry))) (now (observed .entry)) (m .0) ⌝ }
 {
-    let either = conflict_set(held, m);
+    let either = conflict_set(observed, m);
     if !in_use(&either) {
         return false;
     }
@@ -61,26 +61,26 @@ fn conflicting(book: &[u8], h: Sections, held: &[u8], m: Move) -> bool
 }
 
 // The first move with a conflict, 0 where none is.
-fn first_conflict(book: &[u8], h: Sections, held: &[u8]) -> usize
-    requires { ⌜ (length (now held) ≡ heldSize) × (h .moves .count ≤ maxMoves) ⌝ }
-    ensures { λ r. ⌜ r ≡ least (h .moves .count) (conflictHeld (schema h (now (book .entry))) (now (held .entry))) ⌝ }
+fn first_conflict(book: &[u8], h: Sections, observed: &[u8]) -> usize
+    requires { ⌜ (length (now observed) ≡ observedSize) × (h .moves .count ≤ maxMoves) ⌝ }
+    ensures { λ r. ⌜ r ≡ least (h .moves .count) (conflictObserved (schema h (now (book .entry))) (now (observed .entry))) ⌝ }
 {
     let count = h.moves.count as usize;
     let mut i = 0;
     while i < count {
         i += 1;
-        if conflicting(book, h, held, Move(i as u8)) {
+        if conflicting(book, h, observed, Move(i as u8)) {
             return i;
         }
     }
     0
 }
 
-pub fn conflict_among(book: &[u8], h: Sections, held: &[u8]) -> Answer
-    requires { ⌜ (length (now held) ≡ heldSize) × (h .moves .count ≤ maxMoves) ⌝ }
-    ensures { λ r. ⌜ r ≡ conflictAmong (schema h (now (book .entry))) (now (held .entry)) (h .moves .count) ⌝ }
+pub fn conflict_among(book: &[u8], h: Sections, observed: &[u8]) -> Answer
+    requires { ⌜ (length (now observed) ≡ observedSize) × (h .moves .count ≤ maxMoves) ⌝ }
+    ensures { λ r. ⌜ r ≡ conflictAmong (schema h (now (book .entry))) (now (observed .entry)) (h .moves .count) ⌝ }
 {
-    let m = first_conflict(book, h, held);
+    let m = first_conflict(book, h, observed);
     if m == 0 {
         return Answer::Good(0);
     }

@@ -9,7 +9,7 @@ use lib.ListN.{length}
 use Rattle.terms.specs.declared.Step.{Step}
 use Rattle.terms.specs.Schema.{Schema}
 use Rattle.terms.specs.Steps.{stepAt, ground}
-use Rattle.limits.specs.Limits.{maxMoves, stepSize, heldSize}
+use Rattle.limits.specs.Limits.{maxMoves, stepSize, observedSize}
 use Rattle.format.specs.Order.{planFrom}
 use Rattle.model.proofs.Quantify.{below-same}
 use Rattle.rulesheet.specs.Sheet.{ruleSets}
@@ -20,7 +20,7 @@ use Rattle.execution.specs.Execution.{Carriable, Carries}
 
 -- ---- what can be carried
 module _ (l o : List ℕ) (n at : ℕ) (c : Carriable l o n at) (some : 0 < n) where
-  pub carriable-move : (st : Step) → st ≡ stepAt o at → (length l ≡ heldSize) × (1 ≤ st .action .0) × (st .action .0 ≤ maxMoves)
+  pub carriable-move : (st : Step) → st ≡ stepAt o at → (length l ≡ observedSize) × (1 ≤ st .action .0) × (st .action .0 ≤ maxMoves)
   unfolding stepAt
   carriable-move st e =
       let here : at + stepSize * 0 ≡ at = omega arith in

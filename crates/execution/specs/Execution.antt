@@ -6,12 +6,12 @@ use lib.ListN.{length}
 use Rattle.input.specs.Bytes.{byteAt}
 use Rattle.terms.specs.declared.Step.{Step}
 use Rattle.terms.specs.Schema.{Schema}
-use Rattle.limits.specs.Limits.{maxMoves, stepSize, heldSize, farCeiling}
+use Rattle.limits.specs.Limits.{maxMoves, stepSize, observedSize, farCeiling}
 use Rattle.statemask.specs.Statemask.{carry}
 
--- what is held has its size, and the steps lie within the input and name moves that it has rows for
+-- what is observed has its size, and the steps lie within the input and name moves that it has rows for
 pub record Carriable (l o : List ℕ) (steps at : ℕ) : Type 0 where
-  pub size : length l ≡ heldSize
+  pub size : length l ≡ observedSize
   pub end : at + stepSize * steps ≤ farCeiling
   pub moves : (i : ℕ) → i < steps → (1 ≤ byteAt o (at + stepSize * i)) × (byteAt o (at + stepSize * i) ≤ maxMoves)
 

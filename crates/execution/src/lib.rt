@@ -1,4 +1,4 @@
-// A plan and its goal over a state of facts as a mask of 512 bytes: the start state, the plan by the rules that come from what is held, and
+// A plan and its goal over a state of facts as a mask of 512 bytes: the start state, the plan by the rules that come from what is observed, and
 // the goal at the end. Uses input, terms, mask, rulesheet and stepping, and the definitions of statemask; each contract
 // names its definition.
 ghost use mathlib.Core.Path.{_≡_};
@@ -44,14 +44,14 @@ pub fn start_mask(o: &[u8], n: usize, from: usize) -> [u8; limits::STATE_SIZE]
 pub fn carry(
     book: &[u8],
     h: Sections,
-    held: &[u8],
+    observed: &[u8],
     o: &[u8],
     steps: usize,
     from: usize,
     state: &mut [u8; limits::STATE_SIZE],
 ) -> usize
-    requires { ⌜ Carriable (now held) (now o) steps from ⌝ }
-    ensures { λ r. ⌜ Carries (schema h (now (book .entry))) (now (held .entry)) (planFrom (now (o .entry)) steps from) (now (state .entry)) r (now (state .exit)) ⌝ }
+    requires { ⌜ Carriable (now observed) (now o) steps from ⌝ }
+    ensures { λ r. ⌜ Carries (schema h (now (book .entry))) (now (observed .entry)) (planFrom (now (o .entry)) steps from) (now (state .entry)) r (now (state .exit)) ⌝ }
 {
     let mut left = steps;
     let mut at = from;
@@ -59,7 +59,7 @@ pub fn carry(
     while 0 < left {
         let step = Step::read(o, at);
         let b = step.binding;
-        let rules = rulesheet::rules_of(book, h, held, step.action);
+        let rules = rulesheet::rules_of(book, h, observed, step.action);
         if stepping::is_inapplicable(book, h, b, rules, state) {
             return k;
         }

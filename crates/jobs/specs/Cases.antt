@@ -111,9 +111,9 @@ abbrev pub said : Answer → List ℕ
 said a = number a ∷ place a ∷ []
 
 -- whether each of the facts holds where the run ends: 1 or 0. (All 4,096 of M2 at once would take too long to compute.)
-abbrev heldAt : Run → List ℕ → List ℕ
-heldAt (stopped k) fs = []
-heldAt (ended end) fs = map (λ f. cond (end f) 1 0) fs
+abbrev valuesAt : Run → List ℕ → List ℕ
+valuesAt (stopped k) fs = []
+valuesAt (ended end) fs = map (λ f. cond (end f) 1 0) fs
 
 -- an output lent for an end sheet
 abbrev lent : List ℕ
@@ -172,7 +172,7 @@ abbrev pub cases : List Case
 cases =
     record { gives = rulesPrinted book; wanted = printed }
     ∷ record { gives = said (check book order2 endSheetSize); wanted = 0 ∷ 2 ∷ [] }
-    ∷ record { gives = heldAt (orderRun book order2) (1 ∷ 2 ∷ 3 ∷ 272 ∷ 288 ∷ 304 ∷ []); wanted = 0 ∷ 0 ∷ 1 ∷ 1 ∷ 1 ∷ 0 ∷ [] }
+    ∷ record { gives = valuesAt (orderRun book order2) (1 ∷ 2 ∷ 3 ∷ 272 ∷ 288 ∷ 304 ∷ []); wanted = 0 ∷ 0 ∷ 1 ∷ 1 ∷ 1 ∷ 0 ∷ [] }
     ∷ record { gives = said (check book order3 endSheetSize); wanted = 19 ∷ 1 ∷ [] }
     ∷ record { gives = checkBytes book order3 lent; wanted = lent }
     ∷ record { gives = said (check book order4 endSheetSize); wanted = 0 ∷ 0 ∷ [] }

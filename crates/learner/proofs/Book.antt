@@ -19,21 +19,21 @@ use Rattle.format.specs.LookOver.{lookOver, allRecords, lookOverBy}
 use Rattle.format.specs.Decode.{filed}
 use Rattle.jobs.specs.Planning.{schemaOf, filedIn, transitionsOf}
 use Rattle.jobs.specs.Learn.{unboundEffects, conflictingMove, learnable, learn, learnBytes, learnedFrom, ruleSheet}
-use Rattle.held.specs.Held.{Held, nothingSeen}
-use Rattle.held.specs.Rules.{unboundAnswer, conflictAmong, sheetHeld}
-use Rattle.heldright.proofs.HeldRight.{held-right}
-use Rattle.notes.specs.Notes.{Holds}
+use Rattle.observed.specs.Observed.{Observed, nothingSeen}
+use Rattle.observed.specs.Rules.{unboundAnswer, conflictAmong, sheetObserved}
+use Rattle.observedright.proofs.ObservedRight.{observed-right}
+use Rattle.notes.specs.Notes.{IsObserved}
 use Rattle.walk.specs.declared.Walked.{Walked}
 use Rattle.walk.specs.Walk.{RecordsWalked}
-use Rattle.learner.specs.Learner.{FormNoted, heldOf, Noted, LearnOutcome}
+use Rattle.learner.specs.Learner.{FormObserved, observedOf, BookObserved, LearnOutcome}
 
 refused-not-good {ℓ} : {A : Type ℓ} (a : Answer) (m : ℕ) → isRefused a ≡ true → a ≡ Good m → A
 unfolding isRefused
 refused-not-good a m e f = clash (isRefused a) e (rw f)
 
 -- a refusal is all that is said
-pub refused-book : (s bytes : List ℕ) (r : Answer) (b : Bool) → b ≡ isRefused r → b ≡ true → r ≡ learnable s → Noted s bytes r
-refused-book s bytes r b p q e = record { says = e; holds = λ m f. refused-not-good r m (sym p ∙ q) f }
+pub refused-book : (s bytes : List ℕ) (r : Answer) (b : Bool) → b ≡ isRefused r → b ≡ true → r ≡ learnable s → BookObserved s bytes r
+refused-book s bytes r b p q e = record { says = e; observes = λ m f. refused-not-good r m (sym p ∙ q) f }
 
 module _ (s : List ℕ) (h : Sections) (own : h ≡ sectionsOf s) where
   parts : lookOver s ≡ (sections h s >>= λ _. allRecords h s (h .records .count) (h .records .at))
@@ -42,12 +42,12 @@ module _ (s : List ℕ) (h : Sections) (own : h ≡ sectionsOf s) where
 
   -- rows 1 to 5
   pub at-sections : (bytes : List ℕ) (a : Answer) (b : Bool) → a ≡ sections h s → b ≡ isRefused a → b ≡ true
-      → FormNoted s bytes (record { answer = a; named = 0 })
+      → FormObserved s bytes (record { answer = a; named = 0 })
   at-sections bytes a b p q r =
       record {
         says =
             stays a _ (sym q ∙ r) ∙ ap (λ x. x >>= λ _. allRecords h s (h .records .count) (h .records .at)) p ∙ sym parts;
-        holds = λ m f. refused-not-good a m (sym q ∙ r) f;
+        observes = λ m f. refused-not-good a m (sym q ∙ r) f;
       }
 
   pub looked : (a c : Answer) (b : Bool) → a ≡ sections h s → b ≡ isRefused a → b ≡ false
@@ -57,17 +57,17 @@ module _ (s : List ℕ) (h : Sections) (own : h ≡ sectionsOf s) where
       ∙ ap (λ x. x >>= λ _. allRecords h s (h .records .count) (h .records .at)) p
       ∙ sym parts
 
-  -- what is held after all records of a book
-  pub all-held : (first bytes : List ℕ) (w : Walked) (m : ℕ)
+  -- what is observed after all records of a book
+  pub all-observed : (first bytes : List ℕ) (w : Walked) (m : ℕ)
       → first ≡ nothingSeen .masks
       → RecordsWalked h s (h .records .count) (h .records .at) true (record { masks = first; named = 0 }) bytes w
       → w .answer ≡ Good m
-      → Holds (heldOf s) bytes (w .named)
-  unfolding heldOf filedIn filed nothingSeen
-  all-held first bytes w m e r f = rw (e, own) at (r .holds refl m f)
+      → IsObserved (observedOf s) bytes (w .named)
+  unfolding observedOf filedIn filed nothingSeen
+  all-observed first bytes w m e r f = rw (e, own) at (r .observes refl m f)
 
   -- the records by the header that was read
-  pub walked-own : (n from : ℕ) (noting : Bool) (before : Held) (bytes : List ℕ) (w : Walked)
+  pub walked-own : (n from : ℕ) (noting : Bool) (before : Observed) (bytes : List ℕ) (w : Walked)
       → RecordsWalked (sectionsOf s) s n from noting before bytes w → RecordsWalked h s n from noting before bytes w
   walked-own n from noting before bytes w e = rw own e
 
@@ -78,9 +78,9 @@ module _ (s : List ℕ) (h : Sections) (own : h ≡ sectionsOf s) where
       → b ≡ false
       → first ≡ nothingSeen .masks
       → RecordsWalked h s (h .records .count) (h .records .at) true (record { masks = first; named = 0 }) bytes w
-      → FormNoted s bytes w
+      → FormObserved s bytes w
   at-records first bytes w a b p q r e n =
-      record { says = looked a (w .answer) b p q r (n .says); holds = λ m f. all-held first bytes w m e n f }
+      record { says = looked a (w .answer) b p q r (n .says); observes = λ m f. all-observed first bytes w m e n f }
 
   pub schema-own : schema h s ≡ schemaOf s
   unfolding schemaOf
@@ -90,9 +90,9 @@ module _ (s : List ℕ) (h : Sections) (own : h ≡ sectionsOf s) where
   unfolding schemaOf schema
   moves-own = rw own
 
--- rows 11 and 12 from what is held, behind rows 1 to 10
-module _ (s bytes : List ℕ) (w : Walked) (form : FormNoted s bytes w) (b : Bool) (told : b ≡ isRefused (w .answer)) where
-  pub at-form : b ≡ true → Noted s bytes (w .answer)
+-- rows 11 and 12 from what is observed, behind rows 1 to 10
+module _ (s bytes : List ℕ) (w : Walked) (form : FormObserved s bytes w) (b : Bool) (told : b ≡ isRefused (w .answer)) where
+  pub at-form : b ≡ true → BookObserved s bytes (w .answer)
   unfolding learnable
   at-form t = refused-book s bytes _ b told t (part-stays _ _ _ b (form .says) told t)
 
@@ -106,8 +106,8 @@ module _ (s bytes : List ℕ) (w : Walked) (form : FormNoted s bytes w) (b : Boo
     pub formed : lookOver s ≡ Good total
     formed = sym (form .says) ∙ good
 
-    holds : Holds (heldOf s) bytes (w .named)
-    holds = form .holds _ good
+    observes : IsObserved (observedOf s) bytes (w .named)
+    observes = form .observes _ good
 
     conflicting : ℕ → Answer
     conflicting _ = conflictingMove (schemaOf s) (transitionsOf s) >>= λ _. Good total
@@ -118,27 +118,27 @@ module _ (s bytes : List ℕ) (w : Walked) (form : FormNoted s bytes w) (b : Boo
 
     module _ (c : Answer) (b₂ : Bool) (e₂ : c ≡ unboundAnswer (w .named)) (told₂ : b₂ ≡ isRefused c) where
       row11 : c ≡ unboundEffects (schemaOf s) (filedIn s)
-      unfolding heldOf
-      row11 = e₂ ∙ ap unboundAnswer (holds .named) ∙ held-right s _ formed .row11
+      unfolding observedOf
+      row11 = e₂ ∙ ap unboundAnswer (observes .named) ∙ observed-right s _ formed .row11
 
-      pub at-unbound : b₂ ≡ true → Noted s bytes c
+      pub at-unbound : b₂ ≡ true → BookObserved s bytes c
       at-unbound t = refused-book s bytes c b₂ told₂ t (part-stays _ conflicting c b₂ row11 told₂ t ∙ sym rest)
 
       module _ (left₂ : b₂ ≡ false) (h : Sections) (own : h ≡ sectionsOf s) (d : Answer) (b₃ : Bool)
           (e₃ : d ≡ conflictAmong (schema h s) bytes (h .moves .count)) (told₃ : b₃ ≡ isRefused d) where
         row12 : d ≡ conflictingMove (schemaOf s) (transitionsOf s)
-        unfolding heldOf transitionsOf
-        row12 = e₃ ∙ rw (schema-own s h own, moves-own s h own, holds .masks) (held-right s _ formed .row12)
+        unfolding observedOf transitionsOf
+        row12 = e₃ ∙ rw (schema-own s h own, moves-own s h own, observes .masks) (observed-right s _ formed .row12)
 
         behind : (conflictingMove (schemaOf s) (transitionsOf s) >>= λ _. Good total) ≡ learnable s
         unfolding conflicting
         behind = part-follows _ conflicting c b₂ _ row11 told₂ left₂ refl ∙ sym rest
 
-        pub at-conflict : b₃ ≡ true → Noted s bytes d
+        pub at-conflict : b₃ ≡ true → BookObserved s bytes d
         at-conflict t = refused-book s bytes d b₃ told₃ t (part-stays _ _ d b₃ row12 told₃ t ∙ behind)
 
-        pub at-end : b₃ ≡ false → Noted s bytes (w .answer)
-        at-end t = record { says = good ∙ part-follows _ (λ _. Good total) d b₃ _ row12 told₃ t refl ∙ behind; holds = λ m f. holds .masks }
+        pub at-end : b₃ ≡ false → BookObserved s bytes (w .answer)
+        at-end t = record { says = good ∙ part-follows _ (λ _. Good total) d b₃ _ row12 told₃ t refl ∙ behind; observes = λ m f. observes .masks }
 
 -- learning, by what noting the book returned
 pub learn-refused : (s old : List ℕ) (a : Answer) (b : Bool) → a ≡ learnable s → b ≡ isRefused a → b ≡ true → LearnOutcome s old old a
@@ -166,13 +166,13 @@ module _ (s old : List ℕ) (m : ℕ) (good : learnable s ≡ Good m) where
       let l : learn s (length old) ≡ Good m = rw (good, eq-eqb (length old) (128 * schemaOf s .moves) h) in
       record { says = sym l; bytes = rw (l, e) }
 
--- the sheet from what is held
-pub sheet-by : (s : List ℕ) (m : ℕ) (h : Sections) (bytes new : List ℕ) → h ≡ sectionsOf s → learnable s ≡ Good m → bytes ≡ heldOf s .masks
-    → new ≡ sheetHeld (schema h s) bytes (h .moves .count) 1 → new ≡ ruleSheet s
-unfolding heldOf learnable transitionsOf learnedFrom ruleSheet
+-- the sheet from what is observed
+pub sheet-by : (s : List ℕ) (m : ℕ) (h : Sections) (bytes new : List ℕ) → h ≡ sectionsOf s → learnable s ≡ Good m → bytes ≡ observedOf s .masks
+    → new ≡ sheetObserved (schema h s) bytes (h .moves .count) 1 → new ≡ ruleSheet s
+unfolding observedOf learnable transitionsOf learnedFrom ruleSheet
 sheet-by s m h bytes new own good e f =
     let p = parted (lookOver s) m _ good in
-    f ∙ rw (schema-own s h own, moves-own s h own, e) (held-right s (p .0) (p .1) .sheet)
+    f ∙ rw (schema-own s h own, moves-own s h own, e) (observed-right s (p .0) (p .1) .sheet)
 
 -- a book that learns is of good form
 pub form-good : (s : List ℕ) (m : ℕ) → learnable s ≡ Good m → (n : ℕ) × (lookOver s ≡ Good n)

@@ -1,4 +1,4 @@
--- What the functions of the learner say of what is held.
+-- What the functions of the learner say of what is observed.
 use Prim.Native.Nat.{ℕ}
 use mathlib.Core.Path.{_≡_}
 use mathlib.Core.List.{List}
@@ -6,25 +6,25 @@ use lib.ListN.{length}
 use Rattle.answer.specs.declared.Answer.{Answer}
 use Rattle.answer.specs.declared.Answer.the-variants.{Good}
 use Rattle.format.specs.LookOver.{lookOver}
-use Rattle.held.specs.Held.{Held, holdAll, nothingSeen}
-use Rattle.notes.specs.Notes.{Holds}
+use Rattle.observed.specs.Observed.{Observed, observeAll, nothingSeen}
+use Rattle.notes.specs.Notes.{IsObserved}
 use Rattle.jobs.specs.Planning.{filedIn}
 use Rattle.jobs.specs.Learn.{learnable, learn, learnBytes}
 use Rattle.walk.specs.declared.Walked.{Walked}
 
--- what is held after all steps of a book
-unfoldable pub heldOf : List ℕ → Held
-heldOf s = holdAll (filedIn s) nothingSeen
+-- what is observed after all steps of a book
+unfoldable pub observedOf : List ℕ → Observed
+observedOf s = observeAll (filedIn s) nothingSeen
 
--- rows 1 to 10, and what is held where they are good
-pub record FormNoted (s bytes : List ℕ) (w : Walked) : Type 0 where
+-- rows 1 to 10, and what is observed where they are good
+pub record FormObserved (s bytes : List ℕ) (w : Walked) : Type 0 where
   pub says : w .answer ≡ lookOver s
-  pub holds : (m : ℕ) → w .answer ≡ Good m → Holds (heldOf s) bytes (w .named)
+  pub observes : (m : ℕ) → w .answer ≡ Good m → IsObserved (observedOf s) bytes (w .named)
 
--- rows 1 to 12, and what is held where they are good
-pub record Noted (s bytes : List ℕ) (r : Answer) : Type 0 where
+-- rows 1 to 12, and what is observed where they are good
+pub record BookObserved (s bytes : List ℕ) (r : Answer) : Type 0 where
   pub says : r ≡ learnable s
-  pub holds : (m : ℕ) → r ≡ Good m → bytes ≡ heldOf s .masks
+  pub observes : (m : ℕ) → r ≡ Good m → bytes ≡ observedOf s .masks
 
 -- learning into a lent sheet: the answer, and every byte of the sheet afterwards
 pub record LearnOutcome (s old new : List ℕ) (r : Answer) : Type 0 where

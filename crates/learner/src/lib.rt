@@ -1,18 +1,18 @@
-// Learning: the records of a book walked once, each looked over and noted; then rows 11 to 13 and the rule sheet from what is held.
-// Uses sections and walk for the rows of the form, rulesheet and conflicts for what comes of what is held.
+// Learning: the records of a book walked once, each looked over and noted; then rows 11 to 13 and the rule sheet from what is observed.
+// Uses sections and walk for the rows of the form, rulesheet and conflicts for what comes of what is observed.
 use answer::Answer;
 use terms::Sections;
 use walk::Walked;
 ghost use mathlib.Core.Path.{_≡_};
 ghost use lib.ListN.{length};
-ghost use Rattle.limits.specs.Limits.{heldSize};
-ghost use Rattle.learner.specs.Learner.{FormNoted, Noted, LearnOutcome};
+ghost use Rattle.limits.specs.Limits.{observedSize};
+ghost use Rattle.learner.specs.Learner.{FormObserved, BookObserved, LearnOutcome};
 ghost use Rattle.terms.specs.Sections.{sectionsOf};
 
 // Rows 1 to 10: the book looked over and noted in one walk.
-fn note_form(s: &[u8], h: Sections, held: &mut [u8]) -> Walked
-    requires { ⌜ (h ≡ sectionsOf (now s)) × (length (now held) ≡ heldSize) ⌝ }
-    ensures { λ r. ⌜ FormNoted (now (s .entry)) (now (held .exit)) r ⌝ }
+fn observe_form(s: &[u8], h: Sections, observed: &mut [u8]) -> Walked
+    requires { ⌜ (h ≡ sectionsOf (now s)) × (length (now observed) ≡ observedSize) ⌝ }
+    ensures { λ r. ⌜ FormObserved (now (s .entry)) (now (observed .exit)) r ⌝ }
 {
     let a = sections::sections(s, h);
     if answer::is_refused(a) {
@@ -21,22 +21,22 @@ fn note_form(s: &[u8], h: Sections, held: &mut [u8]) -> Walked
             named: 0,
         };
     }
-    notes::nothing_seen(held);
+    notes::nothing_seen(observed);
     walk::records(
         s,
         h.records.count as usize,
         h.records.at as usize,
         true,
-        held,
+        observed,
     )
 }
 
-// Rows 1 to 12: then what rows 11 and 12 say of what is held.
-pub fn note_book(s: &[u8], h: Sections, held: &mut [u8]) -> Answer
-    requires { ⌜ (h ≡ sectionsOf (now s)) × (length (now held) ≡ heldSize) ⌝ }
-    ensures { λ r. ⌜ Noted (now (s .entry)) (now (held .exit)) r ⌝ }
+// Rows 1 to 12: then what rows 11 and 12 say of what is observed.
+pub fn observe_book(s: &[u8], h: Sections, observed: &mut [u8]) -> Answer
+    requires { ⌜ (h ≡ sectionsOf (now s)) × (length (now observed) ≡ observedSize) ⌝ }
+    ensures { λ r. ⌜ BookObserved (now (s .entry)) (now (observed .exit)) r ⌝ }
 {
-    let w = note_form(s, h, held);
+    let w = observe_form(s, h, observed);
     let a = w.answer;
     if answer::is_refused(a) {
         return a;
@@ -45,7 +45,7 @@ pub fn note_book(s: &[u8], h: Sections, held: &mut [u8]) -> Answer
     if answer::is_refused(b) {
         return b;
     }
-    let c = conflicts::conflict_among(s, h, held);
+    let c = conflicts::conflict_among(s, h, observed);
     if answer::is_refused(c) {
         return c;
     }
@@ -57,14 +57,14 @@ pub fn learn(s: &[u8], sheet: &mut [u8]) -> Answer
     ensures { λ r. ⌜ LearnOutcome (now (s .entry)) (now (sheet .entry)) (now (sheet .exit)) r ⌝ }
 {
     let h = Sections::read(s);
-    let mut held = [0u8; limits::HELD_SIZE];
-    let a = note_book(s, h, &mut held);
+    let mut observed = [0u8; limits::OBSERVED_SIZE];
+    let a = observe_book(s, h, &mut observed);
     if answer::is_refused(a) {
         return a;
     }
     if sheet.len() != limits::RULE_SIZE * h.moves.count as usize {
         return Answer::Refused(13, 0);
     }
-    rulesheet::write_sheet(s, h, &held, sheet);
+    rulesheet::write_sheet(s, h, &observed, sheet);
     a
 }

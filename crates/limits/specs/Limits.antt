@@ -84,17 +84,17 @@ endSheetSize = 512
 abbrev pub sheetMax : ℕ
 sheetMax = 4096
 
--- ---- what the learner holds
+-- ---- what the learner has observed
 
 -- six sets of bound facts for each move, in bytes
-abbrev pub heldSets : ℕ
-heldSets = 6
+abbrev pub observedSets : ℕ
+observedSets = 6
 
-abbrev pub heldPerMove : ℕ
-heldPerMove = 192
+abbrev pub observedPerMove : ℕ
+observedPerMove = 192
 
-abbrev pub heldSize : ℕ
-heldSize = 6144
+abbrev pub observedSize : ℕ
+observedSize = 6144
 
 -- ---- the numbers of bound facts and of facts: each is below the greatest, and a relation has so many
 

@@ -60,14 +60,14 @@ pub const END_SHEET_SIZE: usize = 512;
 // The most that a rule sheet comes to: the four sets of each move.
 pub const SHEET_MAX: usize = 32 * RULE_SIZE;
 
-// ---- what the learner holds
+// ---- what the learner has observed
 
 // Six sets of bound facts for each move, in bytes.
-pub const HELD_SETS: usize = 6;
+pub const OBSERVED_SETS: usize = 6;
 
-pub const HELD_PER_MOVE: usize = HELD_SETS * SET_SIZE;
+pub const OBSERVED_PER_MOVE: usize = OBSERVED_SETS * SET_SIZE;
 
-pub const HELD_SIZE: usize = 32 * HELD_PER_MOVE;
+pub const OBSERVED_SIZE: usize = 32 * OBSERVED_PER_MOVE;
 
 // ---- the numbers of bound facts
 

@@ -15,8 +15,8 @@ use Rattle.terms.specs.declared.Object.{Object}
 use Rattle.terms.specs.declared.Binding.{Binding}
 use Rattle.terms.specs.declared.Fact.{Fact}
 use Rattle.terms.specs.Steps.{objectOf}
-use Rattle.held.specs.Inverse.{gives, paramOf, placeBound, factBound, atomOf, mark}
-use Rattle.held.proofs.Params.{param-most}
+use Rattle.observed.specs.Inverse.{gives, paramOf, placeBound, factBound, atomOf, mark}
+use Rattle.observed.proofs.Params.{param-most}
 use Rattle.marks.specs.Marks.{share, pairOf, noShares, Inverts}
 
 -- ---- the table

@@ -14,7 +14,7 @@ use Rattle.terms.specs.declared.Fact.{Fact}
 use Rattle.terms.specs.Facts.{factAt}
 use Rattle.limits.specs.Limits.{factSize, nearCeiling}
 use Rattle.format.specs.Decode.{factsAt, stateAt, stateEnd}
-use Rattle.held.specs.Inverse.{mark, marks, unbound, sameFacts, unboundChanged}
+use Rattle.observed.specs.Inverse.{mark, marks, unbound, sameFacts, unboundChanged}
 use Rattle.marks.specs.declared.Cursor.{Cursor}
 use Rattle.marks.specs.Marks.{pairOf, rest, Ahead, next, Comes}
 use Rattle.marks.proofs.Atoms.{pair-test}

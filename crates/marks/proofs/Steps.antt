@@ -11,8 +11,8 @@ use Rattle.truth.specs.Bools.{clash, and-out}
 use Rattle.mask.specs.Sets.{empty}
 use Rattle.terms.specs.declared.Binding.{Binding}
 use Rattle.terms.specs.declared.Fact.{Fact}
-use Rattle.held.specs.Inverse.{marks, atomsIn, sameFact, sameFacts, unbound, unboundChanged}
-use Rattle.held.proofs.Facts.{same-fact}
+use Rattle.observed.specs.Inverse.{marks, atomsIn, sameFact, sameFacts, unbound, unboundChanged}
+use Rattle.observed.proofs.Facts.{same-fact}
 use Rattle.marks.specs.declared.Cursor.{Cursor}
 use Rattle.marks.specs.declared.Walk.{Walk}
 use Rattle.marks.specs.Marks.{pairOf, rest, Ahead, Comes, says, Turned, StepMarked}

@@ -4,7 +4,7 @@ use mathlib.Core.Bool.{Bool, true, false, cond, _||_, not}
 use mathlib.Core.List.{List, [], _∷_}
 use Rattle.terms.specs.declared.Binding.{Binding}
 use Rattle.terms.specs.declared.Fact.{Fact}
-use Rattle.held.specs.Inverse.{factBound, unbound, sameFact, sameFacts, unboundChanged}
+use Rattle.observed.specs.Inverse.{factBound, unbound, sameFact, sameFacts, unboundChanged}
 
 module _ (b : Binding) where
   -- a fact after, of which none of those before is the same: it is a bound fact or a change

@@ -10,7 +10,7 @@ use Rattle.terms.specs.declared.Binding.{Binding}
 use Rattle.terms.specs.declared.Fact.{Fact}
 use Rattle.limits.specs.Limits.{factSize, atomsPerRelation, farCeiling}
 use Rattle.format.specs.Decode.{factsAt}
-use Rattle.held.specs.Inverse.{paramOf, placeBound, marks, atomsIn, unboundChanged}
+use Rattle.observed.specs.Inverse.{paramOf, placeBound, marks, atomsIn, unboundChanged}
 use Rattle.marks.specs.declared.Cursor.{Cursor}
 use Rattle.marks.specs.declared.Walk.{Walk}
 

@@ -7,7 +7,7 @@ ghost use lib.ListN.{length, set};
 ghost use Rattle.limits.specs.Limits.{setSize, nearCeiling, farCeiling};
 ghost use Rattle.mask.specs.Sets.{empty};
 ghost use Rattle.format.specs.Decode.{stateAt, stateEnd};
-ghost use Rattle.held.specs.Inverse.{mark, marks, sameFact, unboundChanged};
+ghost use Rattle.observed.specs.Inverse.{mark, marks, sameFact, unboundChanged};
 ghost use Rattle.marks.specs.Marks.{noShares, Inverts, pairOf, rest, next, Ahead, Comes, Turned, StepMarked};
 use terms::Binding;
 use terms::Fact;

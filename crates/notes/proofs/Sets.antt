@@ -1,4 +1,4 @@
--- Sets in the bytes of what is held: a part that was lent and came back, and a step's six sets. Uses the definitions of held, and the kit's for
+-- Sets in the bytes of what is observed: a part that was lent and came back, and a step's six sets. Uses the definitions of held, and the kit's for
 -- a part of a slice.
 use Prim.Native.Nat.{ℕ, _+_, _-_, _*_}
 use mathlib.Core.Path.{_≡_, sym}
@@ -8,7 +8,7 @@ use borrow.Rule.Slice.PartMut.{midOf, putMid}
 use lib.ListN.{take, drop}
 use lib.Seq.{drop-drop}
 use Rattle.mask.specs.Sets.{intersection, union, difference}
-use Rattle.held.specs.Held.{alwaysBefore, everBefore, alwaysAfter, everAfter, added, deleted, setAt, onSet, noted}
+use Rattle.observed.specs.Observed.{alwaysBefore, everBefore, alwaysAfter, everAfter, added, deleted, setAt, onSet, noted}
 use Rattle.notes.specs.Notes.{narrowed, widened}
 
 set-back : (f : List ℕ → List ℕ) (at k : ℕ) (l m : List ℕ) → k ≡ 32 → m ≡ f (midOf at k l) → putMid at k l m ≡ onSet at f l

@@ -1,4 +1,4 @@
--- What is held before any record, byte by byte. Uses the laws of masks.
+-- What is observed before any record, byte by byte. Uses the laws of masks.
 use Prim.Native.Nat.{ℕ, _+_, _*_, _/_, _%_, _<_, _≤_}
 use mathlib.Core.Path.{_≡_, refl, ap, _∙_}
 use mathlib.Core.Bool.{Bool, true, false, cond, _||_}
@@ -8,11 +8,11 @@ use native.Mathlib.Omega.{arith}
 use lib.Dec.{eqb, lit<}
 use lib.ListN.{length, getD, set, length-set, List·getD-eq-default}
 use lib.Seq.{getD-set-same, getD-set-other}
-use Rattle.limits.specs.Limits.{heldSize}
+use Rattle.limits.specs.Limits.{observedSize}
 use Rattle.mask.specs.Bits.{bitOf, testBit, Bytes}
 use Rattle.mask.proofs.Numbers.{bit-none, bit-all}
 use Rattle.mask.proofs.Whole.{is-maskOf}
-use Rattle.held.specs.Held.{nothingSeen}
+use Rattle.observed.specs.Observed.{nothingSeen}
 use Rattle.notes.specs.Notes.{firstByte}
 
 cond-bit : (b : Bool) (j : ℕ) → j < 8 → bitOf (cond b 255 0) j ≡ b
@@ -27,7 +27,7 @@ cond-byte false = lit< tt
 everything : ℕ → Bool
 everything k = eqb (k % 6) 0 || eqb (k % 6) 2
 
-module _ (m : List ℕ) (long : length m ≡ heldSize) (filled : (i : ℕ) → i < length m → getD m i 0 ≡ firstByte i) where
+module _ (m : List ℕ) (long : length m ≡ observedSize) (filled : (i : ℕ) → i < length m → getD m i 0 ≡ firstByte i) where
   first-bytes : Bytes m
   unfolding firstByte everything
   first-bytes i = go (decLt i (length m))
@@ -38,7 +38,7 @@ module _ (m : List ℕ) (long : length m ≡ heldSize) (filled : (i : ℕ) → i
           let h : length m ≤ i = omega arith in
           omega (arith, List·getD-eq-default m 0 h)
 
-  first-bits : (n : ℕ) → n < 8 * heldSize → testBit m n ≡ everything (n / 256)
+  first-bits : (n : ℕ) → n < 8 * observedSize → testBit m n ≡ everything (n / 256)
   unfolding testBit firstByte everything
   first-bits n h =
       let e : n / 8 / 32 ≡ n / 256 = omega arith in
@@ -62,9 +62,9 @@ filled-next {m₀} {m} {i} {v} w h e =
     go k l (yes q) = rw q (getD-set-same m i v 0 h ∙ e)
     go k l (no d) = getD-set-other m i k v 0 d ∙ w .bytes k (omega arith)
 
-pub filled-all : {m₀ m : List ℕ} {i : ℕ} → Filled m₀ m i → length m ≤ i → length m₀ ≡ heldSize → m ≡ nothingSeen .masks
+pub filled-all : {m₀ m : List ℕ} {i : ℕ} → Filled m₀ m i → length m ≤ i → length m₀ ≡ observedSize → m ≡ nothingSeen .masks
 unfolding nothingSeen everything
 filled-all {m₀} {m} {i} w h e =
-    let n : length m ≡ heldSize = w .long ∙ e in
+    let n : length m ≡ observedSize = w .long ∙ e in
     let all : (k : ℕ) → k < length m → getD m k 0 ≡ firstByte k = λ k l. w .bytes k (omega arith) in
-    is-maskOf m heldSize (λ k. everything (k / 256)) n (first-bytes m n all) (first-bits m n all)
+    is-maskOf m observedSize (λ k. everything (k / 256)) n (first-bytes m n all) (first-bits m n all)

@@ -1,13 +1,13 @@
--- What is held after a step, in the parts that the functions compute. `Holds` and `heldStep` are for callers. Uses the definitions of held and format.
+-- What is observed after a step, in the parts that the functions compute. `IsObserved` and `observedStep` are for callers. Uses the definitions of held and format.
 use Prim.Native.Nat.{ℕ, _/_, _%_}
 use mathlib.Core.Path.{_≡_}
 use mathlib.Core.Bool.{cond, _||_}
 use mathlib.Core.List.{List}
 use lib.Dec.{eqb}
-use Rattle.limits.specs.Limits.{setSize, heldSets}
+use Rattle.limits.specs.Limits.{setSize, observedSets}
 use Rattle.mask.specs.Sets.{intersection, union}
 use Rattle.format.specs.Decode.{filedStep}
-use Rattle.held.specs.Held.{alwaysBefore, alwaysAfter, Held, onSet, hold}
+use Rattle.observed.specs.Observed.{alwaysBefore, alwaysAfter, Observed, onSet, observe}
 
 -- the set at an offset, intersected and united with another
 unfoldable pub narrowed : ℕ → List ℕ → List ℕ → List ℕ
@@ -16,15 +16,15 @@ narrowed at m l = onSet at (λ x. intersection x m) l
 unfoldable pub widened : ℕ → List ℕ → List ℕ → List ℕ
 widened at m l = onSet at (λ x. union x m) l
 
--- what is held after the step at an offset, with the state before it at another, of what was held before it
-unfoldable pub heldStep : List ℕ → ℕ → ℕ → List ℕ → ℕ → Held
-heldStep s pre at masks named = hold (filedStep s pre at) (record { masks = masks; named = named })
+-- what is observed after the step at an offset, with the state before it at another, of what was observed before it
+unfoldable pub observedStep : List ℕ → ℕ → ℕ → List ℕ → ℕ → Observed
+observedStep s pre at masks named = observe (filedStep s pre at) (record { masks = masks; named = named })
 
--- bytes and an offset that are what is held
-pub record Holds (h : Held) (bytes : List ℕ) (offset : ℕ) : Type 0 where
+-- bytes and an offset that are what is observed
+pub record IsObserved (h : Observed) (bytes : List ℕ) (offset : ℕ) : Type 0 where
   pub masks : bytes ≡ h .masks
   pub named : offset ≡ h .named
 
--- byte i of what is held before any record: the two sets of each move that hold what is so at every step have everything
+-- byte i of what is observed before any record: the two sets of each move that hold what is so at every step have everything
 unfoldable pub firstByte : ℕ → ℕ
-firstByte i = cond (eqb (i / setSize % heldSets) alwaysBefore || eqb (i / setSize % heldSets) alwaysAfter) 255 0
+firstByte i = cond (eqb (i / setSize % observedSets) alwaysBefore || eqb (i / setSize % observedSets) alwaysAfter) 255 0

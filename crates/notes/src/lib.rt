@@ -1,56 +1,82 @@
-// What the learner holds after a step: six sets of bound facts (lifted atoms) for each move, and the first step that row 11 names.
+// What the learner has observed after a step: six sets of bound facts (lifted atoms) for each move, and the first step that row 11 names.
 // Uses marks for the bound facts of a step, mask for the sets; the contracts cite held and format, and specs/Notes.antt for the parts.
 ghost use mathlib.Core.Path.{_≡_};
 ghost use Prim.Native.Nat.{_+_, _≤_};
 ghost use lib.ListN.{length};
-ghost use Rattle.limits.specs.Limits.{maxLength, maxMoves, stepSize, setSize, heldSize};
+ghost use Rattle.limits.specs.Limits.{maxLength, maxMoves, stepSize, setSize, observedSize};
 ghost use Rattle.mask.specs.Sets.{difference};
 ghost use Rattle.terms.specs.Steps.{stepAt};
 ghost use Rattle.format.specs.Decode.{stateEnd};
-ghost use Rattle.held.specs.Held.{noted, nothingSeen, firstNamed};
-ghost use Rattle.notes.specs.Notes.{narrowed, widened, heldStep, Holds, firstByte};
+ghost use Rattle.observed.specs.Observed.{noted, nothingSeen, firstNamed};
+ghost use Rattle.notes.specs.Notes.{narrowed, widened, observedStep, IsObserved, firstByte};
 use terms::Move;
 use terms::Step;
 
-// ---- after a step: its sets come by value, so that they share no memory with what is held
+// ---- after a step: its sets come by value, so that they share no memory with what is observed
 
-fn narrow(held: &mut [u8], at: usize, m: [u8; 32])
-    requires { ⌜ at + setSize ≤ length (now held) ⌝ }
-    ensures { λ _. ⌜ now (held .exit) ≡ narrowed at m (now (held .entry)) ⌝ }
+fn narrow(observed: &mut [u8], at: usize, m: [u8; 32])
+    requires { ⌜ at + setSize ≤ length (now observed) ⌝ }
+    ensures { λ _. ⌜ now (observed .exit) ≡ narrowed at m (now (observed .entry)) ⌝ }
 {
     let end = at + limits::SET_SIZE;
-    mask::intersect(&mut held[at..end], &m);
+    mask::intersect(&mut observed[at..end], &m);
 }
 
-fn widen(held: &mut [u8], at: usize, m: [u8; 32])
-    requires { ⌜ at + setSize ≤ length (now held) ⌝ }
-    ensures { λ _. ⌜ now (held .exit) ≡ widened at m (now (held .entry)) ⌝ }
+fn widen(observed: &mut [u8], at: usize, m: [u8; 32])
+    requires { ⌜ at + setSize ≤ length (now observed) ⌝ }
+    ensures { λ _. ⌜ now (observed .exit) ≡ widened at m (now (observed .entry)) ⌝ }
 {
     let end = at + limits::SET_SIZE;
-    mask::unite(&mut held[at..end], &m);
+    mask::unite(&mut observed[at..end], &m);
 }
 
 // Only what is in `to` and not in `from` changed: an effect is a change seen.
-fn widen_by_change(held: &mut [u8], at: usize, from: [u8; 32], to: [u8; 32])
-    requires { ⌜ at + setSize ≤ length (now held) ⌝ }
-    ensures { λ _. ⌜ now (held .exit) ≡ widened at (difference to from) (now (held .entry)) ⌝ }
+fn widen_by_change(observed: &mut [u8], at: usize, from: [u8; 32], to: [u8; 32])
+    requires { ⌜ at + setSize ≤ length (now observed) ⌝ }
+    ensures { λ _. ⌜ now (observed .exit) ≡ widened at (difference to from) (now (observed .entry)) ⌝ }
 {
     let end = at + limits::SET_SIZE;
-    mask::unite_difference(&mut held[at..end], &to, &from);
+    mask::unite_difference(&mut observed[at..end], &to, &from);
 }
 
 // One step of a move, by its bound facts before and after it, in the move's six sets.
-fn note(held: &mut [u8], a: Move, before: [u8; 32], after: [u8; 32])
-    requires { ⌜ (1 ≤ a .0) × (a .0 ≤ maxMoves) × (length (now held) ≡ heldSize) ⌝ }
-    ensures { λ _. ⌜ now (held .exit) ≡ noted (a .0) before after (now (held .entry)) ⌝ }
+fn note(observed: &mut [u8], a: Move, before: [u8; 32], after: [u8; 32])
+    requires { ⌜ (1 ≤ a .0) × (a .0 ≤ maxMoves) × (length (now observed) ≡ observedSize) ⌝ }
+    ensures { λ _. ⌜ now (observed .exit) ≡ noted (a .0) before after (now (observed .entry)) ⌝ }
 {
-    let at = limits::HELD_PER_MOVE * (a.0 as usize - 1);
-    narrow(held, at + limits::SET_SIZE * held::ALWAYS_BEFORE, before);
-    widen(held, at + limits::SET_SIZE * held::EVER_BEFORE, before);
-    narrow(held, at + limits::SET_SIZE * held::ALWAYS_AFTER, after);
-    widen(held, at + limits::SET_SIZE * held::EVER_AFTER, after);
-    widen_by_change(held, at + limits::SET_SIZE * held::ADDED, before, after);
-    widen_by_change(held, at + limits::SET_SIZE * held::DELETED, after, before);
+    let at = limits::OBSERVED_PER_MOVE * (a.0 as usize - 1);
+    narrow(
+        observed,
+        at + limits::SET_SIZE * observed::ALWAYS_BEFORE,
+        before,
+    );
+    widen(
+        observed,
+        at + limits::SET_SIZE * observed::EVER_BEFORE,
+        before,
+    );
+    narrow(
+        observed,
+        at + limits::SET_SIZE * observed::ALWAYS_AFTER,
+        after,
+    );
+    widen(
+        observed,
+        at + limits::SET_SIZE * observed::EVER_AFTER,
+        after,
+    );
+    widen_by_change(
+        observed,
+        at + limits::SET_SIZE * observed::ADDED,
+        before,
+        after,
+    );
+    widen_by_change(
+        observed,
+        at + limits::SET_SIZE * observed::DELETED,
+        after,
+        before,
+    );
 }
 
 // The offset of the first step that row 11 names, 0 for none: `named` of the steps before, and the step at `at` if it is `unbound`.
@@ -66,19 +92,19 @@ fn first_named(named: usize, unbound: bool, at: usize) -> usize
     0
 }
 
-// What is held after the step at `at`, before which the state at `pre` stands: returns the offset of the first step that row 11 names, 0 for none.
-pub fn hold(s: &[u8], pre: usize, at: usize, held: &mut [u8], named: usize) -> usize
-    requires { ⌜ (pre ≤ maxLength) × (at ≤ maxLength) × (length (now held) ≡ heldSize) ⌝ }
+// What is observed after the step at `at`, before which the state at `pre` stands: returns the offset of the first step that row 11 names, 0 for none.
+pub fn observe(s: &[u8], pre: usize, at: usize, observed: &mut [u8], named: usize) -> usize
+    requires { ⌜ (pre ≤ maxLength) × (at ≤ maxLength) × (length (now observed) ≡ observedSize) ⌝ }
     requires { ⌜ (1 ≤ stepAt (now s) at .action .0) × (stepAt (now s) at .action .0 ≤ maxMoves) ⌝ }
     requires { ⌜ (stateEnd (now s) pre ≤ length (now s)) × (stateEnd (now s) (at + stepSize) ≤ length (now s)) ⌝ }
-    ensures { λ r. ⌜ Holds (heldStep (now (s .entry)) pre at (now (held .entry)) named) (now (held .exit)) r ⌝ }
+    ensures { λ r. ⌜ IsObserved (observedStep (now (s .entry)) pre at (now (observed .entry)) named) (now (observed .exit)) r ⌝ }
 {
     let step = Step::read(s, at);
     let post = at + limits::STEP_SIZE;
     let mut before = mask::empty32();
     let mut after = mask::empty32();
     let unbound = marks::mark_step(s, step.binding, pre, post, &mut before, &mut after);
-    note(held, step.action, before, after);
+    note(observed, step.action, before, after);
     first_named(named, unbound, at)
 }
 
@@ -87,20 +113,20 @@ pub fn hold(s: &[u8], pre: usize, at: usize, held: &mut [u8], named: usize) -> u
 fn first_byte(i: usize) -> u8
     ensures { λ r. ⌜ r ≡ firstByte i ⌝ }
 {
-    let set = i / limits::SET_SIZE % limits::HELD_SETS;
-    if (set == held::ALWAYS_BEFORE) | (set == held::ALWAYS_AFTER) {
+    let set = i / limits::SET_SIZE % limits::OBSERVED_SETS;
+    if (set == observed::ALWAYS_BEFORE) | (set == observed::ALWAYS_AFTER) {
         return 255;
     }
     0
 }
 
-pub fn nothing_seen(held: &mut [u8])
-    requires { ⌜ length (now held) ≡ heldSize ⌝ }
-    ensures { λ _. ⌜ now (held .exit) ≡ nothingSeen .masks ⌝ }
+pub fn nothing_seen(observed: &mut [u8])
+    requires { ⌜ length (now observed) ≡ observedSize ⌝ }
+    ensures { λ _. ⌜ now (observed .exit) ≡ nothingSeen .masks ⌝ }
 {
     let mut i = 0;
-    while i < held.len() {
-        held[i] = first_byte(i);
+    while i < observed.len() {
+        observed[i] = first_byte(i);
         i += 1;
     }
 }

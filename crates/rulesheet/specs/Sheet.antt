@@ -4,14 +4,14 @@ use mathlib.Core.Path.{_≡_}
 use mathlib.Core.Bool.{true, false}
 use mathlib.Core.List.{List, [], _∷_, _++_}
 use lib.ListN.{length, getD}
-use Rattle.limits.specs.Limits.{heldSize, maxMoves}
+use Rattle.limits.specs.Limits.{observedSize, maxMoves}
 use Rattle.terms.specs.Schema.{Schema}
 use Rattle.jobs.specs.SheetBits.{needSet, effectSet}
-use Rattle.held.specs.Rules.{ruleSet}
+use Rattle.observed.specs.Rules.{ruleSet}
 
--- what is held has its size, and the move is one of those that it has sets of
-abbrev pub MoveHeld : List ℕ → ℕ → Type 0
-MoveHeld l a = (length l ≡ heldSize) × (1 ≤ a) × (a ≤ maxMoves)
+-- what is observed has its size, and the move is one of those that it has sets of
+abbrev pub MoveObserved : List ℕ → ℕ → Type 0
+MoveObserved l a = (length l ≡ observedSize) × (1 ≤ a) × (a ≤ maxMoves)
 
 unfoldable pub ruleSets : Schema → List ℕ → ℕ → List (List ℕ)
 ruleSets sch l a =

@@ -21,7 +21,7 @@ use Rattle.model.proofs.Quantify.{first-map}
 use Rattle.model.proofs.Lockstep.{run-stop, run-go}
 use Rattle.jobs.specs.Planning.{holding, groundAction, goalEntry}
 use Rattle.jobs.specs.Check.{runAnswer, endSheet}
-use Rattle.held.specs.Rules.{ruleSet}
+use Rattle.observed.specs.Rules.{ruleSet}
 use Rattle.statemask.specs.Statemask.{startMask, stepInapplicable, stepNext, Carried, carry, missed, misses}
 use Rattle.statemask.specs.Carrying.{Under, Ruled, InMask, Carrying, Agrees, carriedAnswer}
 use Rattle.statemask.proofs.Masks.{test-mask, start-mask}

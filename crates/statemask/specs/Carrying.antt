@@ -16,7 +16,7 @@ use Rattle.model.specs.Model.{Model, Valid, Run, stopped, ended}
 use Rattle.jobs.specs.SheetBits.{needSet, effectSet}
 use Rattle.jobs.specs.Planning.{groundAction}
 use Rattle.jobs.specs.Check.{goalAnswer}
-use Rattle.held.specs.Rules.{ruleSet}
+use Rattle.observed.specs.Rules.{ruleSet}
 use Rattle.statemask.specs.Statemask.{Carried, missed}
 
 -- no fact holds that the mask has no bit for
@@ -35,7 +35,7 @@ pub record InMask (D : Domain) (s : GroundAction) : Type 0 where
   pub ranged : (n : ℕ) → D .atom (s .action) n ≡ true → n < D .atoms
   pub under : (n : ℕ) → D .atom (s .action) n ≡ true → s .ground n < maxFactNumbers
 
--- what is asked of a plan, its schema and what is held, for a model and its domain
+-- what is asked of a plan, its schema and what is observed, for a model and its domain
 pub record Carrying (D : Domain) (M : Model) (sch : Schema) (l : List ℕ) (plan : List Step) : Type 0 where
   pub few : D .atoms ≤ maxAtoms
   pub valid : Valid D M

@@ -14,7 +14,7 @@ use Rattle.terms.specs.Facts.{factNumber}
 use Rattle.terms.specs.Steps.{ground}
 use Rattle.format.specs.Order.{GoalEntry}
 use Rattle.model.specs.Quantify.{same, below, first}
-use Rattle.held.specs.Rules.{ruleSet}
+use Rattle.observed.specs.Rules.{ruleSet}
 
 -- the facts put into a mask
 unfoldable pub withFacts : List Fact → List ℕ → List ℕ
@@ -40,7 +40,7 @@ effects value set g m (suc n) = cond (testBit set n) (putBit value (effects valu
 unfoldable pub nextIn : (ℕ → List ℕ) → (ℕ → ℕ) → List ℕ → List ℕ
 nextIn R g m = effects true (R (effectSet true)) g (effects false (R (effectSet false)) g m maxAtoms) maxAtoms
 
--- one step by what is held: whether it is inapplicable, and the mask after it
+-- one step by what is observed: whether it is inapplicable, and the mask after it
 unfoldable pub stepInapplicable : Schema → List ℕ → Step → List ℕ → Bool
 stepInapplicable sch l st m = inapplicableIn (ruleSet sch l (st .action .0)) (ground sch (st .binding)) m
 

@@ -23,71 +23,71 @@ use Rattle.records.specs.declared.Head.{Head}
 use Rattle.records.specs.Head.{headOf}
 use Rattle.wellformed.proofs.Suits.{move-known}
 use Rattle.wellformed.proofs.Records.{step-parted}
-use Rattle.held.specs.Held.{Held, holdAll, heldAfter}
-use Rattle.held.proofs.Records.{held-none, held-more}
-use Rattle.notes.specs.Notes.{Holds}
-use Rattle.walk.specs.Walk.{Noteable, RecordsWalked}
-use Rattle.walk.proofs.Steps.{holding, holds-path}
+use Rattle.observed.specs.Observed.{Observed, observeAll, observedAfter}
+use Rattle.observed.proofs.Records.{observed-none, observed-more}
+use Rattle.notes.specs.Notes.{IsObserved}
+use Rattle.walk.specs.Walk.{Observable, RecordsWalked}
+use Rattle.walk.proofs.Steps.{observedAs, observed-path}
 
 -- the steps behind a good state, if they are good
-noteable-steps : (sch : Schema) (hl : Hall) (s : List ℕ) (end : ℕ) → end ≤ length s → length s ≤ maxLength → sch .moves ≤ maxMoves
-    → (n at mid last : ℕ) → at ≤ maxLength → state sch hl s end at ≡ Good mid → walk (step sch hl s end) n mid ≡ Good last → Noteable s n at
-unfolding Noteable
-noteable-steps sch hl s end short long few zero at mid last l e f = (l, omega (arith, state-ends sch hl s end at mid e))
-noteable-steps sch hl s end short long few (suc n) at mid last l e f =
+observable-steps : (sch : Schema) (hl : Hall) (s : List ℕ) (end : ℕ) → end ≤ length s → length s ≤ maxLength → sch .moves ≤ maxMoves
+    → (n at mid last : ℕ) → at ≤ maxLength → state sch hl s end at ≡ Good mid → walk (step sch hl s end) n mid ≡ Good last → Observable s n at
+unfolding Observable
+observable-steps sch hl s end short long few zero at mid last l e f = (l, omega (arith, state-ends sch hl s end at mid e))
+observable-steps sch hl s end short long few (suc n) at mid last l e f =
     let (after, good, rest) = trajectory-parted sch hl s end n at mid last e f in
     let (right, behind) = step-parted sch hl s end (stateEnd s at) after good in
     let k = move-known sch hl (stepAt s (stateEnd s at)) right in
     let reach = step-reach sch hl s end (stateEnd s at) after good in
-    (l, omega arith, omega arith, k .0, omega arith, noteable-steps sch hl s end short long few n (stateEnd s at + stepSize) after last (omega arith) behind rest)
+    (l, omega arith, omega arith, k .0, omega arith, observable-steps sch hl s end short long few n (stateEnd s at + stepSize) after last (omega arith) behind rest)
 
 module _ (h : Sections) (s : List ℕ) (long : length s ≤ maxLength) (few : h .moves .count ≤ maxMoves) where
-  pub record-noteable : (at next : ℕ) → recordAt h s at ≡ Good next → Noteable s (stepsIn s at) (at + headSize + objectsIn s at)
+  pub record-observable : (at next : ℕ) → recordAt h s at ≡ Good next → Observable s (stepsIn s at) (at + headSize + objectsIn s at)
   unfolding schema
-  record-noteable at next e =
+  record-observable at next e =
       let g = record-good h s at next e in
       let end : ℕ = at + lengthIn s at in
       let l = head-limits s at (g .head) in
       let w = state-within _ _ s end _ (g .after) (g .start) in
       let v = state-end _ _ s end _ (g .after) (g .start) in
-      noteable-steps _ _ s end (omega arith) long few (stepsIn s at) _ (g .after) (g .last) (omega arith) (g .start) (g .steps)
+      observable-steps _ _ s end (omega arith) long few (stepsIn s at) _ (g .after) (g .last) (omega arith) (g .start) (g .steps)
 
 -- one record, by its head
 module _ (s : List ℕ) (at : ℕ) (head : Head) (read : head ≡ headOf s at) where
-  pub record-ready : Noteable s (stepsIn s at) (at + headSize + objectsIn s at) → Noteable s (head .steps) (at + headSize + head .objects)
+  pub record-ready : Observable s (stepsIn s at) (at + headSize + objectsIn s at) → Observable s (head .steps) (at + headSize + head .objects)
   unfolding headOf
   record-ready h = rw read h
 
-  pub record-held : (before : Held) (bytes : List ℕ) (named : ℕ)
-      → Holds (holdAll (filedAt s (head .steps) (at + headSize + head .objects)) before) bytes named
-      → Holds (holdAll (recordFiled s at) before) bytes named
+  pub record-observed : (before : Observed) (bytes : List ℕ) (named : ℕ)
+      → IsObserved (observeAll (filedAt s (head .steps) (at + headSize + head .objects)) before) bytes named
+      → IsObserved (observeAll (recordFiled s at) before) bytes named
   unfolding recordFiled headOf
-  record-held before bytes named h = rw read at h
+  record-observed before bytes named h = rw read at h
 
-module _ (s : List ℕ) (whole : Held) where
+module _ (s : List ℕ) (whole : Observed) where
   -- one record more
   pub record-turn : (n at next : ℕ) (masks masks′ : List ℕ) (named named′ : ℕ)
       → 0 < n
       → next ≡ at + lengthIn s at
-      → Holds (holdAll (recordFiled s at) (holding masks named)) masks′ named′
-      → holdAll (recordsFiled s n at) (holding masks named) ≡ whole
-      → holdAll (recordsFiled s (n - 1) next) (holding masks′ named′) ≡ whole
-  unfolding heldAfter
+      → IsObserved (observeAll (recordFiled s at) (observedAs masks named)) masks′ named′
+      → observeAll (recordsFiled s n at) (observedAs masks named) ≡ whole
+      → observeAll (recordsFiled s (n - 1) next) (observedAs masks′ named′) ≡ whole
+  unfolding observedAfter
   record-turn zero at next masks masks′ named named′ l e f i = absurd (omega arith)
   record-turn (suc n) at next masks masks′ named named′ l e f i =
-      rw (holds-path _ _ _ f, sub-one, e) (sym (held-more s at (holding masks named) n) ∙ i)
+      rw (observed-path _ _ _ f, sub-one, e) (sym (observed-more s at (observedAs masks named) n) ∙ i)
 
   pub records-done : (n at : ℕ) (masks : List ℕ) (named : ℕ)
       → n ≡ 0
-      → holdAll (recordsFiled s n at) (holding masks named) ≡ whole
-      → Holds whole masks named
+      → observeAll (recordsFiled s n at) (observedAs masks named) ≡ whole
+      → IsObserved whole masks named
   records-done n at masks named e i =
-      let j = sym (held-none s at (holding masks named)) ∙ rw e at i in
+      let j = sym (observed-none s at (observedAs masks named)) ∙ rw e at i in
       record { masks = ap (λ h. h .masks) j; named = ap (λ h. h .named) j }
 
--- a refusal says nothing of what is held
-pub refused-walked : (h : Sections) (s : List ℕ) (n from : ℕ) (noting : Bool) (before : Held) (bytes : List ℕ) (k p named : ℕ)
+-- a refusal says nothing of what is observed
+pub refused-walked : (h : Sections) (s : List ℕ) (n from : ℕ) (noting : Bool) (before : Observed) (bytes : List ℕ) (k p named : ℕ)
     → Refused k p ≡ allRecords h s n from
     → RecordsWalked h s n from noting before bytes (record { answer = Refused k p; named = named })
 refused-walked h s n from noting before bytes k p named e =
-    record { says = e; holds = λ y m f. good-refused m k p (sym f) }
+    record { says = e; observes = λ y m f. good-refused m k p (sym f) }

@@ -1,4 +1,4 @@
--- The steps of a record noted one by one: what is held with the steps still left is what is held after all.
+-- The steps of a record noted one by one: what is observed with the steps still left is what is observed after all.
 use Prim.Native.Nat.{ℕ, zero, suc, _+_, _-_, _≤_, _<_}
 use mathlib.Core.Path.{_≡_, ap}
 use mathlib.Core.List.{List}
@@ -8,45 +8,45 @@ use lib.ListN.{length}
 use Rattle.terms.specs.Steps.{stepAt}
 use Rattle.limits.specs.Limits.{maxLength, maxMoves, stepSize}
 use Rattle.format.specs.Decode.{stateEnd, filedAt}
-use Rattle.held.specs.Held.{Held, holdAll}
-use Rattle.notes.specs.Notes.{Holds, heldStep}
-use Rattle.walk.specs.Walk.{Noteable}
+use Rattle.observed.specs.Observed.{Observed, observeAll}
+use Rattle.notes.specs.Notes.{IsObserved, observedStep}
+use Rattle.walk.specs.Walk.{Observable}
 
-abbrev pub holding : List ℕ → ℕ → Held
-holding masks named = record { masks = masks; named = named }
+abbrev pub observedAs : List ℕ → ℕ → Observed
+observedAs masks named = record { masks = masks; named = named }
 
-pub holds-path : (h : Held) (bytes : List ℕ) (named : ℕ) → Holds h bytes named → holding bytes named ≡ h
-holds-path h bytes named e = λ i. record { masks = e .masks i; named = e .named i }
+pub observed-path : (h : Observed) (bytes : List ℕ) (named : ℕ) → IsObserved h bytes named → observedAs bytes named ≡ h
+observed-path h bytes named e = λ i. record { masks = e .masks i; named = e .named i }
 
-module _ (s : List ℕ) (whole : Held) where
+module _ (s : List ℕ) (whole : Observed) where
   -- one step more
   pub step-turn : (n at mid : ℕ) (masks masks′ : List ℕ) (named named′ : ℕ)
       → 0 < n
       → mid ≡ stateEnd s at
-      → Holds (heldStep s at mid masks named) masks′ named′
-      → holdAll (filedAt s n at) (holding masks named) ≡ whole
-      → holdAll (filedAt s (n - 1) (mid + stepSize)) (holding masks′ named′) ≡ whole
-  unfolding filedAt holdAll heldStep
+      → IsObserved (observedStep s at mid masks named) masks′ named′
+      → observeAll (filedAt s n at) (observedAs masks named) ≡ whole
+      → observeAll (filedAt s (n - 1) (mid + stepSize)) (observedAs masks′ named′) ≡ whole
+  unfolding filedAt observeAll observedStep
   step-turn zero at mid masks masks′ named named′ h e f i = absurd (omega arith)
-  step-turn (suc n) at mid masks masks′ named named′ h e f i = rw (holds-path _ _ _ f, sub-one, e) i
+  step-turn (suc n) at mid masks masks′ named named′ h e f i = rw (observed-path _ _ _ f, sub-one, e) i
 
   pub steps-done : (n at : ℕ) (masks : List ℕ) (named : ℕ)
       → n ≡ 0
-      → holdAll (filedAt s n at) (holding masks named) ≡ whole
-      → Holds whole masks named
-  unfolding filedAt holdAll
+      → observeAll (filedAt s n at) (observedAs masks named) ≡ whole
+      → IsObserved whole masks named
+  unfolding filedAt observeAll
   steps-done n at masks named e i =
       let j = rw e at i in
       record { masks = ap (λ h. h .masks) j; named = ap (λ h. h .named) j }
 
-pub noteable-at : (s : List ℕ) (n at : ℕ) → Noteable s n at → (at ≤ maxLength) × (stateEnd s at ≤ length s)
-unfolding Noteable
-noteable-at s zero at h = h
-noteable-at s (suc n) at h = (h .0, h .1)
+pub observable-at : (s : List ℕ) (n at : ℕ) → Observable s n at → (at ≤ maxLength) × (stateEnd s at ≤ length s)
+unfolding Observable
+observable-at s zero at h = h
+observable-at s (suc n) at h = (h .0, h .1)
 
 -- what the next step of a noteable record is
-pub noteable-next : (s : List ℕ) (n at mid : ℕ) → 0 < n → mid ≡ stateEnd s at → Noteable s n at
-    → (mid ≤ maxLength) × (1 ≤ stepAt s mid .action .0) × (stepAt s mid .action .0 ≤ maxMoves) × Noteable s (n - 1) (mid + stepSize)
-unfolding Noteable
-noteable-next s zero at mid h e i = absurd (omega arith)
-noteable-next s (suc n) at mid h e i = rw (e, sub-one) (i .2, i .3, i .4, i .5)
+pub observable-next : (s : List ℕ) (n at mid : ℕ) → 0 < n → mid ≡ stateEnd s at → Observable s n at
+    → (mid ≤ maxLength) × (1 ≤ stepAt s mid .action .0) × (stepAt s mid .action .0 ≤ maxMoves) × Observable s (n - 1) (mid + stepSize)
+unfolding Observable
+observable-next s zero at mid h e i = absurd (omega arith)
+observable-next s (suc n) at mid h e i = rw (e, sub-one) (i .2, i .3, i .4, i .5)

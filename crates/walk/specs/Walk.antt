@@ -10,22 +10,22 @@ use Rattle.terms.specs.Steps.{stepAt}
 use Rattle.limits.specs.Limits.{maxLength, maxMoves, stepSize}
 use Rattle.format.specs.LookOver.{allRecords}
 use Rattle.format.specs.Decode.{stateEnd, recordsFiled}
-use Rattle.held.specs.Held.{Held, holdAll}
-use Rattle.notes.specs.Notes.{Holds}
+use Rattle.observed.specs.Observed.{Observed, observeAll}
+use Rattle.notes.specs.Notes.{IsObserved}
 use Rattle.walk.specs.declared.Walked.{Walked}
 
 -- a state and a number of steps behind it lie within a book, each step of a move that there may be
-unfoldable pub Noteable : List ℕ → ℕ → ℕ → Type 0
-Noteable s zero at = (at ≤ maxLength) × (stateEnd s at ≤ length s)
-Noteable s (suc n) at =
+unfoldable pub Observable : List ℕ → ℕ → ℕ → Type 0
+Observable s zero at = (at ≤ maxLength) × (stateEnd s at ≤ length s)
+Observable s (suc n) at =
     (at ≤ maxLength)
     × (stateEnd s at ≤ length s)
     × (stateEnd s at ≤ maxLength)
     × (1 ≤ stepAt s (stateEnd s at) .action .0)
     × (stepAt s (stateEnd s at) .action .0 ≤ maxMoves)
-    × Noteable s n (stateEnd s at + stepSize)
+    × Observable s n (stateEnd s at + stepSize)
 
--- a number of records walked, each looked over: the answer and, where steps were noted and it is good, what is held
-pub record RecordsWalked (h : Sections) (s : List ℕ) (n from : ℕ) (noting : Bool) (before : Held) (bytes : List ℕ) (w : Walked) : Type 0 where
+-- a number of records walked, each looked over: the answer and, where steps were noted and it is good, what is observed
+pub record RecordsWalked (h : Sections) (s : List ℕ) (n from : ℕ) (noting : Bool) (before : Observed) (bytes : List ℕ) (w : Walked) : Type 0 where
   pub says : w .answer ≡ allRecords h s n from
-  pub holds : noting ≡ true → (m : ℕ) → w .answer ≡ Good m → Holds (holdAll (recordsFiled s n from) before) bytes (w .named)
+  pub observes : noting ≡ true → (m : ℕ) → w .answer ≡ Good m → IsObserved (observeAll (recordsFiled s n from) before) bytes (w .named)

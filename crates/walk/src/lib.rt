@@ -6,14 +6,14 @@ ghost use mathlib.Core.Path.{_≡_};
 ghost use mathlib.Core.Bool.{true};
 ghost use Prim.Native.Nat.{_+_, _≤_};
 ghost use lib.ListN.{length};
-ghost use Rattle.limits.specs.Limits.{nearCeiling, maxLength, maxMoves, maxRecords, heldSize, headSize};
+ghost use Rattle.limits.specs.Limits.{nearCeiling, maxLength, maxMoves, maxRecords, observedSize, headSize};
 ghost use Rattle.terms.specs.Sections.{sectionsOf};
 ghost use Rattle.format.specs.Records.{stepsIn, objectsIn};
 ghost use Rattle.format.specs.Decode.{stateEnd, filedAt, recordFiled};
-ghost use Rattle.held.specs.Held.{holdAll};
+ghost use Rattle.observed.specs.Observed.{observeAll};
 ghost use Rattle.records.specs.Head.{headOf};
-ghost use Rattle.notes.specs.Notes.{Holds};
-ghost use Rattle.walk.specs.Walk.{Noteable, RecordsWalked};
+ghost use Rattle.notes.specs.Notes.{IsObserved};
+ghost use Rattle.walk.specs.Walk.{Observable, RecordsWalked};
 
 // What a walk over records comes to: its answer, and the offset of the first step that row 11 names, 0 where none is.
 pub struct Walked {
@@ -29,16 +29,16 @@ fn state_end(s: &[u8], at: usize) -> usize
 }
 
 // The steps behind the state at an offset, each noted.
-fn note_steps(s: &[u8], n: usize, from: usize, held: &mut [u8], named: usize) -> usize
-    requires { ⌜ (length (now held) ≡ heldSize) × Noteable (now s) n from ⌝ }
-    ensures { λ r. ⌜ Holds (holdAll (filedAt (now (s .entry)) n from) (record { masks = now (held .entry); named = named })) (now (held .exit)) r ⌝ }
+fn observe_steps(s: &[u8], n: usize, from: usize, observed: &mut [u8], named: usize) -> usize
+    requires { ⌜ (length (now observed) ≡ observedSize) × Observable (now s) n from ⌝ }
+    ensures { λ r. ⌜ IsObserved (observeAll (filedAt (now (s .entry)) n from) (record { masks = now (observed .entry); named = named })) (now (observed .exit)) r ⌝ }
 {
     let mut left = n;
     let mut at = from;
     let mut first = named;
     while 0 < left {
         let step = state_end(s, at);
-        first = notes::hold(s, at, step, held, first);
+        first = notes::observe(s, at, step, observed, first);
         at = step + limits::STEP_SIZE;
         left -= 1;
     }
@@ -46,29 +46,29 @@ fn note_steps(s: &[u8], n: usize, from: usize, held: &mut [u8], named: usize) ->
 }
 
 // The record at an offset, whose form is good: each of its steps is noted, where steps are.
-fn note_record(
+fn observe_record(
     s: &[u8],
     at: usize,
     head: Head,
     noting: bool,
-    held: &mut [u8],
+    observed: &mut [u8],
     named: usize,
 ) -> usize
-    requires { ⌜ (at ≤ maxLength) × (head ≡ headOf (now s) at) × (noting ≡ true → (length (now held) ≡ heldSize) × Noteable (now s) (stepsIn (now s) at) (at + headSize + objectsIn (now s) at)) ⌝ }
-    ensures { λ r. ⌜ (noting ≡ true → Holds (holdAll (recordFiled (now (s .entry)) at) (record { masks = now (held .entry); named = named })) (now (held .exit)) r) ⌝ }
+    requires { ⌜ (at ≤ maxLength) × (head ≡ headOf (now s) at) × (noting ≡ true → (length (now observed) ≡ observedSize) × Observable (now s) (stepsIn (now s) at) (at + headSize + objectsIn (now s) at)) ⌝ }
+    ensures { λ r. ⌜ (noting ≡ true → IsObserved (observeAll (recordFiled (now (s .entry)) at) (record { masks = now (observed .entry); named = named })) (now (observed .exit)) r) ⌝ }
 {
     if noting {
         let steps = at + limits::HEAD_SIZE + head.objects as usize;
-        return note_steps(s, head.steps as usize, steps, held, named);
+        return observe_steps(s, head.steps as usize, steps, observed, named);
     }
     named
 }
 
 // A number of records, which end the book: each looked over, then noted, before the next. The count of all steps is good. Where nothing is
 // noted, nothing need be lent.
-pub fn records(s: &[u8], n: usize, from: usize, noting: bool, held: &mut [u8]) -> Walked
-    requires { ⌜ (length (now s) ≤ maxLength) × (from ≤ maxLength) × (n ≤ maxRecords) × (noting ≡ true → (sectionsOf (now s) .moves .count ≤ maxMoves) × (length (now held) ≡ heldSize)) ⌝ }
-    ensures { λ r. ⌜ RecordsWalked (sectionsOf (now (s .entry))) (now (s .entry)) n from noting (record { masks = now (held .entry); named = 0 }) (now (held .exit)) r ⌝ }
+pub fn records(s: &[u8], n: usize, from: usize, noting: bool, observed: &mut [u8]) -> Walked
+    requires { ⌜ (length (now s) ≤ maxLength) × (from ≤ maxLength) × (n ≤ maxRecords) × (noting ≡ true → (sectionsOf (now s) .moves .count ≤ maxMoves) × (length (now observed) ≡ observedSize)) ⌝ }
+    ensures { λ r. ⌜ RecordsWalked (sectionsOf (now (s .entry))) (now (s .entry)) n from noting (record { masks = now (observed .entry); named = 0 }) (now (observed .exit)) r ⌝ }
 {
     let mut left = n;
     let mut at = from;
@@ -84,7 +84,7 @@ pub fn records(s: &[u8], n: usize, from: usize, noting: bool, held: &mut [u8]) -
             }
             Answer::Good(next) => {
                 let head = Head::read(s, at);
-                named = note_record(s, at, head, noting, held, named);
+                named = observe_record(s, at, head, noting, observed, named);
                 total += head.steps as usize;
                 at = next;
             }

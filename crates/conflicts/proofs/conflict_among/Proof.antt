@@ -1,7 +1,7 @@
 -- `conflicts::conflict_among` meets its contract: both cases of the definition.
 use mathlib.Core.Path.{sym, ap, _∙_}
 use borrow.Author.Needs.{needs}
-use Rattle.held.specs.Rules.{conflictAmong}
+use Rattle.observed.specs.Rules.{conflictAmong}
 use Rattle.jobs.specs.Learn.{conflictAnswer}
 use Rattle.conflicts.proofs.Refusals.{conflicting-named}
 use Rattle.conflicts.proofs.conflict_among.Statement.{statement}

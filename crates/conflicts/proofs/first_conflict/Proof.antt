@@ -3,7 +3,7 @@ use Prim.Native.Nat.{_-_, _≤_}
 use native.Mathlib.Omega.{arith}
 use mathlib.Core.Path.{_≡_}
 use borrow.Author.Needs.{needs}
-use Rattle.held.specs.Rules.{conflictHeld}
+use Rattle.observed.specs.Rules.{conflictObserved}
 use Rattle.model.specs.Quantify.{least}
 use Rattle.terms.specs.Schema.{schema}
 use Rattle.model.proofs.Quantify.{least-first, least-next, least-found, least-unfound}
@@ -11,10 +11,10 @@ use Rattle.conflicts.proofs.first_conflict.Statement.{statement}
 use Rattle.conflicts.proofs.first_conflict.Tie as tie
 
 abbrev Inv-loop : tie.InvT-loop
-Inv-loop book h held count i₀ i = (i ≤ count) × (least i (conflictHeld (schema h book) held) ≡ 0)
+Inv-loop book h observed count i₀ i = (i ≤ count) × (least i (conflictObserved (schema h book) observed) ≡ 0)
 
 abbrev μ-loop : tie.MeasureT-loop
-μ-loop book h held count i₀ i = count - i
+μ-loop book h observed count i₀ i = count - i
 
 returns : tie.Need-returns Inv-loop μ-loop
 returns c =

@@ -6,7 +6,7 @@ use lib.ListN.{length, drop}
 use Rattle.conflicts.proofs.Refusals.{in-use-here, in-use-later, in-use-none}
 use Rattle.conflicts.proofs.in_use.Statement.{statement}
 use Rattle.conflicts.proofs.in_use.Tie as tie
-use Rattle.held.specs.Rules.{inUse}
+use Rattle.observed.specs.Rules.{inUse}
 
 abbrev Inv-loop : tie.InvT-loop
 Inv-loop set i₀ i = inUse (drop i set) ≡ inUse set

@@ -1,6 +1,6 @@
 -- `conflicts::unbound_answer` meets its contract: both cases of the definition.
 use borrow.Author.Needs.{needs}
-use Rattle.held.specs.Rules.{unboundAnswer}
+use Rattle.observed.specs.Rules.{unboundAnswer}
 use Rattle.conflicts.proofs.Refusals.{unbound-named}
 use Rattle.conflicts.proofs.unbound_answer.Statement.{statement}
 use Rattle.conflicts.proofs.unbound_answer.Tie as tie

@@ -13,12 +13,12 @@ use Rattle.execution.proofs.carry.Statement.{statement}
 use Rattle.execution.proofs.carry.Tie as tie
 
 abbrev Inv-loop : tie.InvT-loop
-Inv-loop book h held o steps from state₀ left₀ at₀ k₀ state left at k =
-    Carriable held o left at × (k + left ≤ farCeiling)
-    × (carry (schema h book) held (planFrom o left at) state k ≡ carry (schema h book) held (planFrom o steps from) state₀ 1)
+Inv-loop book h observed o steps from state₀ left₀ at₀ k₀ state left at k =
+    Carriable observed o left at × (k + left ≤ farCeiling)
+    × (carry (schema h book) observed (planFrom o left at) state k ≡ carry (schema h book) observed (planFrom o steps from) state₀ 1)
 
 abbrev μ-loop : tie.MeasureT-loop
-μ-loop book h held o steps from state₀ left₀ at₀ k₀ state left at k = left
+μ-loop book h observed o steps from state₀ left₀ at₀ k₀ state left at k = left
 
 loop-holds : tie.Need-loop-holds Inv-loop μ-loop
 loop-holds c = (c .before .before .before .pre, omega arith, refl)

@@ -1,4 +1,4 @@
--- `learner::learn` meets its contract: rows 1 to 12 by what was noted, row 13, then the sheet from what is held.
+-- `learner::learn` meets its contract: rows 1 to 12 by what was noted, row 13, then the sheet from what is observed.
 use Prim.Native.Nat.{_*_}
 use mathlib.Core.Path.{sym, ap, _∙_}
 use Rattle.answer.specs.Turns.{is-good}
@@ -9,12 +9,12 @@ use Rattle.learner.proofs.learn.Statement.{statement}
 use Rattle.learner.proofs.learn.Tie as tie
 
 returns : tie.Need-returns
-returns c = learn-refused _ _ _ _ (c .before .before .before .note-book .ensures .says) (c .before .is-refused .ensures) (c .if1 .taken)
+returns c = learn-refused _ _ _ _ (c .before .before .before .observe-book .ensures .says) (c .before .is-refused .ensures) (c .if1 .taken)
 
 returns-2 : tie.Need-returns-2
 returns-2 c =
     let x = c .before .before in
-    let b = x .before .before .before .note-book in
+    let b = x .before .before .before .observe-book in
     let own = x .before .before .before .before .before .read .ensures in
     let e = is-good _ (sym (x .before .is-refused .ensures) ∙ x .if1 .left) in
     let g = sym (b .ensures .says) ∙ e in
@@ -23,7 +23,7 @@ returns-2 c =
 write-sheet-requires : tie.Need-write-sheet-requires
 write-sheet-requires c κs =
     let x = c .before .before .before .before in
-    let b = x .before .before .before .note-book in
+    let b = x .before .before .before .observe-book in
     let own = x .before .before .before .before .before .read .ensures in
     let e = is-good _ (sym (x .before .is-refused .ensures) ∙ x .if1 .left) in
     let g = sym (b .ensures .says) ∙ e in
@@ -32,13 +32,13 @@ write-sheet-requires c κs =
 returns-3 : tie.Need-returns-3
 returns-3 c =
     let x = c .before .before .before .before .before .before .before in
-    let b = x .before .before .before .note-book in
+    let b = x .before .before .before .observe-book in
     let own = x .before .before .before .before .before .read .ensures in
     let e = is-good _ (sym (x .before .is-refused .ensures) ∙ x .if1 .left) in
     let g = sym (b .ensures .says) ∙ e in
     rw e
     (learn-done _ _ _ g _ (c .before .before .before .before .before .if2 .left ∙ ap (λ n. 128 * n) (moves-own _ _ own))
-    (sheet-by _ _ _ _ _ own g (b .ensures .holds _ e) (c .before .before .write-sheet .ensures)))
+    (sheet-by _ _ _ _ _ own g (b .ensures .observes _ e) (c .before .before .write-sheet .ensures)))
 
 pub learn-spec : {M : Type 1} → statement M
 learn-spec =

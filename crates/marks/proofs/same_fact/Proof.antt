@@ -1,6 +1,6 @@
 -- `marks::same_fact` meets its contract.
 use borrow.Author.Needs.{needs}
-use Rattle.held.specs.Inverse.{sameFact}
+use Rattle.observed.specs.Inverse.{sameFact}
 use Rattle.marks.proofs.same_fact.Statement.{statement}
 use Rattle.marks.proofs.same_fact.Tie as tie
 

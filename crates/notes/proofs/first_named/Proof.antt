@@ -2,7 +2,7 @@
 use borrow.Author.Tests.{eq-eqb, ne-eqb}
 use Rattle.notes.proofs.first_named.Statement.{statement}
 use Rattle.notes.proofs.first_named.Tie as tie
-use Rattle.held.specs.Held.{firstNamed}
+use Rattle.observed.specs.Observed.{firstNamed}
 
 pub first-named-spec : {M : Type 1} → statement M
 unfolding firstNamed

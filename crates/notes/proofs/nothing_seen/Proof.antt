@@ -8,10 +8,10 @@ use Rattle.notes.proofs.nothing_seen.Statement.{statement}
 use Rattle.notes.proofs.nothing_seen.Tie as tie
 
 abbrev Inv-loop : tie.InvT-loop
-Inv-loop held₀ i₀ held i = Filled held₀ held i
+Inv-loop observed₀ i₀ observed i = Filled observed₀ observed i
 
 abbrev μ-loop : tie.MeasureT-loop
-μ-loop held₀ i₀ held i = length held₀ - i
+μ-loop observed₀ i₀ observed i = length observed₀ - i
 
 pub nothing-seen-spec : {M : Type 1} → statement M
 nothing-seen-spec =

@@ -1,6 +1,6 @@
 -- `rulesheet::set_at` meets its contract: the definition itself, and a bound.
 use borrow.Author.Needs.{needs}
-use Rattle.held.specs.Held.{setAt}
+use Rattle.observed.specs.Observed.{setAt}
 use Rattle.rulesheet.proofs.set_at.Statement.{statement}
 use Rattle.rulesheet.proofs.set_at.Tie as tie
 

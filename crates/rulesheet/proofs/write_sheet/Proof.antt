@@ -4,7 +4,7 @@ use native.Mathlib.Omega.{arith}
 use mathlib.Core.Path.{_≡_, refl}
 use lib.ListN.{length}
 use borrow.Author.Needs.{needs}
-use Rattle.held.specs.Rules.{sheetHeld}
+use Rattle.observed.specs.Rules.{sheetObserved}
 use Rattle.terms.specs.Schema.{schema}
 use Rattle.output.specs.Written.{written}
 use Rattle.output.proofs.Written.{part-room}
@@ -13,10 +13,10 @@ use Rattle.rulesheet.proofs.write_sheet.Statement.{statement}
 use Rattle.rulesheet.proofs.write_sheet.Tie as tie
 
 abbrev Inv-loop : tie.InvT-loop
-Inv-loop book h held sheet₀ count i₀ sheet i = (i ≤ count) × (length sheet ≡ length sheet₀) × (sheet ≡ written sheet₀ 0 (sheetHeld (schema h book) held i 1))
+Inv-loop book h observed sheet₀ count i₀ sheet i = (i ≤ count) × (length sheet ≡ length sheet₀) × (sheet ≡ written sheet₀ 0 (sheetObserved (schema h book) observed i 1))
 
 abbrev μ-loop : tie.MeasureT-loop
-μ-loop book h held sheet₀ count i₀ sheet i = count - i
+μ-loop book h observed sheet₀ count i₀ sheet i = count - i
 
 write-rules-requires : tie.Need-write-rules-requires Inv-loop μ-loop
 write-rules-requires c κs =

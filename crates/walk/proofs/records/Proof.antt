@@ -11,27 +11,27 @@ use Rattle.limits.specs.Limits.{maxLength}
 use Rattle.format.specs.Records.{recordAt}
 use Rattle.format.specs.LookOver.{stepTotal}
 use Rattle.format.specs.Decode.{recordsFiled}
-use Rattle.held.specs.Held.{holdAll}
+use Rattle.observed.specs.Observed.{observeAll}
 use Rattle.reader.specs.Reader.{record-by}
 use Rattle.answer.specs.Turns.{turn-none, turn-refused, turn-good}
 use Rattle.records.proofs.Laws.{all-refused, all-left, all-good, total-none, total-more}
 use Rattle.format.proofs.Records.{record-within}
-use Rattle.walk.proofs.Steps.{holding}
-use Rattle.walk.proofs.Noting.{record-noteable, record-turn, records-done, refused-walked}
+use Rattle.walk.proofs.Steps.{observedAs}
+use Rattle.walk.proofs.Noting.{record-observable, record-turn, records-done, refused-walked}
 use Rattle.walk.proofs.records.Statement.{statement}
 use Rattle.walk.proofs.records.Tie as tie
 
 abbrev Inv-loop : tie.InvT-loop
-Inv-loop s n from noting held₀ left₀ at₀ total₀ named₀ held left at total named =
+Inv-loop s n from noting observed₀ left₀ at₀ total₀ named₀ observed left at total named =
     (at ≤ maxLength)
     × (total + 255 * left ≤ 255 * n)
     × (walk (recordAt (sectionsOf s) s) left at ≡ walk (recordAt (sectionsOf s) s) n from)
     × (total + stepTotal s left at ≡ stepTotal s n from)
-    × (length held ≡ length held₀)
-    × (noting ≡ true → holdAll (recordsFiled s left at) (holding held named) ≡ holdAll (recordsFiled s n from) (holding held₀ 0))
+    × (length observed ≡ length observed₀)
+    × (noting ≡ true → observeAll (recordsFiled s left at) (observedAs observed named) ≡ observeAll (recordsFiled s n from) (observedAs observed₀ 0))
 
 abbrev μ-loop : tie.MeasureT-loop
-μ-loop s n from noting held₀ left₀ at₀ total₀ named₀ held left at total named = left
+μ-loop s n from noting observed₀ left₀ at₀ total₀ named₀ observed left at total named = left
 
 loop-holds : tie.Need-loop-holds Inv-loop μ-loop
 loop-holds c = let p = c .before .before .pre in (p .1, omega arith, refl, omega arith, refl, λ y. refl)
@@ -45,14 +45,14 @@ returns c =
     (all-refused _ _ _ _ _ _
     (turn-refused _ _ _ _ _ _ _ (d .before .before .loop .inv .2) (d .before .loop-test .taken) r (c .before .k .given .1)))
 
-note-record-requires : tie.Need-note-record-requires Inv-loop μ-loop
-note-record-requires c κs =
+observe-record-requires : tie.Need-observe-record-requires Inv-loop μ-loop
+observe-record-requires c κs =
     let x = c .before .before .before in
     let d = x .before .before in
     let i = d .before .before .loop .inv in
     let p = d .before .before .before .before .before .pre in
     let r = record-by _ _ _ refl (p .0) (i .0) (d .record-from .ensures) in
-    (i .0, c .before .read .ensures, λ y. (i .4 ∙ p .3 y .1, record-noteable _ _ (p .0) (p .3 y .0) _ _ (sym r ∙ x .next .given .1)))
+    (i .0, c .before .read .ensures, λ y. (i .4 ∙ p .3 y .1, record-observable _ _ (p .0) (p .3 y .0) _ _ (sym r ∙ x .next .given .1)))
 
 loop-again : tie.Need-loop-again Inv-loop μ-loop
 loop-again c =
@@ -67,8 +67,8 @@ loop-again c =
       omega arith,
       turn-good _ _ _ _ _ _ (i .2) (d .before .loop-test .taken) r e,
       total-more _ _ _ _ _ _ _ (i .3) (d .before .loop-test .taken) (c .before .before .before .before .before .read .ensures) (w .0),
-      c .before .before .before .note-record .kept .1 .1 .1 .1 .0 ∙ i .4,
-      λ y. record-turn _ _ _ _ _ _ _ _ _ (d .before .loop-test .taken) (w .0) (c .before .before .before .note-record .ensures y) (i .5 y),
+      c .before .before .before .observe-record .kept .1 .1 .1 .1 .0 ∙ i .4,
+      λ y. record-turn _ _ _ _ _ _ _ _ _ (d .before .loop-test .taken) (w .0) (c .before .before .before .observe-record .ensures y) (i .5 y),
     )
 
 returns-2 : tie.Need-returns-2 Inv-loop μ-loop
@@ -81,12 +81,12 @@ returns-3 c =
     let i = c .before .before .loop .inv in
     record {
       says = all-good _ _ _ _ _ _ (turn-none _ _ _ _ (i .2) (omega arith)) (omega arith) (total-none _ _ _ _ _ (i .3) (omega arith));
-      holds = λ y m e. records-done _ _ _ _ _ _ (omega arith) (i .5 y);
+      observes = λ y m e. records-done _ _ _ _ _ _ (omega arith) (i .5 y);
     }
 
 pub records-spec : {M : Type 1} → statement M
 records-spec =
     tie.close
     (tie.spec Inv-loop μ-loop loop-holds (λ c κs. search needs) (λ c. search needs) (λ c. search needs) returns (λ c. search needs)
-    (λ c κs. search needs) note-record-requires (λ c. search needs) (λ c. search needs) (λ c. search needs) (λ c. search needs) loop-again
+    (λ c κs. search needs) observe-record-requires (λ c. search needs) (λ c. search needs) (λ c. search needs) (λ c. search needs) loop-again
     (λ c. search needs) returns-2 (λ c. search needs) returns-3)

@@ -1,8 +1,0 @@
--- From good form to steps that are faithful, and so to what is held.
-pub mod Params
-pub mod Atoms
-pub mod States
-pub mod Sorted
-pub mod Unbound
-pub mod UnboundEffects
-pub mod HeldRight

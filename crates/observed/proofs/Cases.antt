@@ -1,0 +1,29 @@
+-- A roll of the small hall, computed: bound facts come from parameters, not from object numbers, and row 11 asks about all other facts.
+-- Relation 1 is "bank at spot", 2 "spot clear"; the roll's parameters are the bank and two spots.
+use Prim.Native.Nat.{ℕ}
+use mathlib.Core.Path.{_≡_, refl}
+use mathlib.Core.Bool.{true, false}
+use mathlib.Core.List.{[], _∷_, _++_}
+use lib.ListN.{replicate}
+use Rattle.mask.specs.Bits.{setBit}
+use Rattle.mask.specs.Sets.{empty}
+use Rattle.terms.specs.declared.Binding.{Binding}
+use Rattle.terms.specs.declared.Fact.{Fact}
+use Rattle.terms.specs.Steps.{objectOf}
+use Rattle.observed.specs.Inverse.{gives, paramOf, placeBound, factBound, atomOf, mark, marks, atomsIn, unbound, sameFact, sameFacts, unboundChanged}
+
+abbrev roll : ℕ → ℕ → ℕ → Binding
+roll bank from to = record { objects = record { 0 = bank } ∷ record { 0 = from } ∷ record { 0 = to } ∷ record { 0 = 0 } ∷ [] }
+
+abbrev fact : ℕ → ℕ → ℕ → Fact
+fact r x y = record { relation = record { 0 = r }; first = record { 0 = x }; second = record { 0 = y } }
+
+-- bank at the first spot, the second clear: bound facts 1 and 24, in a hall of bank 1 and spots 2, 3 and in one of bank 3 and spots 1, 2;
+-- a third spot that is clear is no bound fact, and row 11 is met where it is so before the step alone
+roll-right :
+    (atomsIn (roll 1 2 3) (fact 1 1 2 ∷ fact 2 3 0 ∷ fact 2 4 0 ∷ []) ≡ (2 ∷ 0 ∷ 0 ∷ 1 ∷ []) ++ replicate 28 0)
+    × (atomsIn (roll 3 1 2) (fact 1 3 1 ∷ fact 2 2 0 ∷ fact 2 4 0 ∷ []) ≡ (2 ∷ 0 ∷ 0 ∷ 1 ∷ []) ++ replicate 28 0)
+    × (unboundChanged (roll 1 2 3) (fact 1 1 2 ∷ fact 2 3 0 ∷ fact 2 4 0 ∷ []) (fact 1 1 3 ∷ fact 2 2 0 ∷ fact 2 4 0 ∷ []) ≡ false)
+    × (unboundChanged (roll 1 2 3) (fact 1 1 2 ∷ fact 2 3 0 ∷ fact 2 4 0 ∷ []) (fact 1 1 3 ∷ fact 2 2 0 ∷ []) ≡ true)
+unfolding objectOf setBit empty gives paramOf placeBound factBound atomOf mark marks atomsIn unbound sameFact sameFacts unboundChanged
+roll-right = (refl, refl, refl, refl)

@@ -1,0 +1,98 @@
+-- Row 12 from what is observed is row 12 of the transitions.
+use Prim.Native.Nat.{ℕ, zero, suc, _*_, _≤_, _<_}
+use native.Mathlib.Omega.{arith}
+use mathlib.Core.Path.{_≡_, refl, sym, ap, ap₂, _∙_}
+use mathlib.Core.Bool.{Bool, true, false, _&&_, _||_, not, Bool·not-not}
+use mathlib.Core.List.{List, [], _∷_}
+use lib.Dec.{eqb}
+use lib.ListN.{length}
+use borrow.Author.Tests.{eqb-true, not-false}
+use Rattle.truth.specs.Bools.{clash, is-false, is-true, bool-eq, and-out, neither}
+use Rattle.mask.specs.Bits.{testBit, Bytes}
+use Rattle.mask.specs.Sets.{maskOf, intersection, union, difference, empty}
+use Rattle.mask.proofs.Laws.{test-empty, length-empty, bytes-empty, test-intersection, length-intersection, test-union, test-difference, length-difference}
+use Rattle.mask.proofs.Whole.{length-maskOf, bytes-maskOf, test-maskOf, mask-ext}
+use Rattle.terms.specs.Schema.{Schema}
+use Rattle.terms.specs.Steps.{isAtom}
+use Rattle.terms.proofs.Atoms.{atom-below}
+use Rattle.model.specs.Quantify.{any, below}
+use Rattle.model.specs.Domain.{Transition}
+use Rattle.model.specs.Learned.{after, turned, conflicting}
+use Rattle.model.proofs.Quantify.{below-in, below-out, below-cong, below-wide, least-same}
+use Rattle.jobs.specs.Planning.{domain}
+use Rattle.jobs.specs.Learn.{conflictAnswer, conflictingMove}
+use Rattle.observed.specs.Observed.{alwaysAfter, everAfter, added, deleted}
+use Rattle.observed.specs.Rules.{observedSet, conflictObserved, conflictAmong, inUse, conflictSet}
+use Rattle.observed.specs.Seen.{inSet, Seen}
+use Rattle.observed.proofs.BookObserved.{length-observedSet}
+use Rattle.observed.proofs.Sheet.{atoms-in}
+
+-- ---- a byte that is not 0 is a bit that is set
+abbrev used : ℕ → Bool
+used x = not (eqb x 0)
+
+all-empty : (m : List ℕ) → any used m ≡ false → m ≡ empty (length m)
+unfolding any empty
+all-empty [] e = refl
+all-empty (x ∷ m) e =
+    let (h, t) = neither (used x) (any used m) e in
+    ap₂ (λ (y : ℕ) (r : List ℕ). y ∷ r) (eqb-true x 0 (not-false _ h)) (all-empty m t)
+
+any-empty : (len : ℕ) → any used (empty len) ≡ false
+unfolding any empty
+any-empty zero = refl
+any-empty (suc len) = any-empty len
+
+any-used : (m : List ℕ) → Bytes m → any used m ≡ below (8 * length m) (testBit m)
+any-used m h = bool-eq _ _ (λ e. is-true _ (set e)) (λ e. is-true _ (unset e))
+  where
+    set : any used m ≡ true → below (8 * length m) (testBit m) ≡ false → ⊥
+    set e none =
+        let q : m ≡ empty (length m) =
+        mask-ext m (empty (length m)) (sym (length-empty _)) h (bytes-empty _)
+        (λ n l. is-false _ (λ t. clash _ (below-in _ (testBit m) n l t) none) ∙ sym (test-empty _ n)) in
+        clash _ e (ap (any used) q ∙ any-empty _)
+
+    unset : below (8 * length m) (testBit m) ≡ true → any used m ≡ false → ⊥
+    unset e none =
+        let (n, l, t) = below-out _ (testBit m) e in
+        clash _ t (ap (λ (k : List ℕ). testBit k n) (all-empty m none) ∙ test-empty _ n)
+
+any-maskOf : (q : ℕ → Bool) → any used (maskOf 32 q) ≡ below 256 q
+any-maskOf q =
+    any-used (maskOf 32 q) (bytes-maskOf 32 q) ∙ ap (λ (k : ℕ). below (8 * k) (testBit (maskOf 32 q))) (length-maskOf 32 q)
+    ∙ below-cong 256 _ q (λ k l. test-maskOf 32 q k l)
+
+module _ (sch : Schema) (few : sch .relations ≤ 16) (ts : List Transition) (l : List ℕ) (seen : Seen sch ts l) where
+  -- A move has a conflict by what is observed exactly if it has one by its transitions,
+  pub conflicting-observed : (a : ℕ) → 1 ≤ a → a ≤ 32 → conflictObserved sch l a ≡ conflicting (domain sch) ts a
+  unfolding conflictObserved inUse conflictSet conflicting domain inSet
+  conflicting-observed a h h′ =
+      ap (any used) (atoms-in sch a _ clashes says) ∙ any-maskOf _
+      ∙ below-wide 256 (16 * sch .relations) _ (omega arith) (λ n e. atom-below sch a n (and-out _ _ e .0))
+    where
+      clashes : ℕ → Bool
+      clashes n = turned ts true a n && after ts false a n || turned ts false a n && after ts true a n
+
+      sized : (k : ℕ) → k < 6 → length (observedSet l a k) ≡ 32
+      sized k hk = length-observedSet l a k (seen .sized) h h′ hk
+
+      says : (n : ℕ) → n < 256 → isAtom sch a n ≡ true
+          → testBit (union (difference (observedSet l a added) (observedSet l a alwaysAfter)) (intersection (observedSet l a deleted) (observedSet l a everAfter))) n ≡ clashes n
+      says n hn atom =
+          test-union (difference (observedSet l a added) (observedSet l a alwaysAfter)) (intersection (observedSet l a deleted) (observedSet l a everAfter)) n
+          (omega (arith, length-difference (observedSet l a added) (observedSet l a alwaysAfter), length-intersection (observedSet l a deleted) (observedSet l a everAfter), sized added (omega arith), sized deleted (omega arith)))
+          ∙ rw (
+            test-difference,
+            test-intersection,
+            seen .says alwaysAfter (omega arith) a h h′ n hn atom,
+            seen .says everAfter (omega arith) a h h′ n hn atom,
+            seen .says added (omega arith) a h h′ n hn atom,
+            seen .says deleted (omega arith) a h h′ n hn atom,
+            Bool·not-not,
+          )
+
+  -- and so the smallest such move is the same.
+  pub conflicting-same : sch .moves ≤ 32 → conflictAmong sch l (sch .moves) ≡ conflictingMove sch ts
+  unfolding conflictAmong conflictingMove
+  conflicting-same moves = ap conflictAnswer (least-same (sch .moves) _ _ (λ a h h′. conflicting-observed a h (omega arith)))

@@ -1,0 +1,13 @@
+-- What is observed gives what learning is defined to give: from 32 bytes replaced up to the sheet and rows 11 and 12.
+pub mod Facts
+pub mod Params
+pub mod Parts
+pub mod BookObserved
+pub mod InSet
+pub mod Observe
+pub mod Sheet
+pub mod Conflicts
+pub mod Unbound
+pub mod Taught
+pub mod Records
+mod Cases

@@ -1,0 +1,22 @@
+-- Records one by one: what is observed after a record comes from what was observed before it and that record alone.
+use Prim.Native.Nat.{ℕ, zero, suc, _+_}
+use mathlib.Core.Path.{_≡_, refl}
+use mathlib.Core.List.{List, [], _∷_, _++_}
+use Rattle.format.specs.Records.{lengthIn}
+use Rattle.format.specs.Decode.{Filed, recordFiled, recordsFiled}
+use Rattle.observed.specs.Observed.{Observed, observe, observeAll, observedAfter}
+
+observe-append : (fs gs : List Filed) (h : Observed) → observeAll (fs ++ gs) h ≡ observeAll gs (observeAll fs h)
+unfolding observeAll
+observe-append [] gs h = refl
+observe-append (f ∷ fs) gs h = observe-append fs gs (observe f h)
+
+module _ (s : List ℕ) (at : ℕ) (h : Observed) where
+  pub observed-none : observeAll (recordsFiled s zero at) h ≡ h
+  unfolding recordsFiled observeAll
+  observed-none = refl
+
+  -- Holding the steps of some records is holding those of the first, and then those of the rest.
+  pub observed-more : (n : ℕ) → observeAll (recordsFiled s (suc n) at) h ≡ observeAll (recordsFiled s n (at + lengthIn s at)) (observedAfter s at h)
+  unfolding recordsFiled observedAfter
+  observed-more n = observe-append (recordFiled s at) (recordsFiled s n (at + lengthIn s at)) h

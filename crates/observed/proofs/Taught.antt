@@ -1,0 +1,32 @@
+-- The whole: from faithful steps, what is observed teaches sheet, row 11 and row 12 as learning is defined.
+use Prim.Native.Nat.{_≤_}
+use native.Mathlib.Omega.{arith}
+use mathlib.Core.Path.{_≡_, refl}
+use mathlib.Core.List.{List, map}
+use Rattle.terms.specs.Schema.{Schema}
+use Rattle.format.specs.Decode.{Filed}
+use Rattle.model.specs.Quantify.{Mem}
+use Rattle.jobs.specs.Planning.{transition}
+use Rattle.observed.specs.Observed.{observeAll, nothingSeen}
+use Rattle.observed.specs.Faithful.{Faithful}
+use Rattle.observed.specs.Taught.{Taught}
+use Rattle.observed.proofs.Observe.{seen-observed}
+use Rattle.observed.proofs.Sheet.{sheet-rows}
+use Rattle.observed.proofs.Conflicts.{conflicting-same}
+use Rattle.observed.proofs.Unbound.{unbound-observed}
+
+none-named : nothingSeen .named ≡ 0
+unfolding nothingSeen
+none-named = refl
+
+pub taught : (sch : Schema) → sch .relations ≤ 16 → sch .moves ≤ 32 → (fs : List Filed) → ((f : Filed) → Mem f fs → Faithful sch f)
+    → Taught sch fs (observeAll fs nothingSeen)
+taught sch relations moves fs all =
+    let seen = seen-observed sch moves fs all in
+    record {
+      sized = seen .sized;
+      bytes = seen .bytes;
+      row11 = unbound-observed sch fs all nothingSeen none-named;
+      row12 = conflicting-same sch relations (map (transition sch) fs) (observeAll fs nothingSeen .masks) seen moves;
+      sheet = sheet-rows sch (map (transition sch) fs) (observeAll fs nothingSeen .masks) seen (sch .moves) 1 (omega arith) (omega arith);
+    }

@@ -1,0 +1,28 @@
+-- What learning asks of one step as filed: that the bound facts found from the facts are those that the step's grounding means. Good form gives it.
+use Prim.Native.Nat.{ℕ, _≤_, _<_}
+use mathlib.Core.Path.{_≡_}
+use mathlib.Core.Bool.{true}
+use mathlib.Core.List.{List}
+use Rattle.limits.specs.Limits.{maxAtoms}
+use Rattle.mask.specs.Bits.{testBit}
+use Rattle.terms.specs.declared.Fact.{Fact}
+use Rattle.terms.specs.declared.Step.{Step}
+use Rattle.terms.specs.Schema.{Schema}
+use Rattle.terms.specs.Steps.{isAtom, ground}
+use Rattle.format.specs.Decode.{Filed}
+use Rattle.model.specs.Learned.{unboundEffect}
+use Rattle.jobs.specs.Planning.{domain, holding, transition}
+use Rattle.observed.specs.Inverse.{atomsIn, unboundChanged}
+
+-- at each of the step's atoms, the set found from the facts has the value that the state gives the atom's fact
+abbrev pub Found : Schema → Step → List Fact → Type 0
+Found sch st fs =
+    (n : ℕ) → n < maxAtoms → isAtom sch (st .action .0) n ≡ true → testBit (atomsIn (st .binding) fs) n ≡ holding fs (ground sch (st .binding) n)
+
+pub record Faithful (sch : Schema) (f : Filed) : Type 0 where
+  pub counted : 1 ≤ f .step .action .0
+  pub known : f .step .action .0 ≤ sch .moves
+  pub placed : 1 ≤ f .place
+  pub was : Found sch (f .step) (f .pre)
+  pub got : Found sch (f .step) (f .post)
+  pub unboundEffects : unboundChanged (f .step .binding) (f .pre) (f .post) ≡ unboundEffect (domain sch) (transition sch f)

@@ -1,0 +1,21 @@
+-- What is observed after all steps gives the sheet, row 11 and row 12 that learning is defined by.
+use mathlib.Core.Path.{_≡_}
+use mathlib.Core.List.{List, map}
+use lib.ListN.{length}
+use Rattle.limits.specs.Limits.{observedSize}
+use Rattle.mask.specs.Bits.{Bytes}
+use Rattle.terms.specs.Schema.{Schema}
+use Rattle.format.specs.Decode.{Filed}
+use Rattle.model.specs.Learned.{learned}
+use Rattle.jobs.specs.Planning.{domain, transition}
+use Rattle.jobs.specs.Learn.{unboundEffects, conflictingMove, ruleRows}
+use Rattle.observed.specs.Observed.{Observed}
+use Rattle.observed.specs.Rules.{sheetObserved, unboundAnswer, conflictAmong}
+
+-- `h` is what is observed after the steps `fs`
+pub record Taught (sch : Schema) (fs : List Filed) (h : Observed) : Type 0 where
+  pub sized : length (h .masks) ≡ observedSize
+  pub bytes : Bytes (h .masks)
+  pub row11 : unboundAnswer (h .named) ≡ unboundEffects sch fs
+  pub row12 : conflictAmong sch (h .masks) (sch .moves) ≡ conflictingMove sch (map (transition sch) fs)
+  pub sheet : sheetObserved sch (h .masks) (sch .moves) 1 ≡ ruleRows (learned (domain sch) (map (transition sch) fs)) (sch .moves) 1

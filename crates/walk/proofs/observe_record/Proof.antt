@@ -1,0 +1,24 @@
+-- `walk::observe_record` meets its contract: its steps stand behind its objects. Where nothing is noted, nothing is said.
+use Rattle.truth.specs.Bools.{clash}
+use Rattle.walk.proofs.Noting.{record-ready, record-observed}
+use borrow.Author.Needs.{needs}
+use Rattle.walk.proofs.observe_record.Statement.{statement}
+use Rattle.walk.proofs.observe_record.Tie as tie
+
+observe-steps-requires : tie.Need-observe-steps-requires
+observe-steps-requires c κs =
+    let d = c .before .before .before in
+    let e = d .before .before .before .pre in
+    let n = e .2 (d .if1 .taken) in
+    (n .0, record-ready _ _ _ (e .1) (n .1))
+
+returns : tie.Need-returns
+returns c =
+    let d = c .before .before .before .before .before .before in
+    λ y. record-observed _ _ _ (d .before .before .before .pre .1) _ _ _ (c .before .before .observe-steps .ensures)
+
+pub observe-record-spec : {M : Type 1} → statement M
+observe-record-spec =
+    tie.close
+    (tie.spec (λ c. search needs) (λ c. search needs) (λ c. search needs) (λ c. search needs) observe-steps-requires (λ c. search needs) returns
+    (λ c y. clash _ y (c .if1 .left)))
