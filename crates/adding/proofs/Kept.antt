@@ -15,11 +15,11 @@ use Rattle.terms.proofs.Agree.{same-by-bytes}
 use Rattle.limits.specs.Limits.{headerSize, maxLength}
 use Rattle.format.specs.Records.{stepsIn, recordAt}
 use Rattle.format.specs.LookOver.{stepTotal}
-use Rattle.format.specs.Decode.{recordFiled, recordsFiled, filed}
+use Rattle.format.specs.Decode.{stepsOfRecord, stepsOfRecords, recordedSteps}
 use Rattle.jobs.specs.Planning.{schemaOf}
 use Rattle.jobs.specs.Add.{added}
 use Rattle.format.proofs.Reading.{Copied}
-use Rattle.format.proofs.Copies.{placed-same, records-copied, all-filed-copied, filed-last}
+use Rattle.format.proofs.Copies.{placed-same, records-copied, all-recorded-copied, recorded-last}
 use Rattle.format.proofs.LookOver.{LookedOver}
 use Rattle.adding.specs.ReadBack.{oneMore}
 use Rattle.adding.proofs.Formed.{length-added}
@@ -88,14 +88,14 @@ module _ (s r : List ℕ) (old : ℕ) (was : LookedOver s old) (most : length s 
       ap₂ (λ (m start : ℕ). walk (recordAt (sectionsOf (added s r)) (added s r)) m start) count-more start-same ∙ walk-last _ _ _ _ records-kept
 
   pub steps-last : (stepTotal (added s r) (sectionsOf (added s r) .records .count) (sectionsOf (added s r) .records .at) ≡ old + stepsIn r 0)
-      × (filed (sectionsOf (added s r)) (added s r) ≡ filed (sectionsOf s) s ++ recordFiled (added s r) (length s))
-  unfolding filed
+      × (recordedSteps (sectionsOf (added s r)) (added s r) ≡ recordedSteps (sectionsOf s) s ++ stepsOfRecord (added s r) (length s))
+  unfolding recordedSteps
   steps-last =
       let w = was .sections .offsets .within in
       let n = sectionsOf s .records .count in
       let at = sectionsOf s .records .at in
-      let (total, same) = all-filed-copied old-part (λ p. p) (λ p. p) (λ i. refl) (sectionsOf s) n (length s) (was .records) (omega arith) in
-      let (total′, filed′) = filed-last (sectionsOf (added s r)) (added s r) n at (length s) records-kept in (
+      let (total, same) = all-recorded-copied old-part (λ p. p) (λ p. p) (λ i. refl) (sectionsOf s) n (length s) (was .records) (omega arith) in
+      let (total′, filed′) = recorded-last (sectionsOf (added s r)) (added s r) n at (length s) records-kept in (
         rw (count-more, start-same) (omega (arith, total, total′, was .total, steps-added)),
-        rw (count-more, start-same) (filed′ ∙ rw (← placed-same (recordsFiled (added s r) n at), ← same, placed-same (recordsFiled s n at))),
+        rw (count-more, start-same) (filed′ ∙ rw (← placed-same (stepsOfRecords (added s r) n at), ← same, placed-same (stepsOfRecords s n at))),
       )

@@ -14,11 +14,11 @@ use Rattle.terms.specs.Sections.{sectionsOf}
 use Rattle.limits.specs.Limits.{headerSize, maxLength}
 use Rattle.format.specs.Records.{stepsIn, recordAt}
 use Rattle.format.specs.LookOver.{lookOver}
-use Rattle.format.specs.Decode.{recordFiled}
+use Rattle.format.specs.Decode.{stepsOfRecord}
 use Rattle.jobs.specs.Add.{added, add, addBytes}
 use Rattle.format.proofs.Records.{record-within}
 use Rattle.format.proofs.Reading.{Copied}
-use Rattle.format.proofs.Copies.{placedBy, placed-same, filed-copied}
+use Rattle.format.proofs.Copies.{placedBy, placed-same, recorded-copied}
 use Rattle.format.proofs.LookOver.{look-over-good}
 use Rattle.adding.specs.OneRecord.{lookRecord}
 use Rattle.adding.specs.ReadBack.{movedBy, AddedIsReadBack, AddedIsStored, RefusedIsUntouched}
@@ -56,13 +56,13 @@ succeeded s r size n e =
     }
 
 -- the steps of the record are those that its bytes say by themselves
-as-filed : (s r : List ℕ) → headerSize ≤ length s → recordAt (sectionsOf (added s r)) (added s r) (length s) ≡ Good (length s + length r)
-    → recordFiled (added s r) (length s) ≡ movedBy (length s) (recordFiled r 0)
+as-recorded : (s r : List ℕ) → headerSize ≤ length s → recordAt (sectionsOf (added s r)) (added s r) (length s) ≡ Good (length s + length r)
+    → stepsOfRecord (added s r) (length s) ≡ movedBy (length s) (stepsOfRecord r 0)
 unfolding movedBy placedBy
-as-filed s r long good =
+as-recorded s r long good =
     let alone : Copied (added s r) (length s) r 0 (length r) = record { within = omega arith; bytes = λ i l. rw zero-add (sym (byte-added s r long i)) } in
-    sym (placed-same (recordFiled (added s r) (length s)))
-    ∙ filed-copied alone (λ p. p) (λ p. length s + p) (λ i. omega arith) (sectionsOf (added s r)) (length s + length r) good (omega arith)
+    sym (placed-same (stepsOfRecord (added s r) (length s)))
+    ∙ recorded-copied alone (λ p. p) (λ p. length s + p) (λ i. omega arith) (sectionsOf (added s r)) (length s + length r) good (omega arith)
 
 -- the record is good to the end of the book, and its steps come behind the old ones
 module _ (s r : List ℕ) (old new : ℕ) (was : lookOver s ≡ Good old) (is : lookOver (added s r) ≡ Good new) (most : length s + length r ≤ maxLength) where
@@ -99,7 +99,7 @@ read-back s r size n e =
       behind = bytes-behind s r long;
       whole = rw (g .place) (new .0);
       steps = steps-last s r _ was (g .most) .1;
-      asFiled = as-filed s r long (new .0);
+      asRecorded = as-recorded s r long (new .0);
     }
 
 -- The new book is in the lent output, whose bytes beyond it stay.

@@ -12,7 +12,7 @@ use Rattle.terms.specs.Sections.{sectionsOf}
 use Rattle.terms.specs.Agree.{SameSchema}
 use Rattle.format.specs.Records.{stepsIn, recordAt}
 use Rattle.format.specs.LookOver.{lookOver}
-use Rattle.format.specs.Decode.{Filed, recordFiled, filed}
+use Rattle.format.specs.Decode.{RecordedStep, stepsOfRecord, recordedSteps}
 use Rattle.jobs.specs.Planning.{schemaOf}
 use Rattle.jobs.specs.Add.{added, add, addBytes}
 
@@ -31,8 +31,8 @@ oneMore h end =
       end = end;
     }
 
--- filed steps whose places lie so many bytes further on
-unfoldable pub movedBy : ℕ → List Filed → List Filed
+-- recorded steps whose places lie so many bytes further on
+unfoldable pub movedBy : ℕ → List RecordedStep → List RecordedStep
 movedBy k = map (λ f. record { place = k + f .place; step = f .step; pre = f .pre; post = f .post })
 
 -- `s` the old book, `r` the bytes of the record, n the place of the success
@@ -53,9 +53,9 @@ pub record ReadBack (s r : List ℕ) (n : ℕ) : Type 0 where
   pub behind : drop (length s) (added s r) ≡ r
   pub whole : recordAt (sectionsOf (added s r)) (added s r) (length s) ≡ Good n
   -- all steps filed are the old book's, then the record's ..
-  pub steps : filed (sectionsOf (added s r)) (added s r) ≡ filed (sectionsOf s) s ++ recordFiled (added s r) (length s)
+  pub steps : recordedSteps (sectionsOf (added s r)) (added s r) ≡ recordedSteps (sectionsOf s) s ++ stepsOfRecord (added s r) (length s)
   -- .. and these are what the record's bytes say by themselves, with their places in the new book
-  pub asFiled : recordFiled (added s r) (length s) ≡ movedBy (length s) (recordFiled r 0)
+  pub asRecorded : stepsOfRecord (added s r) (length s) ≡ movedBy (length s) (stepsOfRecord r 0)
 
 -- a record that was added is read back as it was filed
 abbrev pub AddedIsReadBack : Type 0

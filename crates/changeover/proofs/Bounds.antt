@@ -8,7 +8,7 @@ use Rattle.terms.specs.Sections.{sectionsOf}
 use Rattle.terms.specs.Schema.{Schema}
 use Rattle.limits.specs.Limits.{maxLength, maxMoves, maxSteps, maxEntries, stepSize, entrySize}
 use Rattle.format.specs.LookOver.{lookOver}
-use Rattle.format.specs.Decode.{Filed, stateEnd, filedAt, recordFiled, filedStep}
+use Rattle.format.specs.Decode.{RecordedStep, stateEnd, recordedStepsAt, stepsOfRecord, recordedStep}
 use Rattle.format.specs.Order.{stepCount, goalCount, goal, goalFrom}
 use Rattle.answer.specs.Bounds.{Bounded, bounded-good, bounded-then, bounded-row, bounded-wider}
 use Rattle.format.proofs.LookOver.{look-over-good}
@@ -20,12 +20,12 @@ use Rattle.model.specs.Judge.{wrong}
 use Rattle.model.specs.Learned.{conflicting}
 use Rattle.model.proofs.Quantify.{first-most, least-law}
 use Rattle.model.proofs.Lockstep.{run-within}
-use Rattle.jobs.specs.Planning.{domain, schemaOf, filedIn, transitionsOf, startState, goalOf, planOf}
+use Rattle.jobs.specs.Planning.{domain, schemaOf, stepsOfBook, transitionsOf, startState, goalOf, planOf}
 use Rattle.jobs.specs.Learn.{unboundEffects, conflictAnswer, conflictingMove, learnable, learn}
 use Rattle.jobs.specs.Add.{add}
 use Rattle.jobs.specs.Check.{planRun, orderRun, goalAnswer, runAnswer, check}
 use Rattle.wellformed.proofs.Headers.{moves-few}
-use Rattle.wellformed.proofs.Records.{filed-somewhere}
+use Rattle.wellformed.proofs.Records.{recorded-somewhere}
 use Rattle.wellformed.proofs.Orders.{length-plan}
 use Rattle.format.proofs.OrderForm.{order-good, order-bounded}
 use Rattle.walk.specs.Walk.{Observable}
@@ -34,12 +34,12 @@ use Rattle.adding.proofs.Bounds.{add-bounded}
 use Rattle.changeover.proofs.Laws.{Fits, fits-by}
 
 -- ---- row 11: the place of a step lies within the book
-steps-placed : (s : List ℕ) (n at : ℕ) {f : Filed} → Observable s n at → Mem f (filedAt s n at) → f .place ≤ maxLength
-unfolding Observable filedAt filedStep
+steps-placed : (s : List ℕ) (n at : ℕ) {f : RecordedStep} → Observable s n at → Mem f (recordedStepsAt s n at) → f .place ≤ maxLength
+unfolding Observable recordedStepsAt recordedStep
 steps-placed s (suc n) at h here = h .2
 steps-placed s (suc n) at h (there m) = steps-placed s n (stateEnd s at + stepSize) (h .5) m
 
-unbound-effects-bounded : (sch : Schema) (fs : List Filed) → ((f : Filed) → Mem f fs → f .place ≤ maxLength) → Bounded maxLength (unboundEffects sch fs)
+unbound-effects-bounded : (sch : Schema) (fs : List RecordedStep) → ((f : RecordedStep) → Mem f fs → f .place ≤ maxLength) → Bounded maxLength (unboundEffects sch fs)
 unfolding unboundEffects
 unbound-effects-bounded sch [] all = bounded-good maxLength 0 (omega arith)
 unbound-effects-bounded sch (f ∷ fs) all =
@@ -55,15 +55,15 @@ conflicting-bounded sch ts few = go (least (sch .moves) (conflicting (domain sch
     go (suc a) law = (omega arith, omega (arith, law .0))
 
 learnable-bounded : (s : List ℕ) → Bounded maxLength (learnable s)
-unfolding learnable recordFiled
+unfolding learnable stepsOfRecord
 learnable-bounded s =
     bounded-then maxLength _ _ (look-over-bounded s)
     (λ total e l.
     let g = look-over-good s total e in
     bounded-then maxLength _ _
-    (unbound-effects-bounded (schemaOf s) (filedIn s)
+    (unbound-effects-bounded (schemaOf s) (stepsOfBook s)
     (λ f m.
-    let (from, next, good, k) = filed-somewhere s total e m in
+    let (from, next, good, k) = recorded-somewhere s total e m in
     steps-placed s _ _ (record-observable (sectionsOf s) s (g .sections .size .most) (g .sections .counts .moves) from next good) k))
     (λ n i j.
     bounded-then maxLength _ _ (conflicting-bounded (schemaOf s) (transitionsOf s) (moves-few s total e))

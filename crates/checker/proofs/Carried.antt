@@ -20,14 +20,14 @@ use Rattle.model.specs.Quantify.{Mem, here, there}
 use Rattle.model.specs.Domain.{Transition}
 use Rattle.model.specs.Learned.{learned}
 use Rattle.model.proofs.Impossible.{learned-consistent}
-use Rattle.jobs.specs.Planning.{domain, holding, schemaOf, filedIn, transitionsOf, groundAction, goalEntry, startState, planOf, goalOf}
+use Rattle.jobs.specs.Planning.{domain, holding, schemaOf, stepsOfBook, transitionsOf, groundAction, goalEntry, startState, planOf, goalOf}
 use Rattle.jobs.specs.Learn.{learnable, learnedFrom}
 use Rattle.jobs.specs.Check.{planRun, orderRun, runAnswer, endSheet}
 use Rattle.observed.specs.Rules.{ruleSet, observedSet}
 use Rattle.observed.specs.Seen.{Seen, inSet}
 use Rattle.observed.proofs.Observe.{seen-observed}
 use Rattle.observed.proofs.Sheet.{atoms-in, atoms-out}
-use Rattle.observedright.proofs.ObservedRight.{filed-faithful}
+use Rattle.observedright.proofs.ObservedRight.{recorded-faithful}
 use Rattle.wellformed.proofs.Headers.{relations-few, moves-few}
 use Rattle.wellformed.proofs.Formed.{formed}
 use Rattle.terms.proofs.Atoms.{atom-below}
@@ -86,7 +86,7 @@ module _ (s : List ℕ) (n m : ℕ) (good : lookOver s ≡ Good n) (learns : lea
     unfolding observedOf learnedFrom transitionsOf domain groundAction
     carrying =
         let sch = schemaOf s in
-        let seen = seen-observed sch (moves-few s n good) (filedIn s) (filed-faithful s n good) in
+        let seen = seen-observed sch (moves-few s n good) (stepsOfBook s) (recorded-faithful s n good) in
         let size = relations-few s n good in
         record {
           few = omega arith;

@@ -13,27 +13,27 @@ use Rattle.answer.specs.declared.Answer.the-variants.{Good}
 use Rattle.truth.specs.Bools.{clash, not-self, is-false}
 use Rattle.answer.specs.Laws.{bind-good, refuse-unmet}
 use Rattle.terms.specs.Steps.{isAtom}
-use Rattle.format.specs.Decode.{Filed}
+use Rattle.format.specs.Decode.{RecordedStep}
 use Rattle.format.specs.LookOver.{lookOver}
 use Rattle.model.specs.Quantify.{Mem}
 use Rattle.model.specs.Learned.{learned}
 use Rattle.model.proofs.Seen.{before-in, before-out, turned-in, turned-out, need-in, need-out, effect-in, effect-out}
 use Rattle.model.proofs.Bounds.{precondition-iff-some, effect-iff-every}
-use Rattle.jobs.specs.Planning.{domain, schemaOf, filedIn, transitionsOf}
+use Rattle.jobs.specs.Planning.{domain, schemaOf, stepsOfBook, transitionsOf}
 use Rattle.jobs.specs.Learn.{learnable, learnedFrom, ruleSheet, learn, learnBytes}
 use Rattle.jobs.proofs.Sheet.{length-rows, learned-need-bit, learned-effect-bit}
 use Rattle.wellformed.proofs.Formed.{formed}
 use Rattle.demand.specs.Demand2.{valueIn, Bits, Demand2}
 use Rattle.wellformed.proofs.Learnable.{inconsistentIn, learnable-inconsistent}
 use Rattle.demand.proofs.Demand3.{demand3}
-use Rattle.demand.proofs.Filed.{sight-of-filed, filed-of-sight}
+use Rattle.demand.proofs.RecordedStep.{sight-of-recorded, recorded-of-sight}
 
 module _ (s : List ℕ) (b : Bool) (a n : ℕ) where
   -- ---- what is learned, told of the steps as they are filed
-  need-filed : learnedFrom s .precondition b a n ≡ true
-      ↔ ((isAtom (schemaOf s) a n ≡ true) × ((f : Filed) → Mem f (filedIn s) → f .step .action .0 ≡ a → valueIn s f (f .pre) n ≡ b))
+  need-recorded : learnedFrom s .precondition b a n ≡ true
+      ↔ ((isAtom (schemaOf s) a n ≡ true) × ((f : RecordedStep) → Mem f (stepsOfBook s) → f .step .action .0 ≡ a → valueIn s f (f .pre) n ≡ b))
   unfolding learnedFrom domain
-  need-filed = (
+  need-recorded = (
     λ e.
         let (atom, never) = need-out (domain (schemaOf s)) (transitionsOf s) b a n e in (
           atom,
@@ -42,7 +42,7 @@ module _ (s : List ℕ) (b : Bool) (a n : ℕ) where
               (λ w.
               clash _
               (before-in (transitionsOf s) a n (not b) _
-              (sight-of-filed s a n (not b) _ (record { filed = f; member = m; action = q; was = w; got = refl })))
+              (sight-of-recorded s a n (not b) _ (record { recordedSteps = f; member = m; action = q; was = w; got = refl })))
               never),
         ),
     λ (atom, always).
@@ -50,22 +50,22 @@ module _ (s : List ℕ) (b : Bool) (a n : ℕ) where
         (is-false _
         (λ e.
         let (y, sight) = before-out (transitionsOf s) a n (not b) e in
-        let h = filed-of-sight s a n (not b) y sight in
-        not-self b (sym (always (h .filed) (h .member) (h .action)) ∙ h .was))),
+        let h = recorded-of-sight s a n (not b) y sight in
+        not-self b (sym (always (h .recordedSteps) (h .member) (h .action)) ∙ h .was))),
   )
 
-  effect-filed : learnedFrom s .effect b a n ≡ true
+  effect-recorded : learnedFrom s .effect b a n ≡ true
       ↔ ((isAtom (schemaOf s) a n ≡ true)
-      × ((f : Filed) × Mem f (filedIn s) × (f .step .action .0 ≡ a) × (valueIn s f (f .pre) n ≡ not b) × (valueIn s f (f .post) n ≡ b)))
+      × ((f : RecordedStep) × Mem f (stepsOfBook s) × (f .step .action .0 ≡ a) × (valueIn s f (f .pre) n ≡ not b) × (valueIn s f (f .post) n ≡ b)))
   unfolding learnedFrom domain
-  effect-filed = (
+  effect-recorded = (
     λ e.
         let (atom, turns) = effect-out (domain (schemaOf s)) (transitionsOf s) b a n e in
-        let h = filed-of-sight s a n (not b) b (turned-out (transitionsOf s) a n b turns) in
-        (atom, (h .filed, h .member, h .action, h .was, h .got)),
+        let h = recorded-of-sight s a n (not b) b (turned-out (transitionsOf s) a n b turns) in
+        (atom, (h .recordedSteps, h .member, h .action, h .was, h .got)),
     λ (atom, (f, m, q, w, g)).
         effect-in (domain (schemaOf s)) (transitionsOf s) b a n atom
-        (turned-in (transitionsOf s) a n b (sight-of-filed s a n (not b) b (record { filed = f; member = m; action = q; was = w; got = g }))),
+        (turned-in (transitionsOf s) a n b (sight-of-recorded s a n (not b) b (record { recordedSteps = f; member = m; action = q; was = w; got = g }))),
   )
 
 -- ---- the bits
@@ -85,9 +85,9 @@ module _ (s : List ℕ) (a n : ℕ) (low : 1 ≤ a) (high : a ≤ schemaOf s .mo
       let effect = learned-effect-bit s a n low high small b in
       record {
         needed-by-some = rw need (precondition-iff-some (domain (schemaOf s)) (transitionsOf s) (formed s m good) clean b a n);
-        needed-by-record = rw need (need-filed s b a n);
+        needed-by-record = rw need (need-recorded s b a n);
         given-by-every = rw effect (effect-iff-every (domain (schemaOf s)) (transitionsOf s) (formed s m good) clean b a n);
-        given-by-record = rw effect (effect-filed s b a n);
+        given-by-record = rw effect (effect-recorded s b a n);
         of-none = λ e. (need ∙ need-none b e, effect ∙ effect-none b e);
       }
 

@@ -1,6 +1,6 @@
 -- The demands, proved: Demand3 and Demand2 for one book, TwoBooks and Renumbered for two. Filed and Agree serve them.
 pub mod Demand3
-pub mod Filed
+pub mod RecordedStep
 pub mod Demand2
 pub mod Agree
 pub mod TwoBooks

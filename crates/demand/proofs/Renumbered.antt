@@ -15,18 +15,18 @@ use Rattle.terms.specs.Agree.{SameSchema}
 use Rattle.terms.proofs.Atoms.{fact-path, first-range, second-range}
 use Rattle.terms.proofs.Agree.{atoms-same}
 use Rattle.limits.specs.Limits.{maxObjects}
-use Rattle.format.specs.Decode.{Filed}
+use Rattle.format.specs.Decode.{RecordedStep}
 use Rattle.model.specs.Quantify.{Mem, here, there}
-use Rattle.jobs.specs.Planning.{domain, holding, groundAction, transition, schemaOf, filedIn}
+use Rattle.jobs.specs.Planning.{domain, holding, groundAction, transition, schemaOf, stepsOfBook}
 use Rattle.jobs.specs.Learn.{learnedFrom, ruleRows, ruleSheet}
 use Rattle.wellformed.specs.Right.{RightStep, RightState, RightSomewhere}
 use Rattle.wellformed.specs.Grounding.{objectIn, factOf}
-use Rattle.wellformed.proofs.Records.{filed-right}
+use Rattle.wellformed.proofs.Records.{recorded-right}
 use Rattle.wellformed.proofs.Values.{holds-in, holds-out}
 use Rattle.demand.specs.TwoBooks.{Renumbering, renumbered, RenumberedFacts, RenumberedStep, RenumberedSteps, RenumberedSameSheet}
 use Rattle.demand.proofs.Agree.{fact-same}
 use Rattle.jobs.proofs.Sheet.{rows-same}
-use Rattle.demand.proofs.TwoBooks.{AlikeFiled, same-row}
+use Rattle.demand.proofs.TwoBooks.{AlikeRecorded, same-row}
 
 -- facts that are one when renumbered are one
 renumbered-apart : (to : ℕ → ℕ) → Renumbering to → (f g : Fact) → renumbered to f ≡ renumbered to g → f ≡ g
@@ -50,7 +50,7 @@ renumbered-fact sch to numbering b c objects n =
 
 module _ (s t : List ℕ) (agree : SameSchema (schemaOf s) (schemaOf t)) where
   -- a bound fact holds in a state exactly if it holds in the renumbered one, under the renumbered step
-  value-same : (f g : Filed) (h : RenumberedStep f g) → (hl : Hall) → hl .count ≤ maxObjects → RightStep (schemaOf s) hl (f .step)
+  value-same : (f g : RecordedStep) (h : RenumberedStep f g) → (hl : Hall) → hl .count ≤ maxObjects → RightStep (schemaOf s) hl (f .step)
       → (k : Hall) → k .count ≤ maxObjects → RightStep (schemaOf t) k (g .step)
       → (fs gs : List Fact) → RightState (schemaOf s) hl fs → RightState (schemaOf t) k gs → RenumberedFacts (h .to) fs gs
       → (n : ℕ) → isAtom (schemaOf s) (f .step .action .0) n ≡ true
@@ -75,7 +75,7 @@ module _ (s t : List ℕ) (agree : SameSchema (schemaOf s) (schemaOf t)) where
       let same = renumbered-apart (h .to) (h .numbering) x (factOf (schemaOf s) (f .step .binding) n) (q ∙ sym fact) in
       holds-in (schemaOf s) (f .step .binding) fs n (subst (λ (y : Fact). Mem y fs) same l))
 
-  alike-of-renumbered : (f g : Filed) → RightSomewhere (schemaOf s) f → RightSomewhere (schemaOf t) g → RenumberedStep f g → AlikeFiled s t agree f g
+  alike-of-renumbered : (f g : RecordedStep) → RightSomewhere (schemaOf s) f → RightSomewhere (schemaOf t) g → RenumberedStep f g → AlikeRecorded s t agree f g
   unfolding transition groundAction domain
   alike-of-renumbered f g (hl, few, right) (k, few′, right′) h =
       record {
@@ -85,11 +85,11 @@ module _ (s t : List ℕ) (agree : SameSchema (schemaOf s) (schemaOf t)) where
       }
 
 -- each step has its renumbered one, and the other way round
-renumbered-forth : (fs gs : List Filed) → RenumberedSteps fs gs → {f : Filed} → Mem f fs → (g : Filed) × Mem g gs × RenumberedStep f g
+renumbered-forth : (fs gs : List RecordedStep) → RenumberedSteps fs gs → {f : RecordedStep} → Mem f fs → (g : RecordedStep) × Mem g gs × RenumberedStep f g
 renumbered-forth (f ∷ fs) (g ∷ gs) h here = (g, here, h .0)
 renumbered-forth (f ∷ fs) (g ∷ gs) h (there m) = let (x, k, e) = renumbered-forth fs gs (h .1) m in (x, there k, e)
 
-renumbered-back : (fs gs : List Filed) → RenumberedSteps fs gs → {g : Filed} → Mem g gs → (f : Filed) × Mem f fs × RenumberedStep f g
+renumbered-back : (fs gs : List RecordedStep) → RenumberedSteps fs gs → {g : RecordedStep} → Mem g gs → (f : RecordedStep) × Mem f fs × RenumberedStep f g
 renumbered-back [] (g ∷ gs) h m = absurd h
 renumbered-back (f ∷ fs) (g ∷ gs) h here = (f, here, h .0)
 renumbered-back (f ∷ fs) (g ∷ gs) h (there m) = let (x, k, e) = renumbered-back fs gs (h .1) m in (x, there k, e)
@@ -103,11 +103,11 @@ renumbered-same-sheet s t m n good good′ agree steps =
     same-row s t agree a
     (record {
       forth = λ f k e.
-          let (g, l, h) = renumbered-forth (filedIn s) (filedIn t) steps k in
-          (g, l, alike-of-renumbered s t agree f g (filed-right s m good f k) (filed-right t n good′ g l) h);
+          let (g, l, h) = renumbered-forth (stepsOfBook s) (stepsOfBook t) steps k in
+          (g, l, alike-of-renumbered s t agree f g (recorded-right s m good f k) (recorded-right t n good′ g l) h);
       back = λ g k e.
-          let (f, l, h) = renumbered-back (filedIn s) (filedIn t) steps k in
-          (f, l, alike-of-renumbered s t agree f g (filed-right s m good f l) (filed-right t n good′ g k) h);
+          let (f, l, h) = renumbered-back (stepsOfBook s) (stepsOfBook t) steps k in
+          (f, l, alike-of-renumbered s t agree f g (recorded-right s m good f l) (recorded-right t n good′ g k) h);
     }))
     (schemaOf s .moves) 1
     ∙ ap (λ (k : ℕ). ruleRows (learnedFrom t) k 1) (agree .moves)

@@ -6,13 +6,13 @@ use native.Mathlib.Omega.{arith}
 use Rattle.terms.specs.Steps.{ground}
 use Rattle.terms.specs.Agree.{SameSchema}
 use Rattle.terms.proofs.Agree.{ground-same}
-use Rattle.format.specs.Decode.{Filed}
+use Rattle.format.specs.Decode.{RecordedStep}
 use Rattle.model.specs.Quantify.{Mem}
 use Rattle.model.specs.Domain.{Domain, Transition}
 use Rattle.model.specs.Learned.{learned}
 use Rattle.model.specs.Alike.{Alike, SameRow}
 use Rattle.model.proofs.Row.{alike-sym, precondition-same, effect-same}
-use Rattle.jobs.specs.Planning.{domain, holding, groundAction, transition, schemaOf, filedIn, transitionsOf}
+use Rattle.jobs.specs.Planning.{domain, holding, groundAction, transition, schemaOf, stepsOfBook, transitionsOf}
 use Rattle.jobs.specs.Learn.{learnedFrom, ruleRow, ruleSheet}
 use Rattle.wellformed.proofs.Lists.{mem-map-out, mem-map-in}
 use Rattle.demand.specs.TwoBooks.{SameStep, SameSteps, rowOf, SameStepsSameRow}
@@ -20,31 +20,31 @@ use Rattle.demand.proofs.Agree.{domain-same}
 use Rattle.jobs.proofs.Sheet.{row-part, row-same}
 
 module _ (s t : List ℕ) (agree : SameSchema (schemaOf s) (schemaOf t)) where
-  -- a filed step of the one book shows what a filed step of the other shows
-  abbrev pub AlikeFiled : Filed → Filed → Type 0
-  AlikeFiled f g = Alike (domain (schemaOf s)) (transition (schemaOf s) f) (transition (schemaOf t) g)
+  -- a recorded step of the one book shows what a recorded step of the other shows
+  abbrev pub AlikeRecorded : RecordedStep → RecordedStep → Type 0
+  AlikeRecorded f g = Alike (domain (schemaOf s)) (transition (schemaOf s) f) (transition (schemaOf t) g)
 
-  -- each filed step of move a has one alike in the other book
+  -- each recorded step of move a has one alike in the other book
   pub record AlikeSteps (a : ℕ) : Type 0 where
-    pub forth : (f : Filed) → Mem f (filedIn s) → f .step .action .0 ≡ a → (g : Filed) × Mem g (filedIn t) × AlikeFiled f g
-    pub back : (g : Filed) → Mem g (filedIn t) → g .step .action .0 ≡ a → (f : Filed) × Mem f (filedIn s) × AlikeFiled f g
+    pub forth : (f : RecordedStep) → Mem f (stepsOfBook s) → f .step .action .0 ≡ a → (g : RecordedStep) × Mem g (stepsOfBook t) × AlikeRecorded f g
+    pub back : (g : RecordedStep) → Mem g (stepsOfBook t) → g .step .action .0 ≡ a → (f : RecordedStep) × Mem f (stepsOfBook s) × AlikeRecorded f g
 
   row-of-alike : (a : ℕ) → AlikeSteps a → SameRow (domain (schemaOf s)) a (transitionsOf s) (transitionsOf t)
   unfolding transitionsOf transition groundAction
   row-of-alike a h =
       record {
         forth = λ u m e.
-            let (f, k, q) = mem-map-out (transition (schemaOf s)) (filedIn s) m in
+            let (f, k, q) = mem-map-out (transition (schemaOf s)) (stepsOfBook s) m in
             let (g, l, alike) = h .forth f k (subst (λ (v : Transition). v .step .action ≡ a) (sym q) e) in (
               transition (schemaOf t) g,
-              mem-map-in (transition (schemaOf t)) (filedIn t) l,
+              mem-map-in (transition (schemaOf t)) (stepsOfBook t) l,
               subst (λ (v : Transition). Alike (domain (schemaOf s)) v (transition (schemaOf t) g)) q alike,
             );
         back = λ u m e.
-            let (g, k, q) = mem-map-out (transition (schemaOf t)) (filedIn t) m in
+            let (g, k, q) = mem-map-out (transition (schemaOf t)) (stepsOfBook t) m in
             let (f, l, alike) = h .back g k (subst (λ (v : Transition). v .step .action ≡ a) (sym q) e) in (
               transition (schemaOf s) f,
-              mem-map-in (transition (schemaOf s)) (filedIn s) l,
+              mem-map-in (transition (schemaOf s)) (stepsOfBook s) l,
               subst (λ (v : Transition). Alike (domain (schemaOf s)) v (transition (schemaOf s) f)) q
                   (alike-sym (domain (schemaOf s)) (transition (schemaOf s) f) (transition (schemaOf t) g) alike),
             );
@@ -61,7 +61,7 @@ module _ (s t : List ℕ) (agree : SameSchema (schemaOf s) (schemaOf t)) where
       ∙ ap (λ (E : Domain). ruleRow (learned E (transitionsOf t)) a) (domain-same (schemaOf s) (schemaOf t) agree)
 
   -- ---- the same steps
-  alike-of-same : (f g : Filed) → SameStep f g → AlikeFiled f g
+  alike-of-same : (f g : RecordedStep) → SameStep f g → AlikeRecorded f g
   unfolding transition groundAction domain
   alike-of-same f g h =
       record {

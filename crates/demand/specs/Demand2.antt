@@ -10,18 +10,18 @@ use Rattle.limits.specs.Limits.{ruleSize, maxAtoms}
 use Rattle.answer.specs.declared.Answer.the-variants.{Good}
 use Rattle.terms.specs.declared.Fact.{Fact}
 use Rattle.terms.specs.Steps.{isAtom, ground}
-use Rattle.format.specs.Decode.{Filed}
+use Rattle.format.specs.Decode.{RecordedStep}
 use Rattle.format.specs.LookOver.{lookOver}
 use Rattle.model.specs.Quantify.{Mem}
 use Rattle.model.specs.Model.{Model}
-use Rattle.jobs.specs.Planning.{holding, schemaOf, filedIn}
+use Rattle.jobs.specs.Planning.{holding, schemaOf, stepsOfBook}
 use Rattle.jobs.specs.Learn.{learnable, ruleSheet, learn, learnBytes}
 use Rattle.jobs.specs.SheetBits.{needSet, effectSet, sheetBit}
 use Rattle.jobs.specs.Judge.{FitsBook}
 use Rattle.demand.specs.Demand3.{NoneFits, Impossible}
 
--- whether bound fact n, with the objects of the filed step in, holds among the facts given
-abbrev pub valueIn : List ℕ → Filed → List Fact → ℕ → Bool
+-- whether bound fact n, with the objects of the recorded step in, holds among the facts given
+abbrev pub valueIn : List ℕ → RecordedStep → List Fact → ℕ → Bool
 valueIn s f fs n = holding fs (ground (schemaOf s) (f .step .binding) n)
 
 -- what the bits of bound fact n of move a say, `b` being the value needed or given
@@ -30,13 +30,13 @@ pub record Bits (s : List ℕ) (b : Bool) (a n : ℕ) : Type 0 where
   pub needed-by-some : sheetBit (ruleSheet s) (needSet b) a n ≡ true ↔ ((M : Model) × FitsBook s M × (M .precondition b a n ≡ true))
   -- exactly if n is a bound fact of the move that had the value before every recorded step of it (formula 1).
   pub needed-by-record : sheetBit (ruleSheet s) (needSet b) a n ≡ true
-      ↔ ((isAtom (schemaOf s) a n ≡ true) × ((f : Filed) → Mem f (filedIn s) → f .step .action .0 ≡ a → valueIn s f (f .pre) n ≡ b))
+      ↔ ((isAtom (schemaOf s) a n ≡ true) × ((f : RecordedStep) → Mem f (stepsOfBook s) → f .step .action .0 ≡ a → valueIn s f (f .pre) n ≡ b))
   -- It is set among the effects exactly if every fitting model has the effect,
   pub given-by-every : sheetBit (ruleSheet s) (effectSet b) a n ≡ true ↔ ((M : Model) → FitsBook s M → M .effect b a n ≡ true)
   -- exactly if n is a bound fact of the move that some recorded step of it changed to the value (formula 2).
   pub given-by-record : sheetBit (ruleSheet s) (effectSet b) a n ≡ true
       ↔ ((isAtom (schemaOf s) a n ≡ true)
-      × ((f : Filed) × Mem f (filedIn s) × (f .step .action .0 ≡ a) × (valueIn s f (f .pre) n ≡ not b) × (valueIn s f (f .post) n ≡ b)))
+      × ((f : RecordedStep) × Mem f (stepsOfBook s) × (f .step .action .0 ≡ a) × (valueIn s f (f .pre) n ≡ not b) × (valueIn s f (f .post) n ≡ b)))
   -- Bits of no bound fact are 0.
   pub of-none : isAtom (schemaOf s) a n ≡ false → (sheetBit (ruleSheet s) (needSet b) a n ≡ false) × (sheetBit (ruleSheet s) (effectSet b) a n ≡ false)
 

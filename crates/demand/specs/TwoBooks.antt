@@ -10,10 +10,10 @@ use Rattle.terms.specs.Sections.{sectionsOf}
 use Rattle.terms.specs.Steps.{objectOf}
 use Rattle.terms.specs.Agree.{SameSchema}
 use Rattle.limits.specs.Limits.{headerSize, relationSize, moveSize, maxParams, ruleSize}
-use Rattle.format.specs.Decode.{Filed}
+use Rattle.format.specs.Decode.{RecordedStep}
 use Rattle.format.specs.LookOver.{lookOver}
 use Rattle.model.specs.Quantify.{Mem}
-use Rattle.jobs.specs.Planning.{schemaOf, filedIn}
+use Rattle.jobs.specs.Planning.{schemaOf, stepsOfBook}
 use Rattle.jobs.specs.Learn.{ruleSheet}
 
 -- equal relations and moves, byte by byte: their counts, and each byte of the two sections
@@ -31,15 +31,15 @@ SameSectionsSameSchema = (s t : List ℕ) (m n : ℕ) → lookOver s ≡ Good m 
 -- ---- the same steps of one move
 
 -- the same step, states included, wherever each is filed
-pub record SameStep (f g : Filed) : Type 0 where
+pub record SameStep (f g : RecordedStep) : Type 0 where
   pub step : f .step ≡ g .step
   pub pre : f .pre ≡ g .pre
   pub post : f .post ≡ g .post
 
 -- each step of move a that the one book holds, the other holds too, however often and wherever
 pub record SameSteps (s t : List ℕ) (a : ℕ) : Type 0 where
-  pub forth : (f : Filed) → Mem f (filedIn s) → f .step .action .0 ≡ a → (g : Filed) × Mem g (filedIn t) × SameStep f g
-  pub back : (g : Filed) → Mem g (filedIn t) → g .step .action .0 ≡ a → (f : Filed) × Mem f (filedIn s) × SameStep f g
+  pub forth : (f : RecordedStep) → Mem f (stepsOfBook s) → f .step .action .0 ≡ a → (g : RecordedStep) × Mem g (stepsOfBook t) × SameStep f g
+  pub back : (g : RecordedStep) → Mem g (stepsOfBook t) → g .step .action .0 ≡ a → (f : RecordedStep) × Mem f (stepsOfBook s) × SameStep f g
 
 -- the 128 bytes of move a
 abbrev pub rowOf : List ℕ → ℕ → List ℕ
@@ -66,8 +66,8 @@ pub record RenumberedFacts (to : ℕ → ℕ) (fs gs : List Fact) : Type 0 where
   pub forth : (f : Fact) → Mem f fs → Mem (renumbered to f) gs
   pub back : (g : Fact) → Mem g gs → (f : Fact) × Mem f fs × (renumbered to f ≡ g)
 
--- a filed step with its states, renumbered
-pub record RenumberedStep (f g : Filed) : Type 0 where
+-- a recorded step with its states, renumbered
+pub record RenumberedStep (f g : RecordedStep) : Type 0 where
   pub to : ℕ → ℕ
   pub numbering : Renumbering to
   pub action : f .step .action ≡ g .step .action
@@ -77,7 +77,7 @@ pub record RenumberedStep (f g : Filed) : Type 0 where
   pub post : RenumberedFacts to (f .post) (g .post)
 
 -- step by step, each with a renumbering of its own; the steps of one record may share theirs
-abbrev pub RenumberedSteps : List Filed → List Filed → Type 0
+abbrev pub RenumberedSteps : List RecordedStep → List RecordedStep → Type 0
 RenumberedSteps [] [] = Unit {0}
 RenumberedSteps [] (g ∷ gs) = ⊥
 RenumberedSteps (f ∷ fs) [] = ⊥
@@ -86,4 +86,4 @@ RenumberedSteps (f ∷ fs) (g ∷ gs) = RenumberedStep f g × RenumberedSteps fs
 -- Two books with equal relations and moves whose records differ by the numbers of their objects alone give the same rule sheet.
 abbrev pub RenumberedSameSheet : Type 0
 RenumberedSameSheet = (s t : List ℕ) (m n : ℕ) → lookOver s ≡ Good m → lookOver t ≡ Good n → SameSchema (schemaOf s) (schemaOf t)
-    → RenumberedSteps (filedIn s) (filedIn t) → ruleSheet s ≡ ruleSheet t
+    → RenumberedSteps (stepsOfBook s) (stepsOfBook t) → ruleSheet s ≡ ruleSheet t

@@ -26,21 +26,21 @@ use Rattle.limits.specs.Limits.{headSize, countSize, factSize, stepSize, maxFac
 use Rattle.format.specs.States.{cut, countBad, factRefused, facts, state}
 use Rattle.format.specs.Records.{objectsIn, stepsIn, lengthIn, headBad, object, step, objectsOf, recordAt, stepRefused}
 use Rattle.format.specs.LookOver.{stepTotal}
-use Rattle.format.specs.Decode.{Filed, stateEnd, filedStep, filedAt, recordFiled, recordsFiled}
+use Rattle.format.specs.Decode.{RecordedStep, stateEnd, recordedStep, recordedStepsAt, stepsOfRecord, stepsOfRecords}
 use Rattle.format.proofs.States.{fact-good, count-within, state-within, state-end, state-ends}
 use Rattle.format.proofs.Records.{head-limits, head-objects, object-entry, step-good, step-within, step-reach, trajectory-parted, record-good, record-in, record-within}
 use Rattle.format.proofs.Reading.{Copied, Facing, facing-on, byte-copied, two-copied, fact-copied, step-copied, head-copied, end-copied, state-copied}
 
--- filed steps with other places
-unfoldable pub placedBy : (ℕ → ℕ) → List Filed → List Filed
+-- recorded steps with other places
+unfoldable pub placedBy : (ℕ → ℕ) → List RecordedStep → List RecordedStep
 placedBy to = map (λ f. record { place = to (f .place); step = f .step; pre = f .pre; post = f .post })
 
-pub placed-same : (fs : List Filed) → placedBy (λ p. p) fs ≡ fs
+pub placed-same : (fs : List RecordedStep) → placedBy (λ p. p) fs ≡ fs
 unfolding placedBy
 placed-same [] = refl
 placed-same (f ∷ fs) = ap (λ gs. f ∷ gs) (placed-same fs)
 
-placed-append : (to : ℕ → ℕ) (fs gs : List Filed) → placedBy to (fs ++ gs) ≡ placedBy to fs ++ placedBy to gs
+placed-append : (to : ℕ → ℕ) (fs gs : List RecordedStep) → placedBy to (fs ++ gs) ≡ placedBy to fs ++ placedBy to gs
 unfolding placedBy
 placed-append to [] gs = refl
 placed-append to (f ∷ fs) gs = rw (placed-append to fs gs)
@@ -180,11 +180,11 @@ module _ {s t : List ℕ} {at at′ size : ℕ} (c : Copied s at t at′ size) w
         go j x y p q = rw (p, q) (named j)
 
     module _ (S : Schema) (H : Hall) (end : ℕ) (short : end ≤ at + size) where
-      trajectory-filed : (n a b next last : ℕ) → Facing at at′ a b → state S H s end a ≡ Good next → walk (step S H s end) n next ≡ Good last
-          → placedBy f (filedAt s n a) ≡ placedBy g (filedAt t n b)
-      unfolding filedAt filedStep placedBy
-      trajectory-filed zero a b next last face e w = refl
-      trajectory-filed (suc n) a b next last face e w =
+      trajectory-recorded : (n a b next last : ℕ) → Facing at at′ a b → state S H s end a ≡ Good next → walk (step S H s end) n next ≡ Good last
+          → placedBy f (recordedStepsAt s n a) ≡ placedBy g (recordedStepsAt t n b)
+      unfolding recordedStepsAt recordedStep placedBy
+      trajectory-recorded zero a b next last face e w = refl
+      trajectory-recorded (suc n) a b next last face e w =
           let (after, good, rest) = trajectory-parted S H s end n a next last e w in
           let behind = step-good S H s end (stateEnd s a) after good .2 in
           let within = state-ends S H s end a next e .1 in
@@ -197,27 +197,27 @@ module _ {s t : List ℕ} {at at′ size : ℕ} (c : Copied s at t at′ size) w
             step-copied c (stateEnd s a) (stateEnd t b) face′ (omega arith),
             state-copied c a b face (omega arith),
             state-copied c (stateEnd s a + stepSize) (stateEnd t b + stepSize) face″ (omega arith),
-            trajectory-filed n (stateEnd s a + stepSize) (stateEnd t b + stepSize) after last face″ behind rest,
+            trajectory-recorded n (stateEnd s a + stepSize) (stateEnd t b + stepSize) after last face″ behind rest,
           )
 
     module _ (h : Sections) where
-      record-filed : (a b next : ℕ) → Facing at at′ a b → next ≤ at + size → recordAt h s a ≡ Good next
-          → placedBy f (recordFiled s a) ≡ placedBy g (recordFiled t b)
-      unfolding recordFiled
-      record-filed a b next face l e =
+      record-recorded : (a b next : ℕ) → Facing at at′ a b → next ≤ at + size → recordAt h s a ≡ Good next
+          → placedBy f (stepsOfRecord s a) ≡ placedBy g (stepsOfRecord t b)
+      unfolding stepsOfRecord
+      record-recorded a b next face l e =
           let r = record-good h s a next e in
           let place = r .end in
           let limits = head-limits s a (r .head) in
           let (x, y, z) = head-copied c a b face (omega arith) in
           rw (x, y)
-          (trajectory-filed _ _ (a + lengthIn s a) (omega arith) (stepsIn s a) (a + headSize + objectsIn s a) (b + headSize + objectsIn s a) (r .after) (r .last)
+          (trajectory-recorded _ _ (a + lengthIn s a) (omega arith) (stepsIn s a) (a + headSize + objectsIn s a) (b + headSize + objectsIn s a) (r .after) (r .last)
           (facing-on (facing-on face headSize) (objectsIn s a)) (r .start) (r .steps))
 
       -- records in a row have as many steps, and the same
-      records-filed : (n a last : ℕ) → walk (recordAt h s) n a ≡ Good last
-          → (a ≤ last) × (last ≤ at + size → (b : ℕ) → Facing at at′ a b → (stepTotal t n b ≡ stepTotal s n a) × (placedBy f (recordsFiled s n a) ≡ placedBy g (recordsFiled t n b)))
-      unfolding stepTotal recordsFiled placedBy
-      records-filed =
+      records-recorded : (n a last : ℕ) → walk (recordAt h s) n a ≡ Good last
+          → (a ≤ last) × (last ≤ at + size → (b : ℕ) → Facing at at′ a b → (stepTotal t n b ≡ stepTotal s n a) × (placedBy f (stepsOfRecords s n a) ≡ placedBy g (stepsOfRecords t n b)))
+      unfolding stepTotal stepsOfRecords placedBy
+      records-recorded =
           walk-induction (recordAt h s) _ (λ a. (omega arith, λ l b face. (refl, refl)))
           (λ n a next last good rest.
           let (place, within) = record-within h s a next good in
@@ -227,27 +227,27 @@ module _ {s t : List ℕ} {at at′ size : ℕ} (c : Copied s at t at′ size) w
                 let (x, y, z) = head-copied c a b face (omega arith) in
                 let (total, same) = rest .1 l (b + lengthIn s a) (record { low = omega arith; level = omega arith }) in (
                   rw (y, z, total, place),
-                  rw (z, ← place, placed-append f (recordFiled s a) (recordsFiled s n next), placed-append g (recordFiled t b) (recordsFiled t n (b + lengthIn s a)), record-filed a b next face (omega arith) good, same),
+                  rw (z, ← place, placed-append f (stepsOfRecord s a) (stepsOfRecords s n next), placed-append g (stepsOfRecord t b) (stepsOfRecords t n (b + lengthIn s a)), record-recorded a b next face (omega arith) good, same),
                 ),
           ))
 
       -- What is filed in a record of good form, and in records in a row, is filed where their bytes stand, and the count of steps is the same.
-      pub filed-copied : (next : ℕ) → recordAt h s at ≡ Good next → next ≤ at + size → placedBy f (recordFiled s at) ≡ placedBy g (recordFiled t at′)
-      filed-copied next e l = record-filed at at′ next (record { low = omega arith; level = omega arith }) l e
+      pub recorded-copied : (next : ℕ) → recordAt h s at ≡ Good next → next ≤ at + size → placedBy f (stepsOfRecord s at) ≡ placedBy g (stepsOfRecord t at′)
+      recorded-copied next e l = record-recorded at at′ next (record { low = omega arith; level = omega arith }) l e
 
-      pub all-filed-copied : (n last : ℕ) → walk (recordAt h s) n at ≡ Good last → last ≤ at + size
-          → (stepTotal t n at′ ≡ stepTotal s n at) × (placedBy f (recordsFiled s n at) ≡ placedBy g (recordsFiled t n at′))
-      all-filed-copied n last e l = records-filed n at last e .1 l at′ (record { low = omega arith; level = omega arith })
+      pub all-recorded-copied : (n last : ℕ) → walk (recordAt h s) n at ≡ Good last → last ≤ at + size
+          → (stepTotal t n at′ ≡ stepTotal s n at) × (placedBy f (stepsOfRecords s n at) ≡ placedBy g (stepsOfRecords t n at′))
+      all-recorded-copied n last e l = records-recorded n at last e .1 l at′ (record { low = omega arith; level = omega arith })
 
 -- one record behind records in a row: its steps come last
 module _ (h : Sections) (s : List ℕ) where
-  pub filed-last : (n at last : ℕ) → walk (recordAt h s) n at ≡ Good last
-      → (stepTotal s (suc n) at ≡ stepTotal s n at + stepsIn s last) × (recordsFiled s (suc n) at ≡ recordsFiled s n at ++ recordFiled s last)
-  unfolding stepTotal recordsFiled
-  filed-last =
-      walk-induction (recordAt h s) _ (λ at. (omega arith, append-nil (recordFiled s at)))
+  pub recorded-last : (n at last : ℕ) → walk (recordAt h s) n at ≡ Good last
+      → (stepTotal s (suc n) at ≡ stepTotal s n at + stepsIn s last) × (stepsOfRecords s (suc n) at ≡ stepsOfRecords s n at ++ stepsOfRecord s last)
+  unfolding stepTotal stepsOfRecords
+  recorded-last =
+      walk-induction (recordAt h s) _ (λ at. (omega arith, append-nil (stepsOfRecord s at)))
       (λ n at next last good rest.
       let place = record-within h s at next good .0 in (
         rw (← place) (omega (arith, rest .0)),
-        rw (← place, rest .1) (sym (append-assoc (recordFiled s at) (recordsFiled s n next) (recordFiled s last))),
+        rw (← place, rest .1) (sym (append-assoc (stepsOfRecord s at) (stepsOfRecords s n next) (stepsOfRecord s last))),
       ))

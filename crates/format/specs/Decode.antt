@@ -22,32 +22,32 @@ unfoldable pub stateEnd : List ℕ → ℕ → ℕ
 stateEnd s at = at + countSize + factSize * two s at
 
 -- a step as filed, with the facts that hold before and after it (a transition), and its offset
-pub record Filed : Type 0 where
+pub record RecordedStep : Type 0 where
   pub place : ℕ
   pub step : Step
   pub pre : List Fact
   pub post : List Fact
 
 -- the step at an offset, with the state before it at another
-unfoldable pub filedStep : List ℕ → ℕ → ℕ → Filed
-filedStep s pre at =
+unfoldable pub recordedStep : List ℕ → ℕ → ℕ → RecordedStep
+recordedStep s pre at =
     record { place = at; step = stepAt s at; pre = stateAt s pre; post = stateAt s (at + stepSize) }
 
 -- a number of steps behind the state at an offset
-unfoldable pub filedAt : List ℕ → ℕ → ℕ → List Filed
-filedAt s zero at = []
-filedAt s (suc n) at =
+unfoldable pub recordedStepsAt : List ℕ → ℕ → ℕ → List RecordedStep
+recordedStepsAt s zero at = []
+recordedStepsAt s (suc n) at =
     let place = stateEnd s at in
-    filedStep s at place ∷ filedAt s n (place + stepSize)
+    recordedStep s at place ∷ recordedStepsAt s n (place + stepSize)
 
 -- the steps of one record (trajectory)
-unfoldable pub recordFiled : List ℕ → ℕ → List Filed
-recordFiled s at = filedAt s (stepsIn s at) (at + headSize + objectsIn s at)
+unfoldable pub stepsOfRecord : List ℕ → ℕ → List RecordedStep
+stepsOfRecord s at = recordedStepsAt s (stepsIn s at) (at + headSize + objectsIn s at)
 
-unfoldable pub recordsFiled : List ℕ → ℕ → ℕ → List Filed
-recordsFiled s zero at = []
-recordsFiled s (suc n) at = recordFiled s at ++ recordsFiled s n (at + lengthIn s at)
+unfoldable pub stepsOfRecords : List ℕ → ℕ → ℕ → List RecordedStep
+stepsOfRecords s zero at = []
+stepsOfRecords s (suc n) at = stepsOfRecord s at ++ stepsOfRecords s n (at + lengthIn s at)
 
 -- all steps of a book
-unfoldable pub filed : Sections → List ℕ → List Filed
-filed h s = recordsFiled s (h .records .count) (h .records .at)
+unfoldable pub recordedSteps : Sections → List ℕ → List RecordedStep
+recordedSteps h s = stepsOfRecords s (h .records .count) (h .records .at)

@@ -10,16 +10,16 @@ use Rattle.answer.specs.Answer.{_>>=_, refuse, kept}
 use Rattle.limits.specs.Limits.{setSize, ruleSize}
 use Rattle.mask.specs.Sets.{maskOf}
 use Rattle.terms.specs.Schema.{Schema}
-use Rattle.format.specs.Decode.{Filed}
+use Rattle.format.specs.Decode.{RecordedStep}
 use Rattle.format.specs.LookOver.{lookOver}
 use Rattle.model.specs.Quantify.{least}
 use Rattle.model.specs.Domain.{Transition}
 use Rattle.model.specs.Model.{Model}
 use Rattle.model.specs.Learned.{learned, unboundEffect, conflicting}
-use Rattle.jobs.specs.Planning.{domain, transition, schemaOf, filedIn, transitionsOf}
+use Rattle.jobs.specs.Planning.{domain, transition, schemaOf, stepsOfBook, transitionsOf}
 
 -- row 11: the first step that changed a fact that is no bound fact of it
-unfoldable pub unboundEffects : Schema → List Filed → Answer
+unfoldable pub unboundEffects : Schema → List RecordedStep → Answer
 unboundEffects sch [] = Good 0
 unboundEffects sch (f ∷ fs) = do
   _ ← refuse (unboundEffect (domain sch) (transition sch f)) 11 (f .place)
@@ -37,7 +37,7 @@ conflictingMove sch ts = conflictAnswer (least (sch .moves) (conflicting (domain
 unfoldable pub learnable : List ℕ → Answer
 learnable s = do
   total ← lookOver s
-  _ ← unboundEffects (schemaOf s) (filedIn s)
+  _ ← unboundEffects (schemaOf s) (stepsOfBook s)
   _ ← conflictingMove (schemaOf s) (transitionsOf s)
   Good total
 

@@ -98,7 +98,7 @@ unfoldable pub moveLines : Schema → Model → ℕ → ℕ → List ℕ
 moveLines sch M zero a = []
 moveLines sch M (suc left) a = atomLines sch M a (atomsPerRelation * sch .relations) 0 ++ moveLines sch M left (suc a)
 
--- the first line: counts of moves, records and filed steps
+-- the first line: counts of moves, records and recorded steps
 unfoldable pub countsLine : ℕ → ℕ → ℕ → List ℕ
 countsLine moves records steps =
     movesWord ++ decimal moves ++ recordsWord ++ decimal records ++ stepsWord ++ decimal steps ++ newline

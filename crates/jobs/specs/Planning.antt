@@ -9,7 +9,7 @@ use Rattle.terms.specs.Sections.{sectionsOf}
 use Rattle.terms.specs.Schema.{Schema, schema}
 use Rattle.terms.specs.Facts.{factNumber}
 use Rattle.terms.specs.Steps.{isAtom, ground}
-use Rattle.format.specs.Decode.{Filed, filed}
+use Rattle.format.specs.Decode.{RecordedStep, recordedSteps}
 use Rattle.format.specs.Order.{GoalEntry, startFacts, goal, plan}
 use Rattle.model.specs.Quantify.{any}
 use Rattle.model.specs.Domain.{Domain, State, GroundAction, Transition, GoalLiteral}
@@ -25,7 +25,7 @@ holding fs n = any (λ f. eqb (factNumber f) n) fs
 unfoldable pub groundAction : Schema → Step → GroundAction
 groundAction sch st = record { action = st .action .0; ground = ground sch (st .binding) }
 
-unfoldable pub transition : Schema → Filed → Transition
+unfoldable pub transition : Schema → RecordedStep → Transition
 transition sch f = record { step = groundAction sch (f .step); pre = holding (f .pre); post = holding (f .post) }
 
 unfoldable pub goalEntry : GoalEntry → GoalLiteral
@@ -35,11 +35,11 @@ goalEntry e = record { wanted = e .wanted; fact = factNumber (e .fact) }
 unfoldable pub schemaOf : List ℕ → Schema
 schemaOf s = schema (sectionsOf s) s
 
-unfoldable pub filedIn : List ℕ → List Filed
-filedIn s = filed (sectionsOf s) s
+unfoldable pub stepsOfBook : List ℕ → List RecordedStep
+stepsOfBook s = recordedSteps (sectionsOf s) s
 
 unfoldable pub transitionsOf : List ℕ → List Transition
-transitionsOf s = map (transition (schemaOf s)) (filedIn s)
+transitionsOf s = map (transition (schemaOf s)) (stepsOfBook s)
 
 -- what an order says, for the schema of a book
 unfoldable pub startState : List ℕ → State

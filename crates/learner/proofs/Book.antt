@@ -16,8 +16,8 @@ use Rattle.terms.specs.Sections.{sectionsOf}
 use Rattle.terms.specs.Schema.{schema}
 use Rattle.format.specs.Header.{sections}
 use Rattle.format.specs.LookOver.{lookOver, allRecords, lookOverBy}
-use Rattle.format.specs.Decode.{filed}
-use Rattle.jobs.specs.Planning.{schemaOf, filedIn, transitionsOf}
+use Rattle.format.specs.Decode.{recordedSteps}
+use Rattle.jobs.specs.Planning.{schemaOf, stepsOfBook, transitionsOf}
 use Rattle.jobs.specs.Learn.{unboundEffects, conflictingMove, learnable, learn, learnBytes, learnedFrom, ruleSheet}
 use Rattle.observed.specs.Observed.{Observed, nothingSeen}
 use Rattle.observed.specs.Rules.{unboundAnswer, conflictAmong, sheetObserved}
@@ -63,7 +63,7 @@ module _ (s : List ℕ) (h : Sections) (own : h ≡ sectionsOf s) where
       → RecordsWalked h s (h .records .count) (h .records .at) true (record { masks = first; named = 0 }) bytes w
       → w .answer ≡ Good m
       → IsObserved (observedOf s) bytes (w .named)
-  unfolding observedOf filedIn filed nothingSeen
+  unfolding observedOf stepsOfBook recordedSteps nothingSeen
   all-observed first bytes w m e r f = rw (e, own) at (r .observes refl m f)
 
   -- the records by the header that was read
@@ -112,12 +112,12 @@ module _ (s bytes : List ℕ) (w : Walked) (form : FormObserved s bytes w) (b : 
     conflicting : ℕ → Answer
     conflicting _ = conflictingMove (schemaOf s) (transitionsOf s) >>= λ _. Good total
 
-    rest : learnable s ≡ (unboundEffects (schemaOf s) (filedIn s) >>= conflicting)
+    rest : learnable s ≡ (unboundEffects (schemaOf s) (stepsOfBook s) >>= conflicting)
     unfolding learnable conflicting
     rest = bind-good _ _ _ formed
 
     module _ (c : Answer) (b₂ : Bool) (e₂ : c ≡ unboundAnswer (w .named)) (told₂ : b₂ ≡ isRefused c) where
-      row11 : c ≡ unboundEffects (schemaOf s) (filedIn s)
+      row11 : c ≡ unboundEffects (schemaOf s) (stepsOfBook s)
       unfolding observedOf
       row11 = e₂ ∙ ap unboundAnswer (observes .named) ∙ observed-right s _ formed .row11
 

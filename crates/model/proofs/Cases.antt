@@ -32,8 +32,8 @@ roll34 = roll (1 ∷ 2 ∷ 4 ∷ 5 ∷ [])
 abbrev seen : List ℕ → List ℕ → Transition
 seen pre post = record { step = roll23; pre = state pre; post = state post }
 
-abbrev filed : Transition
-filed = seen (0 ∷ 4 ∷ []) (1 ∷ 3 ∷ [])
+abbrev recordedSteps : Transition
+recordedSteps = seen (0 ∷ 4 ∷ []) (1 ∷ 3 ∷ [])
 
 abbrev at4 : List GoalLiteral
 at4 = record { wanted = true; fact = 2 } ∷ []
@@ -51,14 +51,14 @@ tried ts plan start = checked hall ts plan (state start) at4
 -- M2, M3, M5, M6, M7 and M9; then a stop at step 2, row 12 by a fact that was once removed and once left, row 11 by spot 4,
 -- and that a fact which held before and after is no effect
 small-hall-right :
-    (ends (tried (filed ∷ []) (roll23 ∷ roll34 ∷ []) (0 ∷ 4 ∷ 5 ∷ [])) ≡ false ∷ false ∷ true ∷ true ∷ true ∷ false ∷ [])
-    × (tried (filed ∷ []) (roll23 ∷ roll34 ∷ []) (0 ∷ 3 ∷ 4 ∷ 5 ∷ []) ≡ stops 1)
-    × (tried (filed ∷ []) [] (0 ∷ 4 ∷ 5 ∷ []) ≡ misses 1)
+    (ends (tried (recordedSteps ∷ []) (roll23 ∷ roll34 ∷ []) (0 ∷ 4 ∷ 5 ∷ [])) ≡ false ∷ false ∷ true ∷ true ∷ true ∷ false ∷ [])
+    × (tried (recordedSteps ∷ []) (roll23 ∷ roll34 ∷ []) (0 ∷ 3 ∷ 4 ∷ 5 ∷ []) ≡ stops 1)
+    × (tried (recordedSteps ∷ []) [] (0 ∷ 4 ∷ 5 ∷ []) ≡ misses 1)
     × (tried [] (roll23 ∷ []) (0 ∷ 4 ∷ 5 ∷ []) ≡ stops 1)
     × (ends (tried [] (record { action = 2; ground = λ n. 0 } ∷ []) (2 ∷ [])) ≡ false ∷ false ∷ true ∷ false ∷ false ∷ false ∷ [])
-    × (tried (filed ∷ seen (0 ∷ 4 ∷ []) [] ∷ []) [] [] ≡ impossible)
-    × (tried (filed ∷ []) (roll23 ∷ roll23 ∷ []) (0 ∷ 4 ∷ 5 ∷ []) ≡ stops 2)
-    × (tried (filed ∷ seen (0 ∷ 4 ∷ []) (0 ∷ 1 ∷ 3 ∷ []) ∷ []) [] [] ≡ impossible)
+    × (tried (recordedSteps ∷ seen (0 ∷ 4 ∷ []) [] ∷ []) [] [] ≡ impossible)
+    × (tried (recordedSteps ∷ []) (roll23 ∷ roll23 ∷ []) (0 ∷ 4 ∷ 5 ∷ []) ≡ stops 2)
+    × (tried (recordedSteps ∷ seen (0 ∷ 4 ∷ []) (0 ∷ 1 ∷ 3 ∷ []) ∷ []) [] [] ≡ impossible)
     × (tried (seen (0 ∷ 4 ∷ []) (1 ∷ 3 ∷ 5 ∷ []) ∷ []) [] [] ≡ impossible)
     × (learned hall (seen (0 ∷ 3 ∷ 4 ∷ []) (1 ∷ 3 ∷ []) ∷ []) .effect true 1 2 ≡ false)
 unfolding tried same below any later first image inapplicable next run wrong saw before after turned learned unboundEffect conflicting reached judgedRun checkedBy inconsistent checked

@@ -6,7 +6,7 @@ use mathlib.Core.List.{List}
 use Rattle.terms.specs.declared.Step.{Step}
 use Rattle.terms.specs.Steps.{stepAt}
 use Rattle.limits.specs.Limits.{stepSize}
-use Rattle.format.specs.Decode.{stateAt, filedStep}
+use Rattle.format.specs.Decode.{stateAt, recordedStep}
 use Rattle.observed.specs.Observed.{noted, observe, firstNamed}
 use Rattle.marks.specs.Marks.{StepMarked}
 use Rattle.notes.specs.Notes.{observedStep, IsObserved}
@@ -17,6 +17,6 @@ pub observed-by : (s : List ℕ) (pre at : ℕ) (masks : List ℕ) (named : ℕ)
     → new ≡ noted (step .action .0) before after masks
     → offset ≡ firstNamed named unbound at
     → IsObserved (observedStep s pre at masks named) new offset
-unfolding observedStep observe filedStep
+unfolding observedStep observe recordedStep
 observed-by s pre at masks named step before after new unbound offset is m n f =
     record { masks = n ∙ rw (m .before, m .after, is); named = f ∙ rw (m .unbound, is) }

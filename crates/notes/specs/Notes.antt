@@ -6,7 +6,7 @@ use mathlib.Core.List.{List}
 use lib.Dec.{eqb}
 use Rattle.limits.specs.Limits.{setSize, observedSets}
 use Rattle.mask.specs.Sets.{intersection, union}
-use Rattle.format.specs.Decode.{filedStep}
+use Rattle.format.specs.Decode.{recordedStep}
 use Rattle.observed.specs.Observed.{alwaysBefore, alwaysAfter, Observed, onSet, observe}
 
 -- the set at an offset, intersected and united with another
@@ -18,7 +18,7 @@ widened at m l = onSet at (λ x. union x m) l
 
 -- what is observed after the step at an offset, with the state before it at another, of what was observed before it
 unfoldable pub observedStep : List ℕ → ℕ → ℕ → List ℕ → ℕ → Observed
-observedStep s pre at masks named = observe (filedStep s pre at) (record { masks = masks; named = named })
+observedStep s pre at masks named = observe (recordedStep s pre at) (record { masks = masks; named = named })
 
 -- bytes and an offset that are what is observed
 pub record IsObserved (h : Observed) (bytes : List ℕ) (offset : ℕ) : Type 0 where

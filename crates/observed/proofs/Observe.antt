@@ -16,7 +16,7 @@ use Rattle.terms.specs.declared.Binding.{Binding}
 use Rattle.terms.specs.declared.Fact.{Fact}
 use Rattle.terms.specs.Schema.{Schema}
 use Rattle.terms.specs.Steps.{isAtom}
-use Rattle.format.specs.Decode.{Filed}
+use Rattle.format.specs.Decode.{RecordedStep}
 use Rattle.model.specs.Quantify.{any, Mem, here, there}
 use Rattle.model.specs.Domain.{Transition}
 use Rattle.model.specs.Learned.{saw, before, after, turned}
@@ -99,7 +99,7 @@ seen-nothing sch =
 
 -- ---- one step more
 module _ (sch : Schema) (few : sch .moves ≤ 32) where
-  module _ (ts : List Transition) (h : Observed) (f : Filed) (faithful : Faithful sch f) (seen : Seen sch ts (h .masks)) where
+  module _ (ts : List Transition) (h : Observed) (f : RecordedStep) (faithful : Faithful sch f) (seen : Seen sch ts (h .masks)) where
     known : f .step .action .0 ≤ 32
     known = omega (arith, faithful .known)
 
@@ -139,7 +139,7 @@ module _ (sch : Schema) (few : sch .moves ≤ 32) where
           says = says-more;
         }
 
-  pub seen-all : (fs : List Filed) → ((f : Filed) → Mem f fs → Faithful sch f) → (ts : List Transition) (h : Observed) → Seen sch ts (h .masks)
+  pub seen-all : (fs : List RecordedStep) → ((f : RecordedStep) → Mem f fs → Faithful sch f) → (ts : List Transition) (h : Observed) → Seen sch ts (h .masks)
       → Seen sch (ts ++ map (transition sch) fs) (observeAll fs h .masks)
   unfolding observeAll
   seen-all [] all ts h seen = rw append-nil seen
@@ -147,5 +147,5 @@ module _ (sch : Schema) (few : sch .moves ≤ 32) where
       rw append-assoc at (seen-all fs (λ g m. all g (there m)) (ts ++ transition sch f ∷ []) (observe f h) (seen-observe ts h f (all f here) seen))
 
   -- What is observed after all steps is what their transitions show.
-  pub seen-observed : (fs : List Filed) → ((f : Filed) → Mem f fs → Faithful sch f) → Seen sch (map (transition sch) fs) (observeAll fs nothingSeen .masks)
+  pub seen-observed : (fs : List RecordedStep) → ((f : RecordedStep) → Mem f fs → Faithful sch f) → Seen sch (map (transition sch) fs) (observeAll fs nothingSeen .masks)
   seen-observed fs all = seen-all fs all [] nothingSeen (seen-nothing sch)

@@ -3,20 +3,20 @@ use Prim.Native.Nat.{ℕ, zero, suc, _+_}
 use mathlib.Core.Path.{_≡_, refl}
 use mathlib.Core.List.{List, [], _∷_, _++_}
 use Rattle.format.specs.Records.{lengthIn}
-use Rattle.format.specs.Decode.{Filed, recordFiled, recordsFiled}
+use Rattle.format.specs.Decode.{RecordedStep, stepsOfRecord, stepsOfRecords}
 use Rattle.observed.specs.Observed.{Observed, observe, observeAll, observedAfter}
 
-observe-append : (fs gs : List Filed) (h : Observed) → observeAll (fs ++ gs) h ≡ observeAll gs (observeAll fs h)
+observe-append : (fs gs : List RecordedStep) (h : Observed) → observeAll (fs ++ gs) h ≡ observeAll gs (observeAll fs h)
 unfolding observeAll
 observe-append [] gs h = refl
 observe-append (f ∷ fs) gs h = observe-append fs gs (observe f h)
 
 module _ (s : List ℕ) (at : ℕ) (h : Observed) where
-  pub observed-none : observeAll (recordsFiled s zero at) h ≡ h
-  unfolding recordsFiled observeAll
+  pub observed-none : observeAll (stepsOfRecords s zero at) h ≡ h
+  unfolding stepsOfRecords observeAll
   observed-none = refl
 
   -- Holding the steps of some records is holding those of the first, and then those of the rest.
-  pub observed-more : (n : ℕ) → observeAll (recordsFiled s (suc n) at) h ≡ observeAll (recordsFiled s n (at + lengthIn s at)) (observedAfter s at h)
-  unfolding recordsFiled observedAfter
-  observed-more n = observe-append (recordFiled s at) (recordsFiled s n (at + lengthIn s at)) h
+  pub observed-more : (n : ℕ) → observeAll (stepsOfRecords s (suc n) at) h ≡ observeAll (stepsOfRecords s n (at + lengthIn s at)) (observedAfter s at h)
+  unfolding stepsOfRecords observedAfter
+  observed-more n = observe-append (stepsOfRecord s at) (stepsOfRecords s n (at + lengthIn s at)) h

@@ -4,7 +4,7 @@ use native.Mathlib.Omega.{arith}
 use mathlib.Core.Path.{_≡_, refl}
 use mathlib.Core.List.{List, map}
 use Rattle.terms.specs.Schema.{Schema}
-use Rattle.format.specs.Decode.{Filed}
+use Rattle.format.specs.Decode.{RecordedStep}
 use Rattle.model.specs.Quantify.{Mem}
 use Rattle.jobs.specs.Planning.{transition}
 use Rattle.observed.specs.Observed.{observeAll, nothingSeen}
@@ -19,7 +19,7 @@ none-named : nothingSeen .named ≡ 0
 unfolding nothingSeen
 none-named = refl
 
-pub taught : (sch : Schema) → sch .relations ≤ 16 → sch .moves ≤ 32 → (fs : List Filed) → ((f : Filed) → Mem f fs → Faithful sch f)
+pub taught : (sch : Schema) → sch .relations ≤ 16 → sch .moves ≤ 32 → (fs : List RecordedStep) → ((f : RecordedStep) → Mem f fs → Faithful sch f)
     → Taught sch fs (observeAll fs nothingSeen)
 taught sch relations moves fs all =
     let seen = seen-observed sch moves fs all in

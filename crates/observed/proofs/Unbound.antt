@@ -10,7 +10,7 @@ use Rattle.answer.specs.declared.Answer.the-variants.{Refused}
 use Rattle.truth.specs.Bools.{decide}
 use Rattle.answer.specs.Laws.{refuse-met, refuse-unmet}
 use Rattle.terms.specs.Schema.{Schema}
-use Rattle.format.specs.Decode.{Filed}
+use Rattle.format.specs.Decode.{RecordedStep}
 use Rattle.model.specs.Quantify.{Mem, here, there}
 use Rattle.model.specs.Learned.{unboundEffect}
 use Rattle.jobs.specs.Planning.{domain, transition}
@@ -26,11 +26,11 @@ named zero h = absurd (omega arith)
 named (suc p) h = refl
 
 -- a step named already
-observe-named : (f : Filed) (h : Observed) → 1 ≤ h .named → observe f h .named ≡ h .named
+observe-named : (f : RecordedStep) (h : Observed) → 1 ≤ h .named → observe f h .named ≡ h .named
 unfolding observe firstNamed
 observe-named f h n = rw (ne-eqb (h .named) 0 (λ e. omega arith))
 
-all-named : (fs : List Filed) (h : Observed) → 1 ≤ h .named → observeAll fs h .named ≡ h .named
+all-named : (fs : List RecordedStep) (h : Observed) → 1 ≤ h .named → observeAll fs h .named ≡ h .named
 unfolding observeAll
 all-named [] h n = refl
 all-named (f ∷ fs) h n =
@@ -38,12 +38,12 @@ all-named (f ∷ fs) h n =
     all-named fs (observe f h) (omega arith) ∙ e
 
 -- none named yet
-observe-none : (f : Filed) (h : Observed) → h .named ≡ 0 → observe f h .named ≡ cond (unboundChanged (f .step .binding) (f .pre) (f .post)) (f .place) 0
+observe-none : (f : RecordedStep) (h : Observed) → h .named ≡ 0 → observe f h .named ≡ cond (unboundChanged (f .step .binding) (f .pre) (f .post)) (f .place) 0
 unfolding observe firstNamed
 observe-none f h n = rw n
 
 module _ (sch : Schema) where
-  pub unbound-observed : (fs : List Filed) → ((f : Filed) → Mem f fs → Faithful sch f) → (h : Observed) → h .named ≡ 0
+  pub unbound-observed : (fs : List RecordedStep) → ((f : RecordedStep) → Mem f fs → Faithful sch f) → (h : Observed) → h .named ≡ 0
       → unboundAnswer (observeAll fs h .named) ≡ unboundEffects sch fs
   unfolding observeAll unboundEffects unboundAnswer
   unbound-observed [] all h n = rw n

@@ -9,7 +9,7 @@ use Rattle.terms.specs.declared.Fact.{Fact}
 use Rattle.terms.specs.declared.Step.{Step}
 use Rattle.terms.specs.Schema.{Schema}
 use Rattle.terms.specs.Steps.{isAtom, ground}
-use Rattle.format.specs.Decode.{Filed}
+use Rattle.format.specs.Decode.{RecordedStep}
 use Rattle.model.specs.Learned.{unboundEffect}
 use Rattle.jobs.specs.Planning.{domain, holding, transition}
 use Rattle.observed.specs.Inverse.{atomsIn, unboundChanged}
@@ -19,7 +19,7 @@ abbrev pub Found : Schema → Step → List Fact → Type 0
 Found sch st fs =
     (n : ℕ) → n < maxAtoms → isAtom sch (st .action .0) n ≡ true → testBit (atomsIn (st .binding) fs) n ≡ holding fs (ground sch (st .binding) n)
 
-pub record Faithful (sch : Schema) (f : Filed) : Type 0 where
+pub record Faithful (sch : Schema) (f : RecordedStep) : Type 0 where
   pub counted : 1 ≤ f .step .action .0
   pub known : f .step .action .0 ≤ sch .moves
   pub placed : 1 ≤ f .place

@@ -6,7 +6,7 @@ use lib.ListN.{take, drop}
 use lib.Dec.{eqb}
 use Rattle.limits.specs.Limits.{setSize, observedSets, observedPerMove, observedSize, maxAtoms}
 use Rattle.mask.specs.Sets.{maskOf, intersection, union, difference}
-use Rattle.format.specs.Decode.{Filed, recordFiled}
+use Rattle.format.specs.Decode.{RecordedStep, stepsOfRecord}
 use Rattle.observed.specs.Inverse.{atomsIn, unboundChanged}
 
 -- ---- the six sets of a move, numbered in their order; src/lib.rt has the numbers for code
@@ -62,7 +62,7 @@ unfoldable pub firstNamed : ℕ → Bool → ℕ → ℕ
 firstNamed named unbound at = cond (eqb named 0) (cond unbound at 0) named
 
 -- what is observed after one step more
-unfoldable pub observe : Filed → Observed → Observed
+unfoldable pub observe : RecordedStep → Observed → Observed
 observe f h =
     record {
       masks =
@@ -70,13 +70,13 @@ observe f h =
       named = firstNamed (h .named) (unboundChanged (f .step .binding) (f .pre) (f .post)) (f .place);
     }
 
-unfoldable pub observeAll : List Filed → Observed → Observed
+unfoldable pub observeAll : List RecordedStep → Observed → Observed
 observeAll [] h = h
 observeAll (f ∷ fs) h = observeAll fs (observe f h)
 
 -- what is observed after a record: made from what was observed before, that record and its offset
 unfoldable pub observedAfter : List ℕ → ℕ → Observed → Observed
-observedAfter s at h = observeAll (recordFiled s at) h
+observedAfter s at h = observeAll (stepsOfRecord s at) h
 
 -- before any record: what holds at every one of no steps is everything
 unfoldable pub nothingSeen : Observed

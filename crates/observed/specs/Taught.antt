@@ -5,7 +5,7 @@ use lib.ListN.{length}
 use Rattle.limits.specs.Limits.{observedSize}
 use Rattle.mask.specs.Bits.{Bytes}
 use Rattle.terms.specs.Schema.{Schema}
-use Rattle.format.specs.Decode.{Filed}
+use Rattle.format.specs.Decode.{RecordedStep}
 use Rattle.model.specs.Learned.{learned}
 use Rattle.jobs.specs.Planning.{domain, transition}
 use Rattle.jobs.specs.Learn.{unboundEffects, conflictingMove, ruleRows}
@@ -13,7 +13,7 @@ use Rattle.observed.specs.Observed.{Observed}
 use Rattle.observed.specs.Rules.{sheetObserved, unboundAnswer, conflictAmong}
 
 -- `h` is what is observed after the steps `fs`
-pub record Taught (sch : Schema) (fs : List Filed) (h : Observed) : Type 0 where
+pub record Taught (sch : Schema) (fs : List RecordedStep) (h : Observed) : Type 0 where
   pub sized : length (h .masks) ≡ observedSize
   pub bytes : Bytes (h .masks)
   pub row11 : unboundAnswer (h .named) ≡ unboundEffects sch fs

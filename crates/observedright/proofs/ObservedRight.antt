@@ -6,32 +6,32 @@ use mathlib.Core.List.{List}
 use Rattle.answer.specs.declared.Answer.the-variants.{Good}
 use Rattle.limits.specs.Limits.{stepSize}
 use Rattle.format.specs.LookOver.{lookOver}
-use Rattle.format.specs.Decode.{Filed, stateEnd, filedAt, recordFiled, filedStep}
+use Rattle.format.specs.Decode.{RecordedStep, stateEnd, recordedStepsAt, stepsOfRecord, recordedStep}
 use Rattle.model.specs.Quantify.{Mem, here, there}
-use Rattle.jobs.specs.Planning.{schemaOf, filedIn}
+use Rattle.jobs.specs.Planning.{schemaOf, stepsOfBook}
 use Rattle.observed.specs.Observed.{observeAll, nothingSeen}
 use Rattle.observed.specs.Faithful.{Faithful}
 use Rattle.observed.specs.Taught.{Taught}
 use Rattle.observed.proofs.Taught.{taught}
-use Rattle.wellformed.proofs.Records.{filed-somewhere, filed-right}
+use Rattle.wellformed.proofs.Records.{recorded-somewhere, recorded-right}
 use Rattle.wellformed.proofs.Suits.{move-known}
 use Rattle.wellformed.proofs.Headers.{relations-few, moves-few}
 use Rattle.observedright.proofs.States.{state-found}
 use Rattle.observedright.proofs.UnboundEffects.{unbound-changed-right}
 
 -- ---- a step stands behind a state, so not at 0
-steps-placed : (s : List ℕ) (n at : ℕ) {f : Filed} → Mem f (filedAt s n at) → 1 ≤ f .place
-unfolding filedAt filedStep stateEnd
+steps-placed : (s : List ℕ) (n at : ℕ) {f : RecordedStep} → Mem f (recordedStepsAt s n at) → 1 ≤ f .place
+unfolding recordedStepsAt recordedStep stateEnd
 steps-placed s (suc n) at here = omega arith
 steps-placed s (suc n) at (there m) = steps-placed s n (stateEnd s at + stepSize) m
 
 module _ (s : List ℕ) (n : ℕ) (good : lookOver s ≡ Good n) where
   -- Every step that is filed in a book of good form is faithful.
-  pub filed-faithful : (f : Filed) → Mem f (filedIn s) → Faithful (schemaOf s) f
-  unfolding recordFiled
-  filed-faithful f m =
-      let (hl, few, right) = filed-right s n good f m in
-      let (from, next, whole, k) = filed-somewhere s n good m in
+  pub recorded-faithful : (f : RecordedStep) → Mem f (stepsOfBook s) → Faithful (schemaOf s) f
+  unfolding stepsOfRecord
+  recorded-faithful f m =
+      let (hl, few, right) = recorded-right s n good f m in
+      let (from, next, whole, k) = recorded-somewhere s n good m in
       let (counted, known) = move-known (schemaOf s) hl (f .step) (right .step) in
       record {
         counted = counted;
@@ -43,5 +43,5 @@ module _ (s : List ℕ) (n : ℕ) (good : lookOver s ≡ Good n) where
       }
 
   -- What is observed after the steps of a book of good form gives exactly its sheet, its row 11 and its row 12.
-  pub observed-right : Taught (schemaOf s) (filedIn s) (observeAll (filedIn s) nothingSeen)
-  observed-right = taught (schemaOf s) (relations-few s n good) (moves-few s n good) (filedIn s) filed-faithful
+  pub observed-right : Taught (schemaOf s) (stepsOfBook s) (observeAll (stepsOfBook s) nothingSeen)
+  observed-right = taught (schemaOf s) (relations-few s n good) (moves-few s n good) (stepsOfBook s) recorded-faithful

@@ -13,7 +13,7 @@ use Rattle.terms.specs.Facts.{factBad, factNumber, noFact}
 use Rattle.terms.specs.Steps.{isAtom, ground}
 use Rattle.terms.proofs.Atoms.{atom-below}
 use Rattle.limits.specs.Limits.{maxObjects}
-use Rattle.format.specs.Decode.{Filed}
+use Rattle.format.specs.Decode.{RecordedStep}
 use Rattle.model.specs.Quantify.{same, below, Mem}
 use Rattle.model.specs.Model.{image}
 use Rattle.model.specs.Learned.{unboundEffect}
@@ -74,7 +74,7 @@ module _ (sch : Schema) (hl : Hall) (few : hl .count ≤ maxObjects) (st : Step)
         let q : g ≡ f = number-injective sch hl few g f (suit′ g l) (suit f k) e in
         unbound-in (st .binding) gs (rw q at l) u
 
-module _ (sch : Schema) (hl : Hall) (few : hl .count ≤ maxObjects) (f : Filed) (right : Right sch hl f) where
+module _ (sch : Schema) (hl : Hall) (few : hl .count ≤ maxObjects) (f : RecordedStep) (right : Right sch hl f) where
   differs : ℕ → Bool
   differs x = not (same (holding (f .pre) x) (holding (f .post) x)) && not (imaged sch (f .step) x)
 

@@ -16,7 +16,7 @@ use Rattle.limits.specs.Limits.{maxLength, maxMoves, headSize, stepSize}
 use Rattle.format.specs.States.{state}
 use Rattle.format.specs.LookOver.{allRecords}
 use Rattle.format.specs.Records.{objectsIn, stepsIn, lengthIn, step, recordAt}
-use Rattle.format.specs.Decode.{stateEnd, filedAt, recordFiled, recordsFiled}
+use Rattle.format.specs.Decode.{stateEnd, recordedStepsAt, stepsOfRecord, stepsOfRecords}
 use Rattle.format.proofs.States.{state-within, state-end, state-ends}
 use Rattle.format.proofs.Records.{head-limits, step-reach, trajectory-parted, record-good}
 use Rattle.records.specs.declared.Head.{Head}
@@ -59,9 +59,9 @@ module _ (s : List ℕ) (at : ℕ) (head : Head) (read : head ≡ headOf s at) w
   record-ready h = rw read h
 
   pub record-observed : (before : Observed) (bytes : List ℕ) (named : ℕ)
-      → IsObserved (observeAll (filedAt s (head .steps) (at + headSize + head .objects)) before) bytes named
-      → IsObserved (observeAll (recordFiled s at) before) bytes named
-  unfolding recordFiled headOf
+      → IsObserved (observeAll (recordedStepsAt s (head .steps) (at + headSize + head .objects)) before) bytes named
+      → IsObserved (observeAll (stepsOfRecord s at) before) bytes named
+  unfolding stepsOfRecord headOf
   record-observed before bytes named h = rw read at h
 
 module _ (s : List ℕ) (whole : Observed) where
@@ -69,9 +69,9 @@ module _ (s : List ℕ) (whole : Observed) where
   pub record-turn : (n at next : ℕ) (masks masks′ : List ℕ) (named named′ : ℕ)
       → 0 < n
       → next ≡ at + lengthIn s at
-      → IsObserved (observeAll (recordFiled s at) (observedAs masks named)) masks′ named′
-      → observeAll (recordsFiled s n at) (observedAs masks named) ≡ whole
-      → observeAll (recordsFiled s (n - 1) next) (observedAs masks′ named′) ≡ whole
+      → IsObserved (observeAll (stepsOfRecord s at) (observedAs masks named)) masks′ named′
+      → observeAll (stepsOfRecords s n at) (observedAs masks named) ≡ whole
+      → observeAll (stepsOfRecords s (n - 1) next) (observedAs masks′ named′) ≡ whole
   unfolding observedAfter
   record-turn zero at next masks masks′ named named′ l e f i = absurd (omega arith)
   record-turn (suc n) at next masks masks′ named named′ l e f i =
@@ -79,7 +79,7 @@ module _ (s : List ℕ) (whole : Observed) where
 
   pub records-done : (n at : ℕ) (masks : List ℕ) (named : ℕ)
       → n ≡ 0
-      → observeAll (recordsFiled s n at) (observedAs masks named) ≡ whole
+      → observeAll (stepsOfRecords s n at) (observedAs masks named) ≡ whole
       → IsObserved whole masks named
   records-done n at masks named e i =
       let j = sym (observed-none s at (observedAs masks named)) ∙ rw e at i in

@@ -7,7 +7,7 @@ use native.Mathlib.Omega.{arith}
 use lib.ListN.{length}
 use Rattle.terms.specs.Steps.{stepAt}
 use Rattle.limits.specs.Limits.{maxLength, maxMoves, stepSize}
-use Rattle.format.specs.Decode.{stateEnd, filedAt}
+use Rattle.format.specs.Decode.{stateEnd, recordedStepsAt}
 use Rattle.observed.specs.Observed.{Observed, observeAll}
 use Rattle.notes.specs.Notes.{IsObserved, observedStep}
 use Rattle.walk.specs.Walk.{Observable}
@@ -24,17 +24,17 @@ module _ (s : List ℕ) (whole : Observed) where
       → 0 < n
       → mid ≡ stateEnd s at
       → IsObserved (observedStep s at mid masks named) masks′ named′
-      → observeAll (filedAt s n at) (observedAs masks named) ≡ whole
-      → observeAll (filedAt s (n - 1) (mid + stepSize)) (observedAs masks′ named′) ≡ whole
-  unfolding filedAt observeAll observedStep
+      → observeAll (recordedStepsAt s n at) (observedAs masks named) ≡ whole
+      → observeAll (recordedStepsAt s (n - 1) (mid + stepSize)) (observedAs masks′ named′) ≡ whole
+  unfolding recordedStepsAt observeAll observedStep
   step-turn zero at mid masks masks′ named named′ h e f i = absurd (omega arith)
   step-turn (suc n) at mid masks masks′ named named′ h e f i = rw (observed-path _ _ _ f, sub-one, e) i
 
   pub steps-done : (n at : ℕ) (masks : List ℕ) (named : ℕ)
       → n ≡ 0
-      → observeAll (filedAt s n at) (observedAs masks named) ≡ whole
+      → observeAll (recordedStepsAt s n at) (observedAs masks named) ≡ whole
       → IsObserved whole masks named
-  unfolding filedAt observeAll
+  unfolding recordedStepsAt observeAll
   steps-done n at masks named e i =
       let j = rw e at i in
       record { masks = ap (λ h. h .masks) j; named = ap (λ h. h .named) j }

@@ -9,7 +9,7 @@ use Rattle.terms.specs.declared.Sections.{Sections}
 use Rattle.terms.specs.Steps.{stepAt}
 use Rattle.limits.specs.Limits.{maxLength, maxMoves, stepSize}
 use Rattle.format.specs.LookOver.{allRecords}
-use Rattle.format.specs.Decode.{stateEnd, recordsFiled}
+use Rattle.format.specs.Decode.{stateEnd, stepsOfRecords}
 use Rattle.observed.specs.Observed.{Observed, observeAll}
 use Rattle.notes.specs.Notes.{IsObserved}
 use Rattle.walk.specs.declared.Walked.{Walked}
@@ -28,4 +28,4 @@ Observable s (suc n) at =
 -- a number of records walked, each looked over: the answer and, where steps were noted and it is good, what is observed
 pub record RecordsWalked (h : Sections) (s : List ℕ) (n from : ℕ) (noting : Bool) (before : Observed) (bytes : List ℕ) (w : Walked) : Type 0 where
   pub says : w .answer ≡ allRecords h s n from
-  pub observes : noting ≡ true → (m : ℕ) → w .answer ≡ Good m → IsObserved (observeAll (recordsFiled s n from) before) bytes (w .named)
+  pub observes : noting ≡ true → (m : ℕ) → w .answer ≡ Good m → IsObserved (observeAll (stepsOfRecords s n from) before) bytes (w .named)

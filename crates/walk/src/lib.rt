@@ -9,7 +9,7 @@ ghost use lib.ListN.{length};
 ghost use Rattle.limits.specs.Limits.{nearCeiling, maxLength, maxMoves, maxRecords, observedSize, headSize};
 ghost use Rattle.terms.specs.Sections.{sectionsOf};
 ghost use Rattle.format.specs.Records.{stepsIn, objectsIn};
-ghost use Rattle.format.specs.Decode.{stateEnd, filedAt, recordFiled};
+ghost use Rattle.format.specs.Decode.{stateEnd, recordedStepsAt, stepsOfRecord};
 ghost use Rattle.observed.specs.Observed.{observeAll};
 ghost use Rattle.records.specs.Head.{headOf};
 ghost use Rattle.notes.specs.Notes.{IsObserved};
@@ -31,7 +31,7 @@ fn state_end(s: &[u8], at: usize) -> usize
 // The steps behind the state at an offset, each noted.
 fn observe_steps(s: &[u8], n: usize, from: usize, observed: &mut [u8], named: usize) -> usize
     requires { ⌜ (length (now observed) ≡ observedSize) × Observable (now s) n from ⌝ }
-    ensures { λ r. ⌜ IsObserved (observeAll (filedAt (now (s .entry)) n from) (record { masks = now (observed .entry); named = named })) (now (observed .exit)) r ⌝ }
+    ensures { λ r. ⌜ IsObserved (observeAll (recordedStepsAt (now (s .entry)) n from) (record { masks = now (observed .entry); named = named })) (now (observed .exit)) r ⌝ }
 {
     let mut left = n;
     let mut at = from;
@@ -55,7 +55,7 @@ fn observe_record(
     named: usize,
 ) -> usize
     requires { ⌜ (at ≤ maxLength) × (head ≡ headOf (now s) at) × (noting ≡ true → (length (now observed) ≡ observedSize) × Observable (now s) (stepsIn (now s) at) (at + headSize + objectsIn (now s) at)) ⌝ }
-    ensures { λ r. ⌜ (noting ≡ true → IsObserved (observeAll (recordFiled (now (s .entry)) at) (record { masks = now (observed .entry); named = named })) (now (observed .exit)) r) ⌝ }
+    ensures { λ r. ⌜ (noting ≡ true → IsObserved (observeAll (stepsOfRecord (now (s .entry)) at) (record { masks = now (observed .entry); named = named })) (now (observed .exit)) r) ⌝ }
 {
     if noting {
         let steps = at + limits::HEAD_SIZE + head.objects as usize;

@@ -6,9 +6,9 @@ use Rattle.answer.specs.declared.Answer.the-variants.{Good}
 use Rattle.format.specs.LookOver.{lookOver}
 use Rattle.model.specs.Domain.{Transition}
 use Rattle.model.specs.Formed.{Proper, Formed}
-use Rattle.jobs.specs.Planning.{domain, groundAction, transition, schemaOf, filedIn, transitionsOf}
+use Rattle.jobs.specs.Planning.{domain, groundAction, transition, schemaOf, stepsOfBook, transitionsOf}
 use Rattle.wellformed.proofs.Lists.{mem-map-out}
-use Rattle.wellformed.proofs.Records.{filed-right}
+use Rattle.wellformed.proofs.Records.{recorded-right}
 use Rattle.wellformed.proofs.Suits.{move-known}
 use Rattle.wellformed.proofs.Atoms.{step-proper}
 use Rattle.wellformed.proofs.Holding.{holding-below}
@@ -19,16 +19,16 @@ unfolding transitionsOf transition groundAction domain
 formed s n good =
     record {
       proper = λ t m.
-          let (f, k, e) = mem-map-out (transition (schemaOf s)) (filedIn s) m in
-          let (hl, few, right) = filed-right s n good f k in
+          let (f, k, e) = mem-map-out (transition (schemaOf s)) (stepsOfBook s) m in
+          let (hl, few, right) = recorded-right s n good f k in
           subst (λ (u : Transition). Proper (domain (schemaOf s)) (u .step)) e (step-proper (schemaOf s) hl (f .step) (right .step) few);
       known = λ t m.
-          let (f, k, e) = mem-map-out (transition (schemaOf s)) (filedIn s) m in
-          let (hl, few, right) = filed-right s n good f k in
+          let (f, k, e) = mem-map-out (transition (schemaOf s)) (stepsOfBook s) m in
+          let (hl, few, right) = recorded-right s n good f k in
           subst (λ (u : Transition). (1 ≤ u .step .action) × (u .step .action ≤ schemaOf s .moves)) e (move-known (schemaOf s) hl (f .step) (right .step));
       within = λ t m x h.
-          let (f, k, e) = mem-map-out (transition (schemaOf s)) (filedIn s) m in
-          let (hl, few, right) = filed-right s n good f k in
+          let (f, k, e) = mem-map-out (transition (schemaOf s)) (stepsOfBook s) m in
+          let (hl, few, right) = recorded-right s n good f k in
           subst (λ (u : Transition). u .pre x ≡ u .post x) e
           (holding-below (schemaOf s) hl few (f .pre) (right .pre) x h ∙ sym (holding-below (schemaOf s) hl few (f .post) (right .post) x h));
     }

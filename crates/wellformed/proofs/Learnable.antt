@@ -8,25 +8,25 @@ use Rattle.answer.specs.declared.Answer.the-variants.{Good, Refused}
 use Rattle.truth.specs.Bools.{clash, decide, neither}
 use Rattle.answer.specs.Laws.{bind-good, bind-refused, refuse-met, refuse-unmet}
 use Rattle.terms.specs.Schema.{Schema}
-use Rattle.format.specs.Decode.{Filed}
+use Rattle.format.specs.Decode.{RecordedStep}
 use Rattle.format.specs.LookOver.{lookOver}
 use Rattle.model.specs.Quantify.{any, below, least}
 use Rattle.model.specs.Domain.{Domain, Transition}
 use Rattle.model.specs.Learned.{unboundEffect, conflicting}
 use Rattle.model.specs.Check.{inconsistent}
 use Rattle.model.proofs.Quantify.{least-none}
-use Rattle.jobs.specs.Planning.{domain, transition, schemaOf, filedIn, transitionsOf}
+use Rattle.jobs.specs.Planning.{domain, transition, schemaOf, stepsOfBook, transitionsOf}
 use Rattle.jobs.specs.Learn.{unboundEffects, conflictAnswer, conflictingMove, learnable}
 
 -- row 11 is met exactly if some transition has an unbound effect
-pub unbound-effects-none : (sch : Schema) (fs : List Filed) → any (unboundEffect (domain sch)) (map (transition sch) fs) ≡ false → unboundEffects sch fs ≡ Good 0
+pub unbound-effects-none : (sch : Schema) (fs : List RecordedStep) → any (unboundEffect (domain sch)) (map (transition sch) fs) ≡ false → unboundEffects sch fs ≡ Good 0
 unfolding unboundEffects any
 unbound-effects-none sch [] e = refl
 unbound-effects-none sch (f ∷ fs) e =
     let (head, tail) = neither (unboundEffect (domain sch) (transition sch f)) (any (unboundEffect (domain sch)) (map (transition sch) fs)) e in
     refuse-unmet _ 11 (f .place) _ head ∙ unbound-effects-none sch fs tail
 
-pub unbound-effects-some : (sch : Schema) (fs : List Filed) → any (unboundEffect (domain sch)) (map (transition sch) fs) ≡ true → (p : ℕ) × (unboundEffects sch fs ≡ Refused 11 p)
+pub unbound-effects-some : (sch : Schema) (fs : List RecordedStep) → any (unboundEffect (domain sch)) (map (transition sch) fs) ≡ true → (p : ℕ) × (unboundEffects sch fs ≡ Refused 11 p)
 unfolding unboundEffects any
 unbound-effects-some sch [] e = clash false e refl
 unbound-effects-some sch (f ∷ fs) e = go (decide (unboundEffect (domain sch) (transition sch f))) (unbound-effects-some sch fs)
@@ -60,7 +60,7 @@ module _ (s : List ℕ) (n : ℕ) (good : lookOver s ≡ Good n) where
   learnable-clean clean =
       let (unbound-free, conflicting-free) = neither (any (unboundEffect (domain (schemaOf s))) (transitionsOf s)) (below (schemaOf s .moves) (λ a. conflicting (domain (schemaOf s)) (transitionsOf s) (suc a))) clean in
       bind-good (lookOver s) _ n good
-      ∙ bind-good (unboundEffects (schemaOf s) (filedIn s)) _ 0 (unbound-effects-none (schemaOf s) (filedIn s) unbound-free)
+      ∙ bind-good (unboundEffects (schemaOf s) (stepsOfBook s)) _ 0 (unbound-effects-none (schemaOf s) (stepsOfBook s) unbound-free)
       ∙ bind-good (conflictingMove (schemaOf s) (transitionsOf s)) _ 0 (conflicting-none (schemaOf s) (transitionsOf s) conflicting-free)
 
   -- and with one it is refused with 11 or 12.
@@ -76,14 +76,14 @@ module _ (s : List ℕ) (n : ℕ) (good : lookOver s ≡ Good n) where
 
       go : (any (unboundEffect D) ts ≡ true) ⊎ (any (unboundEffect D) ts ≡ false) → (num p : ℕ) × (learnable s ≡ Refused num p) × ((num ≡ 11) ⊎ (num ≡ 12))
       go (inl h) =
-          let (p, q) = unbound-effects-some (schemaOf s) (filedIn s) h in
-          (11, p, bind-good (lookOver s) _ n good ∙ bind-refused (unboundEffects (schemaOf s) (filedIn s)) _ 11 p q, inl refl)
+          let (p, q) = unbound-effects-some (schemaOf s) (stepsOfBook s) h in
+          (11, p, bind-good (lookOver s) _ n good ∙ bind-refused (unboundEffects (schemaOf s) (stepsOfBook s)) _ 11 p q, inl refl)
       go (inr h) =
           let (p, q) = conflicting-some (schemaOf s) ts (rw h at e) in (
             12,
             p,
             bind-good (lookOver s) _ n good
-                ∙ bind-good (unboundEffects (schemaOf s) (filedIn s)) _ 0 (unbound-effects-none (schemaOf s) (filedIn s) h)
+                ∙ bind-good (unboundEffects (schemaOf s) (stepsOfBook s)) _ 0 (unbound-effects-none (schemaOf s) (stepsOfBook s) h)
                 ∙ bind-refused (conflictingMove (schemaOf s) ts) _ 12 p q,
             inr refl,
           )

@@ -14,12 +14,12 @@ use Rattle.limits.specs.Limits.{headSize, stepSize, maxObjects}
 use Rattle.format.specs.States.{state}
 use Rattle.format.specs.Records.{objectsIn, stepsIn, lengthIn, step, objectsOf, recordAt}
 use Rattle.format.specs.LookOver.{lookOver}
-use Rattle.format.specs.Decode.{Filed, stateEnd, filedAt, recordFiled, recordsFiled, filed, filedStep}
+use Rattle.format.specs.Decode.{RecordedStep, stateEnd, recordedStepsAt, stepsOfRecord, stepsOfRecords, recordedSteps, recordedStep}
 use Rattle.format.proofs.Records.{head-objects, step-good, trajectory-parted, record-good}
 use Rattle.format.proofs.LookOver.{look-over-good}
 use Rattle.model.specs.Quantify.{Mem, here, there}
 use Rattle.model.proofs.Members.{mem-out}
-use Rattle.jobs.specs.Planning.{schemaOf, filedIn}
+use Rattle.jobs.specs.Planning.{schemaOf, stepsOfBook}
 use Rattle.wellformed.specs.Right.{RightStep, Right, RightSomewhere}
 use Rattle.wellformed.proofs.States.{state-right}
 
@@ -32,8 +32,8 @@ module _ (sch : Schema) (hl : Hall) (s : List ℕ) (end : ℕ) where
 
   -- The steps of a good trajectory are right, with the states about them.
   pub trajectory-right : (n at next last : ℕ) → state sch hl s end at ≡ Good next → walk (step sch hl s end) n next ≡ Good last
-      → (f : Filed) → Mem f (filedAt s n at) → Right sch hl f
-  unfolding filedAt filedStep
+      → (f : RecordedStep) → Mem f (recordedStepsAt s n at) → Right sch hl f
+  unfolding recordedStepsAt recordedStep
   trajectory-right (suc n) at next last e w f here =
       let (after, good, rest) = trajectory-parted sch hl s end n at next last e w in
       let (right, behind) = step-parted (stateEnd s at) after good in
@@ -45,8 +45,8 @@ module _ (sch : Schema) (hl : Hall) (s : List ℕ) (end : ℕ) where
 module _ (h : Sections) (s : List ℕ) where
   -- A record of good form ends where its length says, has at most 16 objects, and every step filed in it is right over them.
   pub record-right : (at next : ℕ) → recordAt h s at ≡ Good next
-      → (next ≡ at + lengthIn s at) × (hall (objectsOf s at) s .count ≤ maxObjects) × ((f : Filed) → Mem f (recordFiled s at) → Right (schema h s) (hall (objectsOf s at) s) f)
-  unfolding recordFiled hall objectsOf
+      → (next ≡ at + lengthIn s at) × (hall (objectsOf s at) s .count ≤ maxObjects) × ((f : RecordedStep) → Mem f (stepsOfRecord s at) → Right (schema h s) (hall (objectsOf s at) s) f)
+  unfolding stepsOfRecord hall objectsOf
   record-right at next e =
       let g = record-good h s at next e in (
         g .end,
@@ -55,33 +55,33 @@ module _ (h : Sections) (s : List ℕ) where
       )
 
   -- A step that is filed in good records is filed in one of them.
-  records-filed : (n at last : ℕ) → walk (recordAt h s) n at ≡ Good last → {f : Filed} → Mem f (recordsFiled s n at)
-      → (from next : ℕ) × (recordAt h s from ≡ Good next) × Mem f (recordFiled s from)
-  unfolding recordsFiled
-  records-filed (suc n) at last e {f} m =
+  records-recorded : (n at last : ℕ) → walk (recordAt h s) n at ≡ Good last → {f : RecordedStep} → Mem f (stepsOfRecords s n at)
+      → (from next : ℕ) × (recordAt h s from ≡ Good next) × Mem f (stepsOfRecord s from)
+  unfolding stepsOfRecords
+  records-recorded (suc n) at last e {f} m =
       let (next, good, rest) = walk-parted (recordAt h s) n at last e in
       let place = record-right at next good .0 in
-      go next good (mem-out (recordFiled s at) m)
-      (λ k. records-filed n (at + lengthIn s at) last (subst (λ (x : ℕ). walk (recordAt h s) n x ≡ Good last) place rest) k)
+      go next good (mem-out (stepsOfRecord s at) m)
+      (λ k. records-recorded n (at + lengthIn s at) last (subst (λ (x : ℕ). walk (recordAt h s) n x ≡ Good last) place rest) k)
     where
-      go : (next : ℕ) → recordAt h s at ≡ Good next → Mem f (recordFiled s at) ⊎ Mem f (recordsFiled s n (at + lengthIn s at))
-          → (Mem f (recordsFiled s n (at + lengthIn s at)) → (from next : ℕ) × (recordAt h s from ≡ Good next) × Mem f (recordFiled s from))
-          → (from next : ℕ) × (recordAt h s from ≡ Good next) × Mem f (recordFiled s from)
+      go : (next : ℕ) → recordAt h s at ≡ Good next → Mem f (stepsOfRecord s at) ⊎ Mem f (stepsOfRecords s n (at + lengthIn s at))
+          → (Mem f (stepsOfRecords s n (at + lengthIn s at)) → (from next : ℕ) × (recordAt h s from ≡ Good next) × Mem f (stepsOfRecord s from))
+          → (from next : ℕ) × (recordAt h s from ≡ Good next) × Mem f (stepsOfRecord s from)
       go next good (inl k) deeper = (at, next, good, k)
       go next good (inr k) deeper = deeper k
 
 module _ (s : List ℕ) (n : ℕ) (e : lookOver s ≡ Good n) where
   -- Every step that is filed in a book of good form is filed in a good record,
-  pub filed-somewhere : {f : Filed} → Mem f (filedIn s) → (from next : ℕ) × (recordAt (sectionsOf s) s from ≡ Good next) × Mem f (recordFiled s from)
-  unfolding filedIn filed
-  filed-somewhere m =
+  pub recorded-somewhere : {f : RecordedStep} → Mem f (stepsOfBook s) → (from next : ℕ) × (recordAt (sectionsOf s) s from ≡ Good next) × Mem f (stepsOfRecord s from)
+  unfolding stepsOfBook recordedSteps
+  recorded-somewhere m =
       let h : Sections = sectionsOf s in
-      records-filed h s (h .records .count) (h .records .at) (length s) (look-over-good s n e .records) m
+      records-recorded h s (h .records .count) (h .records .at) (length s) (look-over-good s n e .records) m
 
   -- and is right, over a hall of at most 16 objects.
-  pub filed-right : (f : Filed) → Mem f (filedIn s) → RightSomewhere (schemaOf s) f
+  pub recorded-right : (f : RecordedStep) → Mem f (stepsOfBook s) → RightSomewhere (schemaOf s) f
   unfolding schemaOf
-  filed-right f m =
-      let (from, next, good, k) = filed-somewhere m in
+  recorded-right f m =
+      let (from, next, good, k) = recorded-somewhere m in
       let (place, few, right) = record-right (sectionsOf s) s from next good in
       (hall (objectsOf s from) s, few, right f k)

@@ -1,4 +1,4 @@
--- What is right of a step, a state and a filed step of good form, against the schema of the book and the objects of the record or order.
+-- What is right of a step, a state and a recorded step of good form, against the schema of the book and the objects of the record or order.
 use Prim.Native.Nat.{ℕ, _≤_}
 use mathlib.Core.Path.{_≡_}
 use mathlib.Core.Bool.{true, false}
@@ -10,7 +10,7 @@ use Rattle.terms.specs.Schema.{Schema, Hall, hall}
 use Rattle.terms.specs.Facts.{factBad, precedes, noFact}
 use Rattle.terms.specs.Steps.{stepBad, repeats}
 use Rattle.limits.specs.Limits.{maxObjects, maxFacts}
-use Rattle.format.specs.Decode.{Filed}
+use Rattle.format.specs.Decode.{RecordedStep}
 use Rattle.format.specs.Order.{GoalEntry, orderObjects, startFacts, goal, plan}
 use Rattle.model.specs.Quantify.{Mem}
 
@@ -30,14 +30,14 @@ pub record RightState (sch : Schema) (hl : Hall) (fs : List Fact) : Type 0 where
   pub increasing : Increasing noFact fs
   pub few : length fs ≤ maxFacts
 
--- a filed step with the states before and after it
-pub record Right (sch : Schema) (hl : Hall) (f : Filed) : Type 0 where
+-- a recorded step with the states before and after it
+pub record Right (sch : Schema) (hl : Hall) (f : RecordedStep) : Type 0 where
   pub step : RightStep sch hl (f .step)
   pub pre : RightState sch hl (f .pre)
   pub post : RightState sch hl (f .post)
 
 -- the same over some hall of at most 16 objects: that of the record in which the step is filed
-abbrev pub RightSomewhere : Schema → Filed → Type 0
+abbrev pub RightSomewhere : Schema → RecordedStep → Type 0
 RightSomewhere sch f = (hl : Hall) × (hl .count ≤ maxObjects) × Right sch hl f
 
 -- the objects of an order

@@ -4,7 +4,7 @@ use native.Mathlib.Omega.{arith}
 use mathlib.Core.Path.{_≡_, refl, _∙_}
 use lib.ListN.{length}
 use Rattle.limits.specs.Limits.{observedSize}
-use Rattle.format.specs.Decode.{filedAt}
+use Rattle.format.specs.Decode.{recordedStepsAt}
 use Rattle.observed.specs.Observed.{observeAll}
 use Rattle.walk.specs.Walk.{Observable}
 use Rattle.walk.proofs.Steps.{observedAs, step-turn, steps-done, observable-at, observable-next}
@@ -15,7 +15,7 @@ abbrev Inv-loop : tie.InvT-loop
 Inv-loop s n from observed₀ named left₀ at₀ first₀ observed left at first =
     (length observed ≡ observedSize)
     × Observable s left at
-    × (observeAll (filedAt s left at) (observedAs observed first) ≡ observeAll (filedAt s n from) (observedAs observed₀ named))
+    × (observeAll (recordedStepsAt s left at) (observedAs observed first) ≡ observeAll (recordedStepsAt s n from) (observedAs observed₀ named))
 
 abbrev μ-loop : tie.MeasureT-loop
 μ-loop s n from observed₀ named left₀ at₀ first₀ observed left at first = left

@@ -10,7 +10,7 @@ use Rattle.terms.specs.Sections.{sectionsOf}
 use Rattle.limits.specs.Limits.{maxLength}
 use Rattle.format.specs.Records.{recordAt}
 use Rattle.format.specs.LookOver.{stepTotal}
-use Rattle.format.specs.Decode.{recordsFiled}
+use Rattle.format.specs.Decode.{stepsOfRecords}
 use Rattle.observed.specs.Observed.{observeAll}
 use Rattle.reader.specs.Reader.{record-by}
 use Rattle.answer.specs.Turns.{turn-none, turn-refused, turn-good}
@@ -28,7 +28,7 @@ Inv-loop s n from noting observed₀ left₀ at₀ total₀ named₀ observed le
     × (walk (recordAt (sectionsOf s) s) left at ≡ walk (recordAt (sectionsOf s) s) n from)
     × (total + stepTotal s left at ≡ stepTotal s n from)
     × (length observed ≡ length observed₀)
-    × (noting ≡ true → observeAll (recordsFiled s left at) (observedAs observed named) ≡ observeAll (recordsFiled s n from) (observedAs observed₀ 0))
+    × (noting ≡ true → observeAll (stepsOfRecords s left at) (observedAs observed named) ≡ observeAll (stepsOfRecords s n from) (observedAs observed₀ 0))
 
 abbrev μ-loop : tie.MeasureT-loop
 μ-loop s n from noting observed₀ left₀ at₀ total₀ named₀ observed left at total named = left
