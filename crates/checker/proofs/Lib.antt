@@ -1,3 +1,3 @@
-pub mod Carried
+pub mod Executed
 pub mod Out
 pub mod Rows

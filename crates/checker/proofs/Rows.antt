@@ -21,13 +21,13 @@ use Rattle.format.specs.Order.{GoalEntry, startCount, startAt, stepCount, steps
 use Rattle.jobs.specs.Planning.{schemaOf}
 use Rattle.jobs.specs.Learn.{learnable}
 use Rattle.jobs.specs.Check.{orderRun, check, endSheet, checkBytes}
-use Rattle.statemask.specs.Statemask.{Carried, carry, startMask}
-use Rattle.statemask.specs.Carrying.{carriedAnswer}
-use Rattle.execution.specs.Execution.{Carriable}
+use Rattle.statemask.specs.Statemask.{Executed, execute, startMask}
+use Rattle.statemask.specs.Executing.{executedAnswer}
+use Rattle.execution.specs.Execution.{Executable}
 use Rattle.learner.specs.Learner.{observedOf, BookObserved}
 use Rattle.learner.proofs.Book.{schema-own, form-good}
-use Rattle.checker.specs.Checker.{CarriedOut, RunOutcome, fromOrder, Ready, OrderOutcome, CheckOutcome}
-use Rattle.checker.proofs.Carried.{carriable, order-carried, order-sheet}
+use Rattle.checker.specs.Checker.{PlanExecuted, RunOutcome, fromOrder, Ready, OrderOutcome, CheckOutcome}
+use Rattle.checker.proofs.Executed.{executable, order-executed, order-sheet}
 
 -- a refusal leaves the sheet as it was
 refused-kept : (a r : Answer) (new old : List ℕ) → r ≡ a → isRefused r ≡ true → old ≡ kept a new old
@@ -42,24 +42,24 @@ start-by o n at p q e = rw (p, q) at e
 
 -- ---- rows 19 and 20
 -- masks that come to a good answer have not stopped
-carried-ends : (c : Carried) (steps : ℕ) (goals : List GoalEntry) (m : ℕ) → carriedAnswer steps goals c ≡ Good m → c .stop ≡ 0
-unfolding carriedAnswer
-carried-ends c steps goals m e = go (c .stop) refl
+executed-ends : (c : Executed) (steps : ℕ) (goals : List GoalEntry) (m : ℕ) → executedAnswer steps goals c ≡ Good m → c .stop ≡ 0
+unfolding executedAnswer
+executed-ends c steps goals m e = go (c .stop) refl
   where
     go : (k : ℕ) → c .stop ≡ k → k ≡ 0
     go zero h = refl
     go (suc k) h = good-refused m 19 (suc k) (sym (rw h at e))
 
 module _ (sch : Schema) (l o old state new : List ℕ) (r : Answer) (b : Bool) (start : state ≡ startMask (startFacts o))
-    (out : CarriedOut (carry sch l (plan o) state 1) (stepCount o) (goal o) new r) (told : b ≡ isRefused r) where
-  own-out : CarriedOut (carry sch l (plan o) (startMask (startFacts o)) 1) (stepCount o) (goal o) new r
+    (out : PlanExecuted (execute sch l (plan o) state 1) (stepCount o) (goal o) new r) (told : b ≡ isRefused r) where
+  own-out : PlanExecuted (execute sch l (plan o) (startMask (startFacts o)) 1) (stepCount o) (goal o) new r
   own-out = rw start at out
 
-  pub at-plan : b ≡ true → RunOutcome (carry sch l (plan o) (startMask (startFacts o)) 1) o old old r
+  pub at-plan : b ≡ true → RunOutcome (execute sch l (plan o) (startMask (startFacts o)) 1) o old old r
   at-plan e = record { says = own-out .says; bytes = refused-kept r r _ old refl (sym told ∙ e) }
 
   -- a pass: the sheet is the mask
-  pub at-end : b ≡ false → (sheet : List ℕ) → sheet ≡ new → RunOutcome (carry sch l (plan o) (startMask (startFacts o)) 1) o old sheet r
+  pub at-end : b ≡ false → (sheet : List ℕ) → sheet ≡ new → RunOutcome (execute sch l (plan o) (startMask (startFacts o)) 1) o old sheet r
   unfolding kept
   at-end e sheet f = record { says = own-out .says; bytes = rw (is-good r (sym told ∙ e)) (f ∙ own-out .mask) }
 
@@ -82,24 +82,24 @@ module _ (s o old : List ℕ) (h : Sections) (observed : List ℕ) (ready : Read
     order : orderForm (schemaOf s) o ≡ Good (valueOf a)
     order = sym form-own ∙ is-good a (sym told ∙ passed)
 
-    pub order-carriable : Carriable observed o (stepCount o) (stepsAt o)
-    order-carriable = carriable s (formed .0) _ (formed .1) (ready .learns) o _ order observed (ready .room)
+    pub order-executable : Executable observed o (stepCount o) (stepsAt o)
+    order-executable = executable s (formed .0) _ (formed .1) (ready .learns) o _ order observed (ready .room)
 
-    module _ (new : List ℕ) (r : Answer) (out : RunOutcome (carry (schema h s) observed (plan o) (startMask (startFacts o)) 1) o old new r) where
-      abbrev own : Carried
-      own = carry (schemaOf s) (observedOf s .masks) (plan o) (startMask (startFacts o)) 1
+    module _ (new : List ℕ) (r : Answer) (out : RunOutcome (execute (schema h s) observed (plan o) (startMask (startFacts o)) 1) o old new r) where
+      abbrev own : Executed
+      own = execute (schemaOf s) (observedOf s .masks) (plan o) (startMask (startFacts o)) 1
 
       ran : RunOutcome own o old new r
       ran = rw (schema-own s h (ready .own), ready .observes) at out
 
       says : r ≡ fromOrder s o
       unfolding fromOrder
-      says = ran .says ∙ sym (order-carried s (formed .0) _ (formed .1) (ready .learns) o _ order) ∙ sym (bind-good _ _ _ order)
+      says = ran .says ∙ sym (order-executed s (formed .0) _ (formed .1) (ready .learns) o _ order) ∙ sym (bind-good _ _ _ order)
 
       -- rows 19 and 20: the mask is asked only where no step stops
-      kept-sheet : (x : Answer) → x ≡ carriedAnswer (stepCount o) (goal o) own → kept x (own .mask) old ≡ kept x (endSheet (orderRun s o)) old
+      kept-sheet : (x : Answer) → x ≡ executedAnswer (stepCount o) (goal o) own → kept x (own .mask) old ≡ kept x (endSheet (orderRun s o)) old
       unfolding kept
-      kept-sheet (Good m) e = order-sheet s (formed .0) _ (formed .1) (ready .learns) o _ order (carried-ends own (stepCount o) (goal o) m (sym e))
+      kept-sheet (Good m) e = order-sheet s (formed .0) _ (formed .1) (ready .learns) o _ order (executed-ends own (stepCount o) (goal o) m (sym e))
       kept-sheet (Refused m p) e = refl
 
       pub at-run : OrderOutcome s o old new r

@@ -14,17 +14,17 @@ use Rattle.jobs.specs.Planning.{schemaOf, goalOf}
 use Rattle.jobs.specs.Learn.{learnable}
 use Rattle.jobs.specs.Check.{orderRun, runAnswer, check, endSheet, checkBytes}
 use Rattle.learner.specs.Learner.{observedOf}
-use Rattle.statemask.specs.Statemask.{Carried}
-use Rattle.statemask.specs.Carrying.{carriedAnswer}
+use Rattle.statemask.specs.Statemask.{Executed}
+use Rattle.statemask.specs.Executing.{executedAnswer}
 
--- a plan carried out over a mask, and its goal: the answer, and the mask
-pub record CarriedOut (c : Carried) (steps : ℕ) (goal : List GoalEntry) (new : List ℕ) (r : Answer) : Type 0 where
-  pub says : r ≡ carriedAnswer steps goal c
+-- a plan executed over a mask, and its goal: the answer, and the mask
+pub record PlanExecuted (c : Executed) (steps : ℕ) (goal : List GoalEntry) (new : List ℕ) (r : Answer) : Type 0 where
+  pub says : r ≡ executedAnswer steps goal c
   pub mask : new ≡ c .mask
 
 -- the same of an order's plan with a lent end sheet: the answer, and every byte of the sheet afterwards
-pub record RunOutcome (c : Carried) (o old new : List ℕ) (r : Answer) : Type 0 where
-  pub says : r ≡ carriedAnswer (stepCount o) (goal o) c
+pub record RunOutcome (c : Executed) (o old new : List ℕ) (r : Answer) : Type 0 where
+  pub says : r ≡ executedAnswer (stepCount o) (goal o) c
   pub bytes : new ≡ kept r (c .mask) old
 
 -- rows 14 to 20

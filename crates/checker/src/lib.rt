@@ -7,23 +7,23 @@ ghost use lib.ListN.{length};
 ghost use Rattle.limits.specs.Limits.{endSheetSize};
 ghost use Rattle.terms.specs.Schema.{schema};
 ghost use Rattle.format.specs.Order.{stepCount, stepsAt, startFacts, goal, plan};
-ghost use Rattle.statemask.specs.Statemask.{startMask, carry};
-ghost use Rattle.execution.specs.Execution.{Carriable};
-ghost use Rattle.checker.specs.Checker.{CarriedOut, RunOutcome, Ready, OrderOutcome, CheckOutcome};
+ghost use Rattle.statemask.specs.Statemask.{startMask, execute};
+ghost use Rattle.execution.specs.Execution.{Executable};
+ghost use Rattle.checker.specs.Checker.{PlanExecuted, RunOutcome, Ready, OrderOutcome, CheckOutcome};
 
 // Rows 19 and 20, from the state of the start facts on.
-fn carry_out(
+fn execute_plan(
     book: &[u8],
     h: Sections,
     observed: &[u8],
     o: &[u8],
     state: &mut [u8; limits::STATE_SIZE],
 ) -> Answer
-    requires { ⌜ Carriable (now observed) (now o) (stepCount (now o)) (stepsAt (now o)) ⌝ }
-    ensures { λ r. ⌜ CarriedOut (carry (schema h (now (book .entry))) (now (observed .entry)) (plan (now (o .entry))) (now (state .entry)) 1) (stepCount (now (o .entry))) (goal (now (o .entry))) (now (state .exit)) r ⌝ }
+    requires { ⌜ Executable (now observed) (now o) (stepCount (now o)) (stepsAt (now o)) ⌝ }
+    ensures { λ r. ⌜ PlanExecuted (execute (schema h (now (book .entry))) (now (observed .entry)) (plan (now (o .entry))) (now (state .entry)) 1) (stepCount (now (o .entry))) (goal (now (o .entry))) (now (state .exit)) r ⌝ }
 {
     let steps = orderhead::step_count(o) as usize;
-    let stop = execution::carry(book, h, observed, o, steps, orderhead::steps_at(o), state);
+    let stop = execution::execute(book, h, observed, o, steps, orderhead::steps_at(o), state);
     if stop != 0 {
         return Answer::Refused(19, stop);
     }
@@ -60,11 +60,11 @@ fn start_of(o: &[u8]) -> [u8; limits::STATE_SIZE]
 
 // Rows 19 and 20 from the start facts on; where neither is met, the end sheet.
 fn run_order(book: &[u8], h: Sections, observed: &[u8], o: &[u8], end: &mut [u8]) -> Answer
-    requires { ⌜ Carriable (now observed) (now o) (stepCount (now o)) (stepsAt (now o)) × (length (now end) ≡ endSheetSize) ⌝ }
-    ensures { λ r. ⌜ RunOutcome (carry (schema h (now (book .entry))) (now (observed .entry)) (plan (now (o .entry))) (startMask (startFacts (now (o .entry)))) 1) (now (o .entry)) (now (end .entry)) (now (end .exit)) r ⌝ }
+    requires { ⌜ Executable (now observed) (now o) (stepCount (now o)) (stepsAt (now o)) × (length (now end) ≡ endSheetSize) ⌝ }
+    ensures { λ r. ⌜ RunOutcome (execute (schema h (now (book .entry))) (now (observed .entry)) (plan (now (o .entry))) (startMask (startFacts (now (o .entry)))) 1) (now (o .entry)) (now (end .entry)) (now (end .exit)) r ⌝ }
 {
     let mut state = start_of(o);
-    let a = carry_out(book, h, observed, o, &mut state);
+    let a = execute_plan(book, h, observed, o, &mut state);
     if answer::is_refused(a) {
         return a;
     }

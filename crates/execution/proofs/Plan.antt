@@ -13,22 +13,22 @@ use Rattle.limits.specs.Limits.{maxMoves, stepSize, observedSize}
 use Rattle.format.specs.Order.{planFrom}
 use Rattle.model.proofs.Quantify.{below-same}
 use Rattle.rulesheet.specs.Sheet.{ruleSets}
-use Rattle.statemask.specs.Statemask.{unmet, inapplicableIn, nextIn, stepInapplicable, stepNext, Carried, carry}
-use Rattle.statemask.proofs.Plan.{carry-stop, carry-go}
+use Rattle.statemask.specs.Statemask.{unmet, inapplicableIn, nextIn, stepInapplicable, stepNext, Executed, execute}
+use Rattle.statemask.proofs.Plan.{execute-stop, execute-go}
 use Rattle.stepping.specs.Stepping.{ruleAt}
-use Rattle.execution.specs.Execution.{Carriable, Carries}
+use Rattle.execution.specs.Execution.{Executable, Executes}
 
 -- ---- what can be carried
-module _ (l o : List ℕ) (n at : ℕ) (c : Carriable l o n at) (some : 0 < n) where
-  pub carriable-move : (st : Step) → st ≡ stepAt o at → (length l ≡ observedSize) × (1 ≤ st .action .0) × (st .action .0 ≤ maxMoves)
+module _ (l o : List ℕ) (n at : ℕ) (c : Executable l o n at) (some : 0 < n) where
+  pub executable-move : (st : Step) → st ≡ stepAt o at → (length l ≡ observedSize) × (1 ≤ st .action .0) × (st .action .0 ≤ maxMoves)
   unfolding stepAt
-  carriable-move st e =
+  executable-move st e =
       let here : at + stepSize * 0 ≡ at = omega arith in
       let known = rw here at (c .moves 0 some) in
       rw e (c .size, known .0, known .1)
 
-  pub carriable-next : Carriable l o (n - 1) (at + stepSize)
-  carriable-next =
+  pub executable-next : Executable l o (n - 1) (at + stepSize)
+  executable-next =
       record {
         size = c .size;
         end = let h = c .end in omega arith;
@@ -55,28 +55,28 @@ plan-more o zero at h = absurd (omega arith)
 plan-more o (suc n) at h = rw sub-one
 
 module _ (sch : Schema) (l o : List ℕ) (n at k : ℕ) (m : List ℕ) where
-  pub carry-none : n ≡ 0 → carry sch l (planFrom o n at) m k ≡ record { stop = 0; mask = m }
-  unfolding carry planFrom
-  carry-none e = rw e
+  pub execute-none : n ≡ 0 → execute sch l (planFrom o n at) m k ≡ record { stop = 0; mask = m }
+  unfolding execute planFrom
+  execute-none e = rw e
 
   module _ (some : 0 < n) (st : Step) (step : st ≡ stepAt o at) (rules : List (List ℕ)) (read : rules ≡ ruleSets sch l (st .action .0)) (b : Bool) (tested : b ≡ inapplicableIn (ruleAt rules) (ground sch (st .binding)) m) where
-    whole : carry sch l (planFrom o n at) m k ≡ carry sch l (st ∷ planFrom o (n - 1) (at + stepSize)) m k
-    whole = ap (λ (p : List Step). carry sch l p m k) (plan-more o n at some ∙ ap (λ (s : Step). s ∷ planFrom o (n - 1) (at + stepSize)) (sym step))
+    whole : execute sch l (planFrom o n at) m k ≡ execute sch l (st ∷ planFrom o (n - 1) (at + stepSize)) m k
+    whole = ap (λ (p : List Step). execute sch l p m k) (plan-more o n at some ∙ ap (λ (s : Step). s ∷ planFrom o (n - 1) (at + stepSize)) (sym step))
 
     inapplicable-test : stepInapplicable sch l st m ≡ b
     inapplicable-test = sym (tested ∙ inapplicable-same sch l st rules read m)
 
-    pub carry-here : b ≡ true → carry sch l (planFrom o n at) m k ≡ record { stop = k; mask = m }
-    carry-here e = whole ∙ carry-stop sch l st (planFrom o (n - 1) (at + stepSize)) m k (inapplicable-test ∙ e)
+    pub execute-here : b ≡ true → execute sch l (planFrom o n at) m k ≡ record { stop = k; mask = m }
+    execute-here e = whole ∙ execute-stop sch l st (planFrom o (n - 1) (at + stepSize)) m k (inapplicable-test ∙ e)
 
-    pub carry-more : (m′ : List ℕ) → b ≡ false → m′ ≡ nextIn (ruleAt rules) (ground sch (st .binding)) m
-        → carry sch l (planFrom o (n - 1) (at + stepSize)) m′ (k + 1) ≡ carry sch l (planFrom o n at) m k
-    carry-more m′ e moved =
+    pub execute-more : (m′ : List ℕ) → b ≡ false → m′ ≡ nextIn (ruleAt rules) (ground sch (st .binding)) m
+        → execute sch l (planFrom o (n - 1) (at + stepSize)) m′ (k + 1) ≡ execute sch l (planFrom o n at) m k
+    execute-more m′ e moved =
         sym
         (whole
-        ∙ carry-go sch l st (planFrom o (n - 1) (at + stepSize)) m k (inapplicable-test ∙ e)
+        ∙ execute-go sch l st (planFrom o (n - 1) (at + stepSize)) m k (inapplicable-test ∙ e)
         ∙ rw (add-one k, moved, next-same sch l st rules read m))
 
-pub carries : (sch : Schema) (l : List ℕ) (plan : List Step) (old : List ℕ) (number : ℕ) (new : List ℕ)
-    → record { stop = number; mask = new } ≡ carry sch l plan old 1 → Carries sch l plan old number new
-carries sch l plan old number new e = record { stop = ap (λ (c : Carried). c .stop) e; mask = ap (λ (c : Carried). c .mask) e }
+pub executes : (sch : Schema) (l : List ℕ) (plan : List Step) (old : List ℕ) (number : ℕ) (new : List ℕ)
+    → record { stop = number; mask = new } ≡ execute sch l plan old 1 → Executes sch l plan old number new
+executes sch l plan old number new e = record { stop = ap (λ (c : Executed). c .stop) e; mask = ap (λ (c : Executed). c .mask) e }

@@ -7,15 +7,15 @@ use Rattle.input.specs.Bytes.{byteAt}
 use Rattle.terms.specs.declared.Step.{Step}
 use Rattle.terms.specs.Schema.{Schema}
 use Rattle.limits.specs.Limits.{maxMoves, stepSize, observedSize, farCeiling}
-use Rattle.statemask.specs.Statemask.{carry}
+use Rattle.statemask.specs.Statemask.{execute}
 
 -- what is observed has its size, and the steps lie within the input and name moves that it has rows for
-pub record Carriable (l o : List ℕ) (steps at : ℕ) : Type 0 where
+pub record Executable (l o : List ℕ) (steps at : ℕ) : Type 0 where
   pub size : length l ≡ observedSize
   pub end : at + stepSize * steps ≤ farCeiling
   pub moves : (i : ℕ) → i < steps → (1 ≤ byteAt o (at + stepSize * i)) × (byteAt o (at + stepSize * i) ≤ maxMoves)
 
 -- the number and the mask that a plan comes to from a mask
-pub record Carries (sch : Schema) (l : List ℕ) (plan : List Step) (old : List ℕ) (number : ℕ) (new : List ℕ) : Type 0 where
-  pub stop : number ≡ carry sch l plan old 1 .stop
-  pub mask : new ≡ carry sch l plan old 1 .mask
+pub record Executes (sch : Schema) (l : List ℕ) (plan : List Step) (old : List ℕ) (number : ℕ) (new : List ℕ) : Type 0 where
+  pub stop : number ≡ execute sch l plan old 1 .stop
+  pub mask : new ≡ execute sch l plan old 1 .mask

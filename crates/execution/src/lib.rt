@@ -9,7 +9,7 @@ ghost use Rattle.terms.specs.Facts.{factNumber};
 ghost use Rattle.format.specs.Decode.{factsAt};
 ghost use Rattle.format.specs.Order.{goalFrom, planFrom, entryAt};
 ghost use Rattle.statemask.specs.Statemask.{startMask, missed, misses};
-ghost use Rattle.execution.specs.Execution.{Carriable, Carries};
+ghost use Rattle.execution.specs.Execution.{Executable, Executes};
 use terms::Fact;
 use terms::Sections;
 use terms::Step;
@@ -41,7 +41,7 @@ pub fn start_mask(o: &[u8], n: usize, from: usize) -> [u8; limits::STATE_SIZE]
 // ---- the plan
 
 // Row 19: the number, from 1, of the first step that is inapplicable, 0 where none is. The state is the one in which the plan stopped or ended.
-pub fn carry(
+pub fn execute(
     book: &[u8],
     h: Sections,
     observed: &[u8],
@@ -50,8 +50,8 @@ pub fn carry(
     from: usize,
     state: &mut [u8; limits::STATE_SIZE],
 ) -> usize
-    requires { ⌜ Carriable (now observed) (now o) steps from ⌝ }
-    ensures { λ r. ⌜ Carries (schema h (now (book .entry))) (now (observed .entry)) (planFrom (now (o .entry)) steps from) (now (state .entry)) r (now (state .exit)) ⌝ }
+    requires { ⌜ Executable (now observed) (now o) steps from ⌝ }
+    ensures { λ r. ⌜ Executes (schema h (now (book .entry))) (now (observed .entry)) (planFrom (now (o .entry)) steps from) (now (state .entry)) r (now (state .exit)) ⌝ }
 {
     let mut left = steps;
     let mut at = from;

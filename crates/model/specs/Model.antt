@@ -1,4 +1,4 @@
--- Action models (the paper's rule lists), when one is consistent with transitions (fits them), and how one carries a plan.
+-- Action models (the paper's rule lists), when one is consistent with transitions (fits them), and how one executes a plan.
 use Prim.Native.Nat.{ℕ, suc}
 use mathlib.Core.Path.{_≡_}
 use mathlib.Core.Bool.{Bool, true, false, _&&_, _||_, not}

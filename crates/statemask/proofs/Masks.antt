@@ -20,7 +20,7 @@ use Rattle.truth.specs.Bools.{is-false}
 use Rattle.model.proofs.Quantify.{any-out}
 use Rattle.jobs.specs.Planning.{holding}
 use Rattle.statemask.specs.Statemask.{withFacts, startMask, effects}
-use Rattle.statemask.specs.Carrying.{Under}
+use Rattle.statemask.specs.Executing.{Under}
 
 -- ---- what is in a mask, whatever number is asked for
 pub test-mask : (st : State) → Under st → (f : ℕ) → testBit (maskOf stateSize st) f ≡ st f

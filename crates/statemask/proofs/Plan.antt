@@ -22,19 +22,19 @@ use Rattle.model.proofs.Lockstep.{run-stop, run-go}
 use Rattle.jobs.specs.Planning.{holding, groundAction, goalEntry}
 use Rattle.jobs.specs.Check.{runAnswer, endSheet}
 use Rattle.observed.specs.Rules.{ruleSet}
-use Rattle.statemask.specs.Statemask.{startMask, stepInapplicable, stepNext, Carried, carry, missed, misses}
-use Rattle.statemask.specs.Carrying.{Under, Ruled, InMask, Carrying, Agrees, carriedAnswer}
+use Rattle.statemask.specs.Statemask.{startMask, stepInapplicable, stepNext, Executed, execute, missed, misses}
+use Rattle.statemask.specs.Executing.{Under, Ruled, InMask, Executing, Agrees, executedAnswer}
 use Rattle.statemask.proofs.Masks.{test-mask, start-mask}
 use Rattle.statemask.proofs.Step.{next-under, inapplicable-mask, next-mask}
 
 module _ (sch : Schema) (l : List ℕ) (st : Step) (plan : List Step) (m : List ℕ) (k : ℕ) where
-  pub carry-stop : stepInapplicable sch l st m ≡ true → carry sch l (st ∷ plan) m k ≡ record { stop = k; mask = m }
-  unfolding carry
-  carry-stop e = rw (e, carry)
+  pub execute-stop : stepInapplicable sch l st m ≡ true → execute sch l (st ∷ plan) m k ≡ record { stop = k; mask = m }
+  unfolding execute
+  execute-stop e = rw (e, execute)
 
-  pub carry-go : stepInapplicable sch l st m ≡ false → carry sch l (st ∷ plan) m k ≡ carry sch l plan (stepNext sch l st m) (suc k)
-  unfolding carry
-  carry-go e = rw (e, carry)
+  pub execute-go : stepInapplicable sch l st m ≡ false → execute sch l (st ∷ plan) m k ≡ execute sch l plan (stepNext sch l st m) (suc k)
+  unfolding execute
+  execute-go e = rw (e, execute)
 
 module _ (D : Domain) (M : Model) (sch : Schema) (l : List ℕ) where
   module _ (few : D .atoms ≤ maxAtoms) (valid : Valid D M) (s : Step) (fits : InMask D (groundAction sch s)) (st : State) (under : Under st) where
@@ -47,12 +47,12 @@ module _ (D : Domain) (M : Model) (sch : Schema) (l : List ℕ) where
     step-next ruled = next-mask D M few valid (groundAction sch s) fits (ruleSet sch l (s .action .0)) ruled st under
 
   -- The plan over the mask of a state comes to what it comes to from the state.
-  pub carry-run : (plan : List Step) → Carrying D M sch l plan → (st : State) → Under st → (k : ℕ) → 1 ≤ k
-      → Agrees (carry sch l plan (maskOf stateSize st) k) (run D M (map (groundAction sch) plan) st k)
-  unfolding carry run
-  carry-run [] c st under k h = (refl, refl, under)
-  carry-run (s ∷ plan) c st under k h =
-      go (decide (inapplicable D M t st)) (carry-run plan rest (next D M t st) (next-under D M (c .few) (c .valid) t fits st under) (suc k) (omega arith))
+  pub execute-run : (plan : List Step) → Executing D M sch l plan → (st : State) → Under st → (k : ℕ) → 1 ≤ k
+      → Agrees (execute sch l plan (maskOf stateSize st) k) (run D M (map (groundAction sch) plan) st k)
+  unfolding execute run
+  execute-run [] c st under k h = (refl, refl, under)
+  execute-run (s ∷ plan) c st under k h =
+      go (decide (inapplicable D M t st)) (execute-run plan rest (next D M t st) (next-under D M (c .few) (c .valid) t fits st under) (suc k) (omega arith))
     where
       t : GroundAction
       t = groundAction sch s
@@ -60,7 +60,7 @@ module _ (D : Domain) (M : Model) (sch : Schema) (l : List ℕ) where
       fits : InMask D t
       fits = c .inMask s here
 
-      rest : Carrying D M sch l plan
+      rest : Executing D M sch l plan
       rest = record { few = c .few; valid = c .valid; ruled = λ r m. c .ruled r (there m); inMask = λ r m. c .inMask r (there m) }
 
       halts : stepInapplicable sch l s (maskOf stateSize st) ≡ inapplicable D M t st
@@ -70,13 +70,13 @@ module _ (D : Domain) (M : Model) (sch : Schema) (l : List ℕ) where
       moves = step-next (c .few) (c .valid) s fits st under (c .ruled s here)
 
       go : (inapplicable D M t st ≡ true) ⊎ (inapplicable D M t st ≡ false)
-          → Agrees (carry sch l plan (maskOf stateSize (next D M t st)) (suc k)) (run D M (map (groundAction sch) plan) (next D M t st) (suc k))
-          → Agrees (carry sch l (s ∷ plan) (maskOf stateSize st) k) (run D M (t ∷ map (groundAction sch) plan) st k)
+          → Agrees (execute sch l plan (maskOf stateSize (next D M t st)) (suc k)) (run D M (map (groundAction sch) plan) (next D M t st) (suc k))
+          → Agrees (execute sch l (s ∷ plan) (maskOf stateSize st) k) (run D M (t ∷ map (groundAction sch) plan) st k)
       go (inl e) deeper =
-          subst₂ Agrees (sym (carry-stop sch l s plan (maskOf stateSize st) k (halts ∙ e))) (sym (run-stop D M t (map (groundAction sch) plan) st k e)) (refl, h)
+          subst₂ Agrees (sym (execute-stop sch l s plan (maskOf stateSize st) k (halts ∙ e))) (sym (run-stop D M t (map (groundAction sch) plan) st k e)) (refl, h)
       go (inr e) deeper =
           subst₂ Agrees
-          (sym (carry-go sch l s plan (maskOf stateSize st) k (halts ∙ e) ∙ ap (λ m. carry sch l plan m (suc k)) moves))
+          (sym (execute-go sch l s plan (maskOf stateSize st) k (halts ∙ e) ∙ ap (λ m. execute sch l plan m (suc k)) moves))
           (sym (run-go D M t (map (groundAction sch) plan) st k e))
           deeper
 
@@ -88,25 +88,25 @@ missed-first end under goal =
 
 -- ---- rows 19 and 20
 -- What the check answers to a run it answers to the masks that agree with it.
-pub agrees-answer : (steps : ℕ) (goal : List GoalEntry) (c : Carried) (r : Run) → Agrees c r → runAnswer steps (map goalEntry goal) r ≡ carriedAnswer steps goal c
-unfolding runAnswer carriedAnswer
+pub agrees-answer : (steps : ℕ) (goal : List GoalEntry) (c : Executed) (r : Run) → Agrees c r → runAnswer steps (map goalEntry goal) r ≡ executedAnswer steps goal c
+unfolding runAnswer executedAnswer
 agrees-answer steps goal c (stopped zero) a = absurd (omega arith)
 agrees-answer steps goal c (stopped (suc k)) a = rw (a .0)
 agrees-answer steps goal c (ended end) a = rw (a .0, a .1, missed-first end (a .2) goal)
 
 -- Where no step stops, the end sheet is the mask.
-pub agrees-sheet : (c : Carried) (r : Run) → Agrees c r → c .stop ≡ 0 → c .mask ≡ endSheet r
+pub agrees-sheet : (c : Executed) (r : Run) → Agrees c r → c .stop ≡ 0 → c .mask ≡ endSheet r
 unfolding endSheet
 agrees-sheet c (stopped k) a e = absurd (omega arith)
 agrees-sheet c (ended end) a e = a .1
 
 -- ---- from the start facts
-module _ (D : Domain) (M : Model) (sch : Schema) (l : List ℕ) (plan : List Step) (c : Carrying D M sch l plan) (fs : List Fact) (under : Under (holding fs)) where
-  pub carry-start : Agrees (carry sch l plan (startMask fs) 1) (run D M (map (groundAction sch) plan) (holding fs) 1)
-  carry-start =
-      subst (λ (m : List ℕ). Agrees (carry sch l plan m 1) (run D M (map (groundAction sch) plan) (holding fs) 1)) (sym (start-mask fs))
-      (carry-run D M sch l plan c (holding fs) under 1 (omega arith))
+module _ (D : Domain) (M : Model) (sch : Schema) (l : List ℕ) (plan : List Step) (c : Executing D M sch l plan) (fs : List Fact) (under : Under (holding fs)) where
+  pub execute-start : Agrees (execute sch l plan (startMask fs) 1) (run D M (map (groundAction sch) plan) (holding fs) 1)
+  execute-start =
+      subst (λ (m : List ℕ). Agrees (execute sch l plan m 1) (run D M (map (groundAction sch) plan) (holding fs) 1)) (sym (start-mask fs))
+      (execute-run D M sch l plan c (holding fs) under 1 (omega arith))
 
-  pub carry-answer : (steps : ℕ) (goal : List GoalEntry)
-      → runAnswer steps (map goalEntry goal) (run D M (map (groundAction sch) plan) (holding fs) 1) ≡ carriedAnswer steps goal (carry sch l plan (startMask fs) 1)
-  carry-answer steps goal = agrees-answer steps goal _ _ carry-start
+  pub execute-answer : (steps : ℕ) (goal : List GoalEntry)
+      → runAnswer steps (map goalEntry goal) (run D M (map (groundAction sch) plan) (holding fs) 1) ≡ executedAnswer steps goal (execute sch l plan (startMask fs) 1)
+  execute-answer steps goal = agrees-answer steps goal _ _ execute-start

@@ -15,7 +15,7 @@ use Rattle.model.specs.Model.{Model, Valid, image, inapplicable, next}
 use Rattle.model.proofs.Quantify.{below-cong, below-wide}
 use Rattle.model.proofs.Next.{image-out}
 use Rattle.statemask.specs.Statemask.{unmet, inapplicableIn, effects, nextIn}
-use Rattle.statemask.specs.Carrying.{Under, Ruled, InMask}
+use Rattle.statemask.specs.Executing.{Under, Ruled, InMask}
 use Rattle.statemask.proofs.Masks.{test-mask, touched, effects-mask}
 
 -- a value is needed to be what it is not

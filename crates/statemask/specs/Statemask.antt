@@ -48,15 +48,15 @@ unfoldable pub stepNext : Schema → List ℕ → Step → List ℕ → List ℕ
 stepNext sch l st m = nextIn (ruleSet sch l (st .action .0)) (ground sch (st .binding)) m
 
 -- what a plan comes to: the number of the step that is inapplicable, 0 where none is, and the mask where it stopped or ended
-pub record Carried : Type 0 where
+pub record Executed : Type 0 where
   pub stop : ℕ
   pub mask : List ℕ
 
-unfoldable pub carry : Schema → List ℕ → List Step → List ℕ → ℕ → Carried
-carry sch l [] m k = record { stop = 0; mask = m }
-carry sch l (st ∷ plan) m k =
+unfoldable pub execute : Schema → List ℕ → List Step → List ℕ → ℕ → Executed
+execute sch l [] m k = record { stop = 0; mask = m }
+execute sch l (st ∷ plan) m k =
     elim (stepInapplicable sch l st m)
-    [ true ↦ record { stop = k; mask = m } | false ↦ carry sch l plan (stepNext sch l st m) (suc k) ]
+    [ true ↦ record { stop = k; mask = m } | false ↦ execute sch l plan (stepNext sch l st m) (suc k) ]
 
 -- a goal entry that the mask misses
 unfoldable pub misses : List ℕ → GoalEntry → Bool

@@ -1,1 +1,1 @@
-// A plan carried out over a state as a mask of 512 bytes, as definitions. No code.
+// A plan executed over a state as a mask of 512 bytes, as definitions. No code.

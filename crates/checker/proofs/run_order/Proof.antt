@@ -8,6 +8,6 @@ pub run-order-spec : {M : Type 1} → statement M
 run-order-spec =
     tie.close
     (tie.spec (λ c κs. search needs) (λ c κs. search needs) (λ c κs. search needs)
-    (λ c. let r = c .before in let x = r .before in at-plan _ _ _ _ _ _ _ _ (x .before .before .start-of .ensures) (x .carry-out .ensures) (r .is-refused .ensures) (c .if1 .taken))
+    (λ c. let r = c .before in let x = r .before in at-plan _ _ _ _ _ _ _ _ (x .before .before .start-of .ensures) (x .execute-plan .ensures) (r .is-refused .ensures) (c .if1 .taken))
     (λ c κs. search needs) (λ c. search needs)
-    (λ c. let w = c .before .before in let i = w .before .before in let x = i .before .before in at-end _ _ _ _ _ _ _ _ (x .before .before .start-of .ensures) (x .carry-out .ensures) (i .before .is-refused .ensures) (i .if1 .left) _ (w .write-end .ensures)))
+    (λ c. let w = c .before .before in let i = w .before .before in let x = i .before .before in at-end _ _ _ _ _ _ _ _ (x .before .before .start-of .ensures) (x .execute-plan .ensures) (i .before .is-refused .ensures) (i .if1 .left) _ (w .write-end .ensures)))

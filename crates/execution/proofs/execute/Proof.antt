@@ -1,4 +1,4 @@
--- `execution::carry` meets its contract: what the rest of the plan comes to from here is what the whole plan comes to.
+-- `execution::execute` meets its contract: what the rest of the plan comes to from here is what the whole plan comes to.
 use Prim.Native.Nat.{_+_, _≤_}
 use native.Mathlib.Omega.{arith}
 use mathlib.Core.Path.{_≡_, refl, sym, _∙_}
@@ -6,16 +6,16 @@ use borrow.Author.Needs.{needs}
 use Rattle.limits.specs.Limits.{farCeiling}
 use Rattle.terms.specs.Schema.{schema}
 use Rattle.format.specs.Order.{planFrom}
-use Rattle.statemask.specs.Statemask.{carry}
-use Rattle.execution.specs.Execution.{Carriable}
-use Rattle.execution.proofs.Plan.{carriable-move, carriable-next, carry-none, carry-here, carry-more, carries}
-use Rattle.execution.proofs.carry.Statement.{statement}
-use Rattle.execution.proofs.carry.Tie as tie
+use Rattle.statemask.specs.Statemask.{execute}
+use Rattle.execution.specs.Execution.{Executable}
+use Rattle.execution.proofs.Plan.{executable-move, executable-next, execute-none, execute-here, execute-more, executes}
+use Rattle.execution.proofs.execute.Statement.{statement}
+use Rattle.execution.proofs.execute.Tie as tie
 
 abbrev Inv-loop : tie.InvT-loop
 Inv-loop book h observed o steps from state₀ left₀ at₀ k₀ state left at k =
-    Carriable observed o left at × (k + left ≤ farCeiling)
-    × (carry (schema h book) observed (planFrom o left at) state k ≡ carry (schema h book) observed (planFrom o steps from) state₀ 1)
+    Executable observed o left at × (k + left ≤ farCeiling)
+    × (execute (schema h book) observed (planFrom o left at) state k ≡ execute (schema h book) observed (planFrom o steps from) state₀ 1)
 
 abbrev μ-loop : tie.MeasureT-loop
 μ-loop book h observed o steps from state₀ left₀ at₀ k₀ state left at k = left
@@ -26,7 +26,7 @@ loop-holds c = (c .before .before .before .pre, omega arith, refl)
 rules-of-requires : tie.Need-rules-of-requires Inv-loop μ-loop
 rules-of-requires c κs =
     let d = c .before .before in
-    carriable-move _ _ _ _ (d .before .loop .inv .0) (d .loop-test .taken) _ (c .before .read .ensures)
+    executable-move _ _ _ _ (d .before .loop .inv .0) (d .loop-test .taken) _ (c .before .read .ensures)
 
 returns : tie.Need-returns Inv-loop μ-loop
 returns c =
@@ -34,9 +34,9 @@ returns c =
     let e = d .before .before in
     let f = e .before .before in
     let g = f .before in
-    carries _ _ _ _ _ _
+    executes _ _ _ _ _ _
     (sym
-    (carry-here _ _ _ _ _ _ _ (g .loop-test .taken) _ (f .read .ensures) _ (e .rules-of .ensures) _ (d .is-inapplicable .ensures) (c .if1 .taken))
+    (execute-here _ _ _ _ _ _ _ (g .loop-test .taken) _ (f .read .ensures) _ (e .rules-of .ensures) _ (d .is-inapplicable .ensures) (c .if1 .taken))
     ∙ g .before .loop .inv .2)
 
 loop-again : tie.Need-loop-again Inv-loop μ-loop
@@ -47,17 +47,17 @@ loop-again c =
     let f = e .before .before in
     let g = f .before in
     let inv = g .before .loop .inv in (
-      carriable-next _ _ _ _ (inv .0) (g .loop-test .taken),
+      executable-next _ _ _ _ (inv .0) (g .loop-test .taken),
       omega arith,
-      carry-more _ _ _ _ _ _ _ (g .loop-test .taken) _ (f .read .ensures) _ (e .rules-of .ensures) _ (d .is-inapplicable .ensures) _ (b .if1 .left) (c .advance .ensures)
+      execute-more _ _ _ _ _ _ _ (g .loop-test .taken) _ (f .read .ensures) _ (e .rules-of .ensures) _ (d .is-inapplicable .ensures) _ (b .if1 .left) (c .advance .ensures)
           ∙ inv .2,
     )
 
 returns-2 : tie.Need-returns-2 Inv-loop μ-loop
-returns-2 c = carries _ _ _ _ _ _ (sym (carry-none _ _ _ _ _ _ _ (omega arith)) ∙ c .before .loop .inv .2)
+returns-2 c = executes _ _ _ _ _ _ (sym (execute-none _ _ _ _ _ _ _ (omega arith)) ∙ c .before .loop .inv .2)
 
-pub carry-spec : {M : Type 1} → statement M
-carry-spec =
+pub execute-spec : {M : Type 1} → statement M
+execute-spec =
     tie.close
     (tie.spec Inv-loop μ-loop loop-holds (λ c κs. search needs) rules-of-requires (λ c κs. search needs) returns (λ c κs. search needs)
     (λ c. search needs) (λ c. search needs) (λ c. search needs) (λ c. search needs) loop-again returns-2)

@@ -36,11 +36,11 @@ use Rattle.wellformed.proofs.Suits.{move-known}
 use Rattle.wellformed.proofs.Orders.{order-right, start-under}
 use Rattle.wellformed.specs.Right.{RightStep, orderHall, RightOrder}
 use Rattle.wellformed.proofs.Learnable.{inconsistentIn, learnable-inconsistent}
-use Rattle.statemask.specs.Statemask.{carry, startMask}
-use Rattle.statemask.specs.Carrying.{Under, Ruled, Carrying, carriedAnswer}
-use Rattle.statemask.proofs.Plan.{carry-start, carry-answer, agrees-sheet}
+use Rattle.statemask.specs.Statemask.{execute, startMask}
+use Rattle.statemask.specs.Executing.{Under, Ruled, Executing, executedAnswer}
+use Rattle.statemask.proofs.Plan.{execute-start, execute-answer, agrees-sheet}
 use Rattle.format.proofs.OrderForm.{order-good}
-use Rattle.execution.specs.Execution.{Carriable}
+use Rattle.execution.specs.Execution.{Executable}
 use Rattle.learner.specs.Learner.{observedOf}
 
 -- the sets of a move's rules are its learned ones
@@ -82,9 +82,9 @@ module _ (s : List ℕ) (n m : ℕ) (good : lookOver s ≡ Good n) (learns : lea
         let c = moves-few s n good in
         (a, omega arith)
 
-    carrying : Carrying (domain (schemaOf s)) (learnedFrom s) (schemaOf s) (observedOf s .masks) steps
+    executing : Executing (domain (schemaOf s)) (learnedFrom s) (schemaOf s) (observedOf s .masks) steps
     unfolding observedOf learnedFrom transitionsOf domain groundAction
-    carrying =
+    executing =
         let sch = schemaOf s in
         let seen = seen-observed sch (moves-few s n good) (stepsOfBook s) (recorded-faithful s n good) in
         let size = relations-few s n good in
@@ -106,14 +106,14 @@ module _ (s : List ℕ) (n m : ℕ) (good : lookOver s ≡ Good n) (learns : lea
     module _ (start : List Fact) (under : Under (holding start)) where
       -- rows 19 and 20, and the end sheet where no step stops
       plan-answer : (count : ℕ) (goals : List GoalEntry)
-          → runAnswer count (map goalEntry goals) (planRun s (holding start) (map (groundAction (schemaOf s)) steps)) ≡ carriedAnswer count goals (carry (schemaOf s) (observedOf s .masks) steps (startMask start) 1)
+          → runAnswer count (map goalEntry goals) (planRun s (holding start) (map (groundAction (schemaOf s)) steps)) ≡ executedAnswer count goals (execute (schemaOf s) (observedOf s .masks) steps (startMask start) 1)
       unfolding planRun
-      plan-answer count goals = carry-answer (domain (schemaOf s)) (learnedFrom s) (schemaOf s) (observedOf s .masks) steps carrying start under count goals
+      plan-answer count goals = execute-answer (domain (schemaOf s)) (learnedFrom s) (schemaOf s) (observedOf s .masks) steps executing start under count goals
 
-      plan-sheet : carry (schemaOf s) (observedOf s .masks) steps (startMask start) 1 .stop ≡ 0
-          → carry (schemaOf s) (observedOf s .masks) steps (startMask start) 1 .mask ≡ endSheet (planRun s (holding start) (map (groundAction (schemaOf s)) steps))
+      plan-sheet : execute (schemaOf s) (observedOf s .masks) steps (startMask start) 1 .stop ≡ 0
+          → execute (schemaOf s) (observedOf s .masks) steps (startMask start) 1 .mask ≡ endSheet (planRun s (holding start) (map (groundAction (schemaOf s)) steps))
       unfolding planRun
-      plan-sheet e = agrees-sheet _ _ (carry-start (domain (schemaOf s)) (learnedFrom s) (schemaOf s) (observedOf s .masks) steps carrying start under) e
+      plan-sheet e = agrees-sheet _ _ (execute-start (domain (schemaOf s)) (learnedFrom s) (schemaOf s) (observedOf s .masks) steps executing start under) e
 
   -- what an order of good form supplies
   module _ (o : List ℕ) (k : ℕ) (order : orderForm (schemaOf s) o ≡ Good k) where
@@ -124,9 +124,9 @@ module _ (s : List ℕ) (n m : ℕ) (good : lookOver s ≡ Good n) (learns : lea
     unfolding startState
     start-in-mask f h = let size = relations-few s n good in start-under (schemaOf s) o k order f (omega arith)
 
-    pub carriable : (l : List ℕ) → length l ≡ observedSize → Carriable l o (stepCount o) (stepsAt o)
+    pub executable : (l : List ℕ) → length l ≡ observedSize → Executable l o (stepCount o) (stepsAt o)
     unfolding stepAt plan
-    carriable l size =
+    executable l size =
         let g = order-good (schemaOf s) o k order .header in
         record {
           size = size;
@@ -134,11 +134,11 @@ module _ (s : List ℕ) (n m : ℕ) (good : lookOver s ≡ Good n) (learns : lea
           moves = λ i h. moves-known (orderHall o) (right .few) (plan o) (right .steps) (stepAt o (stepsAt o + stepSize * i)) (mem-plan o (stepCount o) (stepsAt o) i h);
         }
 
-    pub order-carried : runAnswer (stepCount o) (goalOf o) (orderRun s o) ≡ carriedAnswer (stepCount o) (goal o) (carry (schemaOf s) (observedOf s .masks) (plan o) (startMask (startFacts o)) 1)
+    pub order-executed : runAnswer (stepCount o) (goalOf o) (orderRun s o) ≡ executedAnswer (stepCount o) (goal o) (execute (schemaOf s) (observedOf s .masks) (plan o) (startMask (startFacts o)) 1)
     unfolding goalOf orderRun planOf startState
-    order-carried = plan-answer (orderHall o) (right .few) (plan o) (right .steps) (startFacts o) start-in-mask (stepCount o) (goal o)
+    order-executed = plan-answer (orderHall o) (right .few) (plan o) (right .steps) (startFacts o) start-in-mask (stepCount o) (goal o)
 
-    pub order-sheet : carry (schemaOf s) (observedOf s .masks) (plan o) (startMask (startFacts o)) 1 .stop ≡ 0
-        → carry (schemaOf s) (observedOf s .masks) (plan o) (startMask (startFacts o)) 1 .mask ≡ endSheet (orderRun s o)
+    pub order-sheet : execute (schemaOf s) (observedOf s .masks) (plan o) (startMask (startFacts o)) 1 .stop ≡ 0
+        → execute (schemaOf s) (observedOf s .masks) (plan o) (startMask (startFacts o)) 1 .mask ≡ endSheet (orderRun s o)
     unfolding orderRun planOf startState
     order-sheet = plan-sheet (orderHall o) (right .few) (plan o) (right .steps) (startFacts o) start-in-mask

@@ -1,4 +1,4 @@
--- What it takes for masks to carry a plan as a model does over states, and what "as the model does" means.
+-- What it takes for masks to execute a plan as a model does over states, and what "as the model does" means.
 use Prim.Native.Nat.{ℕ, zero, suc, _≤_, _<_}
 use mathlib.Core.Path.{_≡_}
 use mathlib.Core.Bool.{true, false}
@@ -17,7 +17,7 @@ use Rattle.jobs.specs.SheetBits.{needSet, effectSet}
 use Rattle.jobs.specs.Planning.{groundAction}
 use Rattle.jobs.specs.Check.{goalAnswer}
 use Rattle.observed.specs.Rules.{ruleSet}
-use Rattle.statemask.specs.Statemask.{Carried, missed}
+use Rattle.statemask.specs.Statemask.{Executed, missed}
 
 -- no fact holds that the mask has no bit for
 abbrev pub Under : State → Type 0
@@ -36,17 +36,17 @@ pub record InMask (D : Domain) (s : GroundAction) : Type 0 where
   pub under : (n : ℕ) → D .atom (s .action) n ≡ true → s .ground n < maxFactNumbers
 
 -- what is asked of a plan, its schema and what is observed, for a model and its domain
-pub record Carrying (D : Domain) (M : Model) (sch : Schema) (l : List ℕ) (plan : List Step) : Type 0 where
+pub record Executing (D : Domain) (M : Model) (sch : Schema) (l : List ℕ) (plan : List Step) : Type 0 where
   pub few : D .atoms ≤ maxAtoms
   pub valid : Valid D M
   pub ruled : (st : Step) → Mem st plan → Ruled M (st .action .0) (ruleSet sch l (st .action .0))
   pub inMask : (st : Step) → Mem st plan → InMask D (groundAction sch st)
 
 -- the masks stop where the run stops; where it ends they have its end state
-abbrev pub Agrees : Carried → Run → Type 0
+abbrev pub Agrees : Executed → Run → Type 0
 Agrees c (stopped k) = (c .stop ≡ k) × (1 ≤ k)
 Agrees c (ended end) = (c .stop ≡ 0) × (c .mask ≡ maskOf stateSize end) × Under end
 
 -- rows 19 and 20 from what the masks came to
-unfoldable pub carriedAnswer : ℕ → List GoalEntry → Carried → Answer
-carriedAnswer steps goal c = elim (c .stop) [ zero ↦ goalAnswer steps (missed (c .mask) goal) | suc k ↦ Refused 19 (suc k) ]
+unfoldable pub executedAnswer : ℕ → List GoalEntry → Executed → Answer
+executedAnswer steps goal c = elim (c .stop) [ zero ↦ goalAnswer steps (missed (c .mask) goal) | suc k ↦ Refused 19 (suc k) ]
