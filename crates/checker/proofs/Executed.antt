@@ -11,7 +11,7 @@ use Rattle.truth.specs.Bools.{decide}
 use Rattle.answer.specs.Laws.{good-refused}
 use Rattle.terms.specs.declared.Fact.{Fact}
 use Rattle.terms.specs.declared.Step.{Step}
-use Rattle.terms.specs.Schema.{Schema, Hall}
+use Rattle.terms.specs.Schema.{Schema, TypedObjects}
 use Rattle.terms.specs.Steps.{stepAt}
 use Rattle.limits.specs.Limits.{maxMoves, maxObjects, stepSize, observedSize}
 use Rattle.format.specs.LookOver.{lookOver}
@@ -34,7 +34,7 @@ use Rattle.terms.proofs.Atoms.{atom-below}
 use Rattle.wellformed.proofs.Atoms.{ground-below}
 use Rattle.wellformed.proofs.Suits.{move-known}
 use Rattle.wellformed.proofs.Orders.{order-right, start-under}
-use Rattle.wellformed.specs.Right.{RightStep, orderHall, RightOrder}
+use Rattle.wellformed.specs.Right.{RightStep, orderTyped, RightOrder}
 use Rattle.wellformed.proofs.Learnable.{inconsistentIn, learnable-inconsistent}
 use Rattle.statemask.specs.Statemask.{execute, startMask}
 use Rattle.statemask.specs.Executing.{Under, Ruled, Executing, executedAnswer}
@@ -75,10 +75,10 @@ mem-plan o (suc n) at (suc i) h =
 
 module _ (s : List ℕ) (n m : ℕ) (good : lookOver s ≡ Good n) (learns : learnable s ≡ Good m) where
   -- steps that are right over some objects, from any start facts that the mask has bits for
-  module _ (hl : Hall) (few : hl .count ≤ maxObjects) (steps : List Step) (right : (st : Step) → Mem st steps → RightStep (schemaOf s) hl st) where
+  module _ (ob : TypedObjects) (few : ob .count ≤ maxObjects) (steps : List Step) (right : (st : Step) → Mem st steps → RightStep (schemaOf s) ob st) where
     moves-known : (st : Step) → Mem st steps → (1 ≤ st .action .0) × (st .action .0 ≤ maxMoves)
     moves-known st i =
-        let (a, b) = move-known (schemaOf s) hl st (right st i) in
+        let (a, b) = move-known (schemaOf s) ob st (right st i) in
         let c = moves-few s n good in
         (a, omega arith)
 
@@ -98,7 +98,7 @@ module _ (s : List ℕ) (n m : ℕ) (good : lookOver s ≡ Good n) (learns : lea
                 ranged = λ j atom. atom-below sch (st .action .0) j atom;
                 under =
                     λ j atom.
-                    let h = ground-below sch hl st (right st i) few j atom in
+                    let h = ground-below sch ob st (right st i) few j atom in
                     omega arith;
               };
         }
@@ -131,14 +131,14 @@ module _ (s : List ℕ) (n m : ℕ) (good : lookOver s ≡ Good n) (learns : lea
         record {
           size = size;
           end = omega (arith, g .size, g .most);
-          moves = λ i h. moves-known (orderHall o) (right .few) (plan o) (right .steps) (stepAt o (stepsAt o + stepSize * i)) (mem-plan o (stepCount o) (stepsAt o) i h);
+          moves = λ i h. moves-known (orderTyped o) (right .few) (plan o) (right .steps) (stepAt o (stepsAt o + stepSize * i)) (mem-plan o (stepCount o) (stepsAt o) i h);
         }
 
     pub order-executed : runAnswer (stepCount o) (goalOf o) (orderRun s o) ≡ executedAnswer (stepCount o) (goal o) (execute (schemaOf s) (observedOf s .masks) (plan o) (startMask (startFacts o)) 1)
     unfolding goalOf orderRun planOf startState
-    order-executed = plan-answer (orderHall o) (right .few) (plan o) (right .steps) (startFacts o) start-in-mask (stepCount o) (goal o)
+    order-executed = plan-answer (orderTyped o) (right .few) (plan o) (right .steps) (startFacts o) start-in-mask (stepCount o) (goal o)
 
     pub order-sheet : execute (schemaOf s) (observedOf s .masks) (plan o) (startMask (startFacts o)) 1 .stop ≡ 0
         → execute (schemaOf s) (observedOf s .masks) (plan o) (startMask (startFacts o)) 1 .mask ≡ endSheet (orderRun s o)
     unfolding orderRun planOf startState
-    order-sheet = plan-sheet (orderHall o) (right .few) (plan o) (right .steps) (startFacts o) start-in-mask
+    order-sheet = plan-sheet (orderTyped o) (right .few) (plan o) (right .steps) (startFacts o) start-in-mask

@@ -9,7 +9,7 @@ use Rattle.truth.specs.Bools.{bool-eq}
 use Rattle.terms.specs.declared.Param.{Param}
 use Rattle.terms.specs.declared.Binding.{Binding}
 use Rattle.terms.specs.declared.Fact.{Fact}
-use Rattle.terms.specs.Schema.{Schema, Hall}
+use Rattle.terms.specs.Schema.{Schema, TypedObjects}
 use Rattle.terms.specs.Steps.{objectOf, atomRelation, atomFirst, atomSecond, isAtom, ground}
 use Rattle.terms.specs.Agree.{SameSchema}
 use Rattle.terms.proofs.Atoms.{fact-path, first-range, second-range}
@@ -50,12 +50,12 @@ renumbered-fact sch to numbering b c objects n =
 
 module _ (s t : List ℕ) (agree : SameSchema (schemaOf s) (schemaOf t)) where
   -- a bound fact holds in a state exactly if it holds in the renumbered one, under the renumbered step
-  value-same : (f g : RecordedStep) (h : RenumberedStep f g) → (hl : Hall) → hl .count ≤ maxObjects → RightStep (schemaOf s) hl (f .step)
-      → (k : Hall) → k .count ≤ maxObjects → RightStep (schemaOf t) k (g .step)
-      → (fs gs : List Fact) → RightState (schemaOf s) hl fs → RightState (schemaOf t) k gs → RenumberedFacts (h .to) fs gs
+  value-same : (f g : RecordedStep) (h : RenumberedStep f g) → (ob : TypedObjects) → ob .count ≤ maxObjects → RightStep (schemaOf s) ob (f .step)
+      → (k : TypedObjects) → k .count ≤ maxObjects → RightStep (schemaOf t) k (g .step)
+      → (fs gs : List Fact) → RightState (schemaOf s) ob fs → RightState (schemaOf t) k gs → RenumberedFacts (h .to) fs gs
       → (n : ℕ) → isAtom (schemaOf s) (f .step .action .0) n ≡ true
       → holding fs (ground (schemaOf s) (f .step .binding) n) ≡ holding gs (ground (schemaOf t) (g .step .binding) n)
-  value-same f g h hl few right k few′ right′ fs gs state state′ facts n atom =
+  value-same f g h ob few right k few′ right′ fs gs state state′ facts n atom =
       let there-atom : isAtom (schemaOf t) (g .step .action .0) n ≡ true =
       sym (atoms-same (schemaOf s) (schemaOf t) agree (g .step .action .0) n) ∙ subst (λ x. isAtom (schemaOf s) (x .0) n ≡ true) (h .action) atom
       in
@@ -67,7 +67,7 @@ module _ (s t : List ℕ) (agree : SameSchema (schemaOf s) (schemaOf t)) where
       _
       _
       (λ e.
-      let m = holds-out (schemaOf s) hl few (f .step) right fs state n atom e in
+      let m = holds-out (schemaOf s) ob few (f .step) right fs state n atom e in
       holds-in (schemaOf t) (g .step .binding) gs n (subst (λ (x : Fact). Mem x gs) fact (facts .forth _ m)))
       (λ e.
       let m = holds-out (schemaOf t) k few′ (g .step) right′ gs state′ n there-atom e in
@@ -77,11 +77,11 @@ module _ (s t : List ℕ) (agree : SameSchema (schemaOf s) (schemaOf t)) where
 
   alike-of-renumbered : (f g : RecordedStep) → RightSomewhere (schemaOf s) f → RightSomewhere (schemaOf t) g → RenumberedStep f g → AlikeRecorded s t agree f g
   unfolding transition groundAction domain
-  alike-of-renumbered f g (hl, few, right) (k, few′, right′) h =
+  alike-of-renumbered f g (ob, few, right) (k, few′, right′) h =
       record {
         action = ap (λ x. x .0) (h .action);
-        was = value-same f g h hl few (right .step) k few′ (right′ .step) (f .pre) (g .pre) (right .pre) (right′ .pre) (h .pre);
-        got = value-same f g h hl few (right .step) k few′ (right′ .step) (f .post) (g .post) (right .post) (right′ .post) (h .post);
+        was = value-same f g h ob few (right .step) k few′ (right′ .step) (f .pre) (g .pre) (right .pre) (right′ .pre) (h .pre);
+        got = value-same f g h ob few (right .step) k few′ (right′ .step) (f .post) (g .post) (right .post) (right′ .post) (h .post);
       }
 
 -- each step has its renumbered one, and the other way round

@@ -12,7 +12,7 @@ use Rattle.answer.specs.Laws.{none-over}
 use Rattle.answer.specs.Entries.{Entry}
 use Rattle.input.specs.Bytes.{byteAt, two}
 use Rattle.terms.specs.declared.Fact.{Fact}
-use Rattle.terms.specs.Schema.{Schema, Hall, numberBad}
+use Rattle.terms.specs.Schema.{Schema, TypedObjects, numberBad}
 use Rattle.terms.specs.Facts.{factAt, factBad, precedes}
 use Rattle.limits.specs.Limits.{headerSize, maxObjects, maxFacts, maxEntries, maxSteps, factSize, entrySize, stepSize}
 use Rattle.format.specs.Order.{objectCount, startCount, goalCount, stepCount, startAt, goalAt, stepsAt, orderCountsBad, orderOffsetsBad, orderObject, entryBad, entries, planStep, orderHeaderBad, planStepBad}
@@ -90,19 +90,19 @@ pub order-object-entry : (kinds : ℕ) (o : List ℕ) → Entry (orderObject kin
 unfolding orderObject
 order-object-entry kinds o at = refl
 
-module _ (sch : Schema) (hl : Hall) (o : List ℕ) where
-  pub plan-step-entry : Entry (planStep sch hl o) (planStepBad sch hl o) 18 stepSize
+module _ (sch : Schema) (ob : TypedObjects) (o : List ℕ) where
+  pub plan-step-entry : Entry (planStep sch ob o) (planStepBad sch ob o) 18 stepSize
   unfolding planStep
   plan-step-entry at = refl
 
   -- the fact of a goal entry that is not refused suits
-  pub goal-entry-suits : (last : Fact) (at : ℕ) → entryBad sch hl o last at ≡ false → factBad sch hl (factAt o (at + 1)) ≡ false
+  pub goal-entry-suits : (last : Fact) (at : ℕ) → entryBad sch ob o last at ≡ false → factBad sch ob (factAt o (at + 1)) ≡ false
   unfolding entryBad
   goal-entry-suits last at e =
       let f : Fact = factAt o (at + 1) in
-      neither (ltb 1 (byteAt o at)) _ (neither (ltb 1 (byteAt o at) || factBad sch hl f) (not (precedes last f)) e .0) .1
+      neither (ltb 1 (byteAt o at)) _ (neither (ltb 1 (byteAt o at) || factBad sch ob f) (not (precedes last f)) e .0) .1
 
   -- goal entries stand in order: Chains has their laws
-  pub goal-chain : Chain (entries sch hl o) (entryBad sch hl o) (λ at. factAt o (at + 1)) 17 entrySize
+  pub goal-chain : Chain (entries sch ob o) (entryBad sch ob o) (λ at. factAt o (at + 1)) 17 entrySize
   unfolding entries
   goal-chain = record { none = λ last at. refl; more = λ n last at. refl }

@@ -14,7 +14,7 @@ use Rattle.answer.specs.Walk.{walk, walk-parted}
 use Rattle.answer.specs.Entries.{Entry, item-good, entries-end}
 use Rattle.input.specs.Bytes.{byteAt}
 use Rattle.terms.specs.declared.Sections.{Sections}
-use Rattle.terms.specs.Schema.{Schema, Hall, schema, hall, numberBad}
+use Rattle.terms.specs.Schema.{Schema, TypedObjects, schema, typedObjects, numberBad}
 use Rattle.terms.specs.Steps.{stepAt, stepBad, repeats}
 use Rattle.limits.specs.Limits.{headSize, maxObjects, maxSteps, stepSize}
 use Rattle.format.specs.States.{cut, state}
@@ -53,30 +53,30 @@ module _ (kinds : ℕ) (s : List ℕ) (end : ℕ) where
   pub objects-end : (n at next : ℕ) → walk (object kinds s end) n at ≡ Good next → next ≡ at + n
   objects-end n at next e = omega (arith, entries-end _ _ 7 1 object-entry n at next e)
 
-module _ (sch : Schema) (hl : Hall) (s : List ℕ) (end : ℕ) where
+module _ (sch : Schema) (ob : TypedObjects) (s : List ℕ) (end : ℕ) where
   -- a good step suits, has no object twice, and the state behind it is good
   pub step-good : (at next : ℕ)
-      → step sch hl s end at ≡ Good next
-      → (stepBad sch hl (stepAt s at) ≡ false) × (repeats (stepAt s at) ≡ false) × (state sch hl s end (at + stepSize) ≡ Good next)
+      → step sch ob s end at ≡ Good next
+      → (stepBad sch ob (stepAt s at) ≡ false) × (repeats (stepAt s at) ≡ false) × (state sch ob s end (at + stepSize) ≡ Good next)
   unfolding step stepRefused
   step-good at next e =
       let p = passed _ 9 at next _ e in
       let q = passed _ 10 at next _ (p .1) in
-      (neither (cut end at stepSize) (stepBad sch hl (stepAt s at)) (p .0) .1, q .0, q .1)
+      (neither (cut end at stepSize) (stepBad sch ob (stepAt s at)) (p .0) .1, q .0, q .1)
 
-  pub step-reach : (at next : ℕ) → step sch hl s end at ≡ Good next → at + stepSize ≤ end
+  pub step-reach : (at next : ℕ) → step sch ob s end at ≡ Good next → at + stepSize ≤ end
   unfolding step stepRefused cut
-  step-reach at next e = ltb-false end (at + stepSize) (neither (ltb end (at + stepSize)) (stepBad sch hl (stepAt s at)) (passed _ 9 at next _ e .0) .0)
+  step-reach at next e = ltb-false end (at + stepSize) (neither (ltb end (at + stepSize)) (stepBad sch ob (stepAt s at)) (passed _ 9 at next _ e .0) .0)
 
-  pub step-within : (at next : ℕ) → step sch hl s end at ≡ Good next → next ≤ end
-  step-within at next e = state-within sch hl s end _ _ (step-good at next e .2)
+  pub step-within : (at next : ℕ) → step sch ob s end at ≡ Good next → next ≤ end
+  step-within at next e = state-within sch ob s end _ _ (step-good at next e .2)
 
   -- the first step behind a good state stands where the state's bytes end
-  pub trajectory-parted : (n at next last : ℕ) → state sch hl s end at ≡ Good next → walk (step sch hl s end) (suc n) next ≡ Good last
-      → (after : ℕ) × (step sch hl s end (stateEnd s at) ≡ Good after) × (walk (step sch hl s end) n after ≡ Good last)
+  pub trajectory-parted : (n at next last : ℕ) → state sch ob s end at ≡ Good next → walk (step sch ob s end) (suc n) next ≡ Good last
+      → (after : ℕ) × (step sch ob s end (stateEnd s at) ≡ Good after) × (walk (step sch ob s end) n after ≡ Good last)
   trajectory-parted n at next last e w =
-      let (after, good, rest) = walk-parted (step sch hl s end) n next last w in
-      (after, subst (λ (x : ℕ). step sch hl s end x ≡ Good after) (state-ends sch hl s end at next e .0) good, rest)
+      let (after, good, rest) = walk-parted (step sch ob s end) n next last w in
+      (after, subst (λ (x : ℕ). step sch ob s end x ≡ Good after) (state-ends sch ob s end at next e .0) good, rest)
 
 -- a good record: its start state ends at `after`, its steps at `last`, behind which it has no bytes
 pub record RecordGood (h : Sections) (s : List ℕ) (at next : ℕ) : Type 0 where
@@ -84,8 +84,8 @@ pub record RecordGood (h : Sections) (s : List ℕ) (at next : ℕ) : Type 0 whe
   pub last : ℕ
   pub head : headBad s at ≡ false
   pub objects : walk (object (h .kinds) s (at + lengthIn s at)) (objectsIn s at) (at + headSize) ≡ Good (at + headSize + objectsIn s at)
-  pub start : state (schema h s) (hall (objectsOf s at) s) s (at + lengthIn s at) (at + headSize + objectsIn s at) ≡ Good after
-  pub steps : walk (step (schema h s) (hall (objectsOf s at) s) s (at + lengthIn s at)) (stepsIn s at) after ≡ Good last
+  pub start : state (schema h s) (typedObjects (objectsOf s at) s) s (at + lengthIn s at) (at + headSize + objectsIn s at) ≡ Good after
+  pub steps : walk (step (schema h s) (typedObjects (objectsOf s at) s) s (at + lengthIn s at)) (stepsIn s at) after ≡ Good last
   pub full : ltb last (at + lengthIn s at) ≡ false
   pub end : next ≡ at + lengthIn s at
 
@@ -102,8 +102,8 @@ module _ (h : Sections) (s : List ℕ) (at next : ℕ) (good : recordAt h s at �
       let end : ℕ = at + lengthIn s at in
       let (head, whole) = passed _ 6 at next _ good in
       let (first, objects, behind) = parted (walk (object (h .kinds) s end) (objectsIn s at) (at + headSize)) next _ whole in
-      let (last, way, tail) = parted (trajectory (schema h s) (hall (objectsOf s at) s) s end (stepsIn s at) first) next _ behind in
-      let (after, start, steps) = parted (state (schema h s) (hall (objectsOf s at) s) s end first) last _ way in
+      let (last, way, tail) = parted (trajectory (schema h s) (typedObjects (objectsOf s at) s) s end (stepsIn s at) first) next _ behind in
+      let (after, start, steps) = parted (state (schema h s) (typedObjects (objectsOf s at) s) s end first) last _ way in
       let (full, same) = passed _ 6 at next _ tail in
       let place = objects-end (h .kinds) s end (objectsIn s at) (at + headSize) first objects in
       record {
@@ -111,7 +111,7 @@ module _ (h : Sections) (s : List ℕ) (at next : ℕ) (good : recordAt h s at �
         last = last;
         head = head;
         objects = subst (λ (x : ℕ). walk (object (h .kinds) s end) (objectsIn s at) (at + headSize) ≡ Good x) place objects;
-        start = subst (λ (x : ℕ). state (schema h s) (hall (objectsOf s at) s) s end x ≡ Good after) place start;
+        start = subst (λ (x : ℕ). state (schema h s) (typedObjects (objectsOf s at) s) s end x ≡ Good after) place start;
         steps = steps;
         full = full;
         end = cc;

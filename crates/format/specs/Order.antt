@@ -12,7 +12,7 @@ use Rattle.input.specs.Bytes.{byteAt, two}
 use Rattle.terms.specs.declared.Objects.{Objects}
 use Rattle.terms.specs.declared.Fact.{Fact}
 use Rattle.terms.specs.declared.Step.{Step}
-use Rattle.terms.specs.Schema.{Schema, Hall, hall, numberBad}
+use Rattle.terms.specs.Schema.{Schema, TypedObjects, typedObjects, numberBad}
 use Rattle.terms.specs.Facts.{factAt, factBad, precedes, noFact}
 use Rattle.terms.specs.Steps.{stepAt, stepBad, repeats}
 use Rattle.limits.specs.Limits.{headerSize, maxObjects, maxFacts, maxEntries, maxSteps, factSize, entrySize, stepSize}
@@ -67,42 +67,42 @@ orderObject kinds o at = do
   Good (at + 1)
 
 -- row 17: a byte 1 or 0, then a fact behind the one of the entry before
-unfoldable pub entryBad : Schema → Hall → List ℕ → Fact → ℕ → Bool
-entryBad sch hl o last at = ltb 1 (byteAt o at) || factBad sch hl (factAt o (at + 1)) || not (precedes last (factAt o (at + 1)))
+unfoldable pub entryBad : Schema → TypedObjects → List ℕ → Fact → ℕ → Bool
+entryBad sch ob o last at = ltb 1 (byteAt o at) || factBad sch ob (factAt o (at + 1)) || not (precedes last (factAt o (at + 1)))
 
-unfoldable pub entries : Schema → Hall → List ℕ → ℕ → Fact → ℕ → Answer
-entries sch hl o zero last at = Good at
-entries sch hl o (suc n) last at = do
-  _ ← refuse (entryBad sch hl o last at) 17 at
-  entries sch hl o n (factAt o (at + 1)) (at + entrySize)
+unfoldable pub entries : Schema → TypedObjects → List ℕ → ℕ → Fact → ℕ → Answer
+entries sch ob o zero last at = Good at
+entries sch ob o (suc n) last at = do
+  _ ← refuse (entryBad sch ob o last at) 17 at
+  entries sch ob o n (factAt o (at + 1)) (at + entrySize)
 
 -- row 18
-unfoldable pub planStepBad : Schema → Hall → List ℕ → ℕ → Bool
-planStepBad sch hl o at = stepBad sch hl (stepAt o at) || repeats (stepAt o at)
+unfoldable pub planStepBad : Schema → TypedObjects → List ℕ → ℕ → Bool
+planStepBad sch ob o at = stepBad sch ob (stepAt o at) || repeats (stepAt o at)
 
-unfoldable pub planStep : Schema → Hall → List ℕ → ℕ → Answer
-planStep sch hl o at = do
-  _ ← refuse (planStepBad sch hl o at) 18 at
+unfoldable pub planStep : Schema → TypedObjects → List ℕ → ℕ → Answer
+planStep sch ob o at = do
+  _ ← refuse (planStepBad sch ob o at) 18 at
   Good (at + stepSize)
 
 -- rows 17 and 18
-unfoldable pub fromGoal : Schema → Hall → List ℕ → Answer
-fromGoal sch hl o = do
-  _ ← entries sch hl o (goalCount o) noFact (goalAt o)
-  walk (planStep sch hl o) (stepCount o) (stepsAt o)
+unfoldable pub fromGoal : Schema → TypedObjects → List ℕ → Answer
+fromGoal sch ob o = do
+  _ ← entries sch ob o (goalCount o) noFact (goalAt o)
+  walk (planStep sch ob o) (stepCount o) (stepsAt o)
 
 -- rows 16 to 18
-unfoldable pub fromStart : Schema → Hall → List ℕ → Answer
-fromStart sch hl o = do
-  _ ← facts 16 sch hl o (length o) (startCount o) noFact (startAt o)
-  fromGoal sch hl o
+unfoldable pub fromStart : Schema → TypedObjects → List ℕ → Answer
+fromStart sch ob o = do
+  _ ← facts 16 sch ob o (length o) (startCount o) noFact (startAt o)
+  fromGoal sch ob o
 
 -- rows 14 to 18; the end of the order is good
 unfoldable pub orderForm : Schema → List ℕ → Answer
 orderForm sch o = do
   _ ← refuse (orderHeaderBad o) 14 0
   _ ← walk (orderObject (sch .kinds) o) (objectCount o) headerSize
-  fromStart sch (hall (orderObjects o) o) o
+  fromStart sch (typedObjects (orderObjects o) o) o
 
 -- what a good order holds: the start facts, the goal entries, the plan
 unfoldable pub startFacts : List ℕ → List Fact

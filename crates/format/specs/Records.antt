@@ -11,7 +11,7 @@ use Rattle.answer.specs.Walk.{walk}
 use Rattle.input.specs.Bytes.{byteAt, two}
 use Rattle.terms.specs.declared.Sections.{Sections}
 use Rattle.terms.specs.declared.Objects.{Objects}
-use Rattle.terms.specs.Schema.{Schema, Hall, schema, hall, numberBad}
+use Rattle.terms.specs.Schema.{Schema, TypedObjects, schema, typedObjects, numberBad}
 use Rattle.terms.specs.Steps.{stepAt, stepBad, repeats}
 use Rattle.limits.specs.Limits.{headSize, maxObjects, maxSteps, stepSize}
 use Rattle.format.specs.States.{cut, state}
@@ -41,25 +41,25 @@ object kinds s end at = do
   Good (at + 1)
 
 -- row 9 of the step at an offset
-unfoldable pub stepRefused : Schema → Hall → List ℕ → ℕ → ℕ → Bool
-stepRefused sch hl s end at = cut end at stepSize || stepBad sch hl (stepAt s at)
+unfoldable pub stepRefused : Schema → TypedObjects → List ℕ → ℕ → ℕ → Bool
+stepRefused sch ob s end at = cut end at stepSize || stepBad sch ob (stepAt s at)
 
 -- rows 9 and 10, then row 8 for the state after the step
-unfoldable pub step : Schema → Hall → List ℕ → ℕ → ℕ → Answer
-step sch hl s end at = do
-  _ ← refuse (stepRefused sch hl s end at) 9 at
+unfoldable pub step : Schema → TypedObjects → List ℕ → ℕ → ℕ → Answer
+step sch ob s end at = do
+  _ ← refuse (stepRefused sch ob s end at) 9 at
   _ ← refuse (repeats (stepAt s at)) 10 at
-  state sch hl s end (at + stepSize)
+  state sch ob s end (at + stepSize)
 
 -- the objects of the record at an offset
 unfoldable pub objectsOf : List ℕ → ℕ → Objects
 objectsOf s at = record { count = objectsIn s at; at = at + headSize }
 
 -- the part of a record behind its objects: a state, then steps each with the state after it
-unfoldable pub trajectory : Schema → Hall → List ℕ → ℕ → ℕ → ℕ → Answer
-trajectory sch hl s end n at = do
-  next ← state sch hl s end at
-  walk (step sch hl s end) n next
+unfoldable pub trajectory : Schema → TypedObjects → List ℕ → ℕ → ℕ → ℕ → Answer
+trajectory sch ob s end n at = do
+  next ← state sch ob s end at
+  walk (step sch ob s end) n next
 
 -- the record at an offset, behind what its trajectory answers: no bytes are left
 unfoldable pub closed : ℕ → ℕ → Answer → Answer
@@ -72,7 +72,7 @@ closed at end a = do
 unfoldable pub body : Sections → List ℕ → ℕ → ℕ → Answer
 body h s at end = do
   first ← walk (object (h .kinds) s end) (objectsIn s at) (at + headSize)
-  closed at end (trajectory (schema h s) (hall (objectsOf s at) s) s end (stepsIn s at) first)
+  closed at end (trajectory (schema h s) (typedObjects (objectsOf s at) s) s end (stepsIn s at) first)
 
 -- one record: where the next one starts
 unfoldable pub recordAt : Sections → List ℕ → ℕ → Answer

@@ -8,7 +8,7 @@ use Rattle.answer.specs.declared.Answer.the-variants.{Good}
 use Rattle.answer.specs.Answer.{_>>=_, refuse}
 use Rattle.input.specs.Bytes.{two}
 use Rattle.terms.specs.declared.Fact.{Fact}
-use Rattle.terms.specs.Schema.{Schema, Hall}
+use Rattle.terms.specs.Schema.{Schema, TypedObjects}
 use Rattle.terms.specs.Facts.{factAt, factBad, precedes, noFact}
 use Rattle.limits.specs.Limits.{countSize, maxFacts, factSize}
 
@@ -20,17 +20,17 @@ unfoldable pub countBad : List ℕ → ℕ → ℕ → Bool
 countBad s end at = cut end at countSize || ltb maxFacts (two s at)
 
 -- the fact is cut, wrong, or not behind the one before it
-unfoldable pub factRefused : Schema → Hall → List ℕ → ℕ → Fact → ℕ → Bool
-factRefused sch hl s end last at = cut end at factSize || factBad sch hl (factAt s at) || not (precedes last (factAt s at))
+unfoldable pub factRefused : Schema → TypedObjects → List ℕ → ℕ → Fact → ℕ → Bool
+factRefused sch ob s end last at = cut end at factSize || factBad sch ob (factAt s at) || not (precedes last (factAt s at))
 
 -- a number of facts, each refused with the number given at its own offset
-unfoldable pub facts : ℕ → Schema → Hall → List ℕ → ℕ → ℕ → Fact → ℕ → Answer
-facts num sch hl s end zero last at = Good at
-facts num sch hl s end (suc n) last at = do
-  _ ← refuse (factRefused sch hl s end last at) num at
-  facts num sch hl s end n (factAt s at) (at + factSize)
+unfoldable pub facts : ℕ → Schema → TypedObjects → List ℕ → ℕ → ℕ → Fact → ℕ → Answer
+facts num sch ob s end zero last at = Good at
+facts num sch ob s end (suc n) last at = do
+  _ ← refuse (factRefused sch ob s end last at) num at
+  facts num sch ob s end n (factAt s at) (at + factSize)
 
-unfoldable pub state : Schema → Hall → List ℕ → ℕ → ℕ → Answer
-state sch hl s end at = do
+unfoldable pub state : Schema → TypedObjects → List ℕ → ℕ → ℕ → Answer
+state sch ob s end at = do
   _ ← refuse (countBad s end at) 8 at
-  facts 8 sch hl s end (two s at) noFact (at + countSize)
+  facts 8 sch ob s end (two s at) noFact (at + countSize)

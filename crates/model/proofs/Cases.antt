@@ -14,8 +14,8 @@ use Rattle.model.specs.Judge.{Verdict, impossible, stops, misses, passes
 use Rattle.model.specs.Learned.{saw, before, after, turned, learned, unboundEffect, conflicting}
 use Rattle.model.specs.Check.{reached, judgedRun, checkedBy, inconsistent, checked}
 
-abbrev hall : Domain
-hall = record { atom = λ a n. eqb a 1 && ltb n 4; atoms = 4; facts = 6; actions = 2 }
+abbrev typedObjects : Domain
+typedObjects = record { atom = λ a n. eqb a 1 && ltb n 4; atoms = 4; facts = 6; actions = 2 }
 
 abbrev state : List ℕ → State
 state fs f = any (eqb f) fs
@@ -46,7 +46,7 @@ ends (misses i) = []
 ends (passes e) = e 0 ∷ e 1 ∷ e 2 ∷ e 3 ∷ e 4 ∷ e 5 ∷ []
 
 tried : List Transition → List GroundAction → List ℕ → Verdict
-tried ts plan start = checked hall ts plan (state start) at4
+tried ts plan start = checked typedObjects ts plan (state start) at4
 
 -- M2, M3, M5, M6, M7 and M9; then a stop at step 2, row 12 by a fact that was once removed and once left, row 11 by spot 4,
 -- and that a fact which held before and after is no effect
@@ -60,6 +60,6 @@ small-hall-right :
     × (tried (recordedSteps ∷ []) (roll23 ∷ roll23 ∷ []) (0 ∷ 4 ∷ 5 ∷ []) ≡ stops 2)
     × (tried (recordedSteps ∷ seen (0 ∷ 4 ∷ []) (0 ∷ 1 ∷ 3 ∷ []) ∷ []) [] [] ≡ impossible)
     × (tried (seen (0 ∷ 4 ∷ []) (1 ∷ 3 ∷ 5 ∷ []) ∷ []) [] [] ≡ impossible)
-    × (learned hall (seen (0 ∷ 3 ∷ 4 ∷ []) (1 ∷ 3 ∷ []) ∷ []) .effect true 1 2 ≡ false)
+    × (learned typedObjects (seen (0 ∷ 3 ∷ 4 ∷ []) (1 ∷ 3 ∷ []) ∷ []) .effect true 1 2 ≡ false)
 unfolding tried same below any later first image inapplicable next run wrong saw before after turned learned unboundEffect conflicting reached judgedRun checkedBy inconsistent checked
 small-hall-right = (refl, refl, refl, refl, refl, refl, refl, refl, refl, refl)

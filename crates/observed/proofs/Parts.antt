@@ -60,17 +60,17 @@ module _ (at : ℕ) (m l : List ℕ) (fits : at + 32 ≤ length l) (sized : leng
       ∙ getD-drop (at + 32) l i 0
 
   bytes-put : Bytes m → Bytes l → Bytes (put at m l)
-  bytes-put hm hl i = go (decLt i at) (decLt i (at + 32))
+  bytes-put hm ob i = go (decLt i at) (decLt i (at + 32))
     where
       go : Dec (i < at) → Dec (i < at + 32) → getD (put at m l) i 0 < 256
-      go (yes h) w = rw (byte-under i h) (hl i)
+      go (yes h) w = rw (byte-under i h) (ob i)
       go (no d) (yes h) =
           let e : at + (i - at) ≡ i = omega arith in
           let k : i - at < 32 = omega arith in
           rw (← e) (rw (byte-in (i - at) k) (hm (i - at)))
       go (no d) (no d′) =
           let e : at + 32 + (i - (at + 32)) ≡ i = omega arith in
-          rw (← e) (rw (byte-over (i - (at + 32))) (hl (at + 32 + (i - (at + 32)))))
+          rw (← e) (rw (byte-over (i - (at + 32))) (ob (at + 32 + (i - (at + 32)))))
 
   part-in : take 32 (drop at (put at m l)) ≡ m
   part-in =
@@ -102,7 +102,7 @@ module _ (at : ℕ) (f : List ℕ → List ℕ) (l : List ℕ) (fits : at + 32 �
 
   pub bytes-onSet : Bytes (f (take 32 (drop at l))) → Bytes l → Bytes (onSet at f l)
   unfolding onSet put
-  bytes-onSet hm hl = bytes-put at (f (take 32 (drop at l))) l fits sized hm hl
+  bytes-onSet hm ob = bytes-put at (f (take 32 (drop at l))) l fits sized hm ob
 
   pub onSet-in : take 32 (drop at (onSet at f l)) ≡ f (take 32 (drop at l))
   unfolding onSet put

@@ -30,16 +30,16 @@ module _ (s : List ℕ) (n : ℕ) (good : lookOver s ≡ Good n) where
   pub recorded-faithful : (f : RecordedStep) → Mem f (stepsOfBook s) → Faithful (schemaOf s) f
   unfolding stepsOfRecord
   recorded-faithful f m =
-      let (hl, few, right) = recorded-right s n good f m in
+      let (ob, few, right) = recorded-right s n good f m in
       let (from, next, whole, k) = recorded-somewhere s n good m in
-      let (counted, known) = move-known (schemaOf s) hl (f .step) (right .step) in
+      let (counted, known) = move-known (schemaOf s) ob (f .step) (right .step) in
       record {
         counted = counted;
         known = known;
         placed = steps-placed s _ _ k;
-        was = state-found (schemaOf s) hl few (f .step) (right .step) (f .pre) (right .pre .suits);
-        got = state-found (schemaOf s) hl few (f .step) (right .step) (f .post) (right .post .suits);
-        unboundEffects = unbound-changed-right (schemaOf s) hl few f right;
+        was = state-found (schemaOf s) ob few (f .step) (right .step) (f .pre) (right .pre .suits);
+        got = state-found (schemaOf s) ob few (f .step) (right .step) (f .post) (right .post .suits);
+        unboundEffects = unbound-changed-right (schemaOf s) ob few f right;
       }
 
   -- What is observed after the steps of a book of good form gives exactly its sheet, its row 11 and its row 12.

@@ -10,7 +10,7 @@ use Rattle.truth.specs.Bools.{clash, decide, or-right, or-out, not-in}
 use Rattle.terms.specs.declared.Object.{Object}
 use Rattle.terms.specs.declared.Binding.{Binding}
 use Rattle.terms.specs.declared.Step.{Step}
-use Rattle.terms.specs.Schema.{Schema, Hall}
+use Rattle.terms.specs.Schema.{Schema, TypedObjects}
 use Rattle.terms.specs.Steps.{argumentBad}
 use Rattle.observed.specs.Inverse.{gives, paramOf, placeBound}
 use Rattle.observed.proofs.Params.{param-out}
@@ -36,7 +36,7 @@ module _ (b : Binding) (x : Object) where
   unfolding placeBound paramOf
   param-none e = (rw (eq-eqb (x .0) 0 e), rw (eq-eqb (x .0) 0 e))
 
-module _ (sch : Schema) (hl : Hall) (st : Step) (right : RightStep sch hl st) where
+module _ (sch : Schema) (ob : TypedObjects) (st : Step) (right : RightStep sch ob st) where
   -- a parameter with an object is one that the move uses
   param-used : (i : ℕ) → 1 ≤ i → i ≤ 4 → 1 ≤ objectAt st i .0 → i ≤ sch .params (st .action)
   unfolding argumentBad
@@ -44,7 +44,7 @@ module _ (sch : Schema) (hl : Hall) (st : Step) (right : RightStep sch hl st) wh
     where
       go : (leb i (sch .params (st .action)) ≡ true) ⊎ (leb i (sch .params (st .action)) ≡ false) → i ≤ sch .params (st .action)
       go (inl h) = leb-true i _ h
-      go (inr h) = absurd (omega (arith, unused-out sch hl _ (objectAt st i) _ (argument-right sch hl st right i low high) h))
+      go (inr h) = absurd (omega (arith, unused-out sch ob _ (objectAt st i) _ (argument-right sch ob st right i low high) h))
 
   module _ (x : Object) (some : 1 ≤ x .0) where
     -- A place that is bound, with an object in it, has the object of a parameter that the move uses.
@@ -76,5 +76,5 @@ module _ (sch : Schema) (hl : Hall) (st : Step) (right : RightStep sch hl st) wh
         let (most, given) = param-out (st .binding) x found in
         let same : objectAt st (paramOf (st .binding) x) .0 ≡ x .0 = eqb-true _ _ given in (
           or-right (eqb (x .0) 0) _ (not-in _ (ne-eqb _ 0 (λ (q : paramOf (st .binding) x ≡ 0). omega arith))),
-          parameters-apart sch hl st right (paramOf (st .binding) x) i found most low high (omega arith) (same ∙ sym e),
+          parameters-apart sch ob st right (paramOf (st .binding) x) i found most low high (omega arith) (same ∙ sym e),
         )

@@ -11,7 +11,7 @@ use Rattle.mask.specs.Sets.{empty}
 use Rattle.mask.proofs.Laws.{test-empty, length-empty, test-set-below}
 use Rattle.terms.specs.declared.Step.{Step}
 use Rattle.terms.specs.declared.Fact.{Fact}
-use Rattle.terms.specs.Schema.{Schema, Hall}
+use Rattle.terms.specs.Schema.{Schema, TypedObjects}
 use Rattle.terms.specs.Facts.{factBad}
 use Rattle.terms.specs.Steps.{isAtom, ground}
 use Rattle.limits.specs.Limits.{maxObjects}
@@ -32,21 +32,21 @@ test-mark false m k n h e = sym (or-false (testBit m n))
 gather : (t a b c : Bool) → (t || a && b || a && c) ≡ (t || a && (b || c))
 gather t a b c = or-assoc t (a && b) (a && c) ∙ ap (λ (d : Bool). t || d) (sym (and-or-distrib-left a b c))
 
-module _ (sch : Schema) (hl : Hall) (few : hl .count ≤ maxObjects) (st : Step) (right : RightStep sch hl st) where
-  marks-found : (fs : List Fact) → ((f : Fact) → Mem f fs → factBad sch hl f ≡ false) → (m : List ℕ) → length m ≡ 32 → (n : ℕ) → n < 256
+module _ (sch : Schema) (ob : TypedObjects) (few : ob .count ≤ maxObjects) (st : Step) (right : RightStep sch ob st) where
+  marks-found : (fs : List Fact) → ((f : Fact) → Mem f fs → factBad sch ob f ≡ false) → (m : List ℕ) → length m ≡ 32 → (n : ℕ) → n < 256
       → testBit (marks (st .binding) m fs) n ≡ (testBit m n || isAtom sch (st .action .0) n && holding fs (ground sch (st .binding) n))
   unfolding marks mark holding any
   marks-found [] good m e n h = sym (ap (λ (b : Bool). testBit m n || b) (and-false (isAtom sch (st .action .0) n)) ∙ or-false (testBit m n))
   marks-found (f ∷ fs) good m e n h =
       marks-found fs (λ g k. good g (there k)) _ (length-mark (factBound (st .binding) f) m (atomOf (st .binding) f) ∙ e) n h
-      ∙ rw (test-mark (factBound (st .binding) f) m (atomOf (st .binding) f) n h e, found sch hl st right few f (good f here) n)
+      ∙ rw (test-mark (factBound (st .binding) f) m (atomOf (st .binding) f) n h e, found sch ob st right few f (good f here) n)
       (gather (testBit m n) (isAtom sch (st .action .0) n) _ _)
 
   -- The bound facts found from a right state are those whose facts hold in it.
-  pub atoms-found : (fs : List Fact) → ((f : Fact) → Mem f fs → factBad sch hl f ≡ false) → (n : ℕ) → n < 256
+  pub atoms-found : (fs : List Fact) → ((f : Fact) → Mem f fs → factBad sch ob f ≡ false) → (n : ℕ) → n < 256
       → testBit (atomsIn (st .binding) fs) n ≡ (isAtom sch (st .action .0) n && holding fs (ground sch (st .binding) n))
   unfolding atomsIn
   atoms-found fs good n h = marks-found fs good (empty 32) (length-empty 32) n h ∙ rw (test-empty 32 n)
 
-  pub state-found : (fs : List Fact) → ((f : Fact) → Mem f fs → factBad sch hl f ≡ false) → Found sch st fs
+  pub state-found : (fs : List Fact) → ((f : Fact) → Mem f fs → factBad sch ob f ≡ false) → Found sch st fs
   state-found fs good n h atom = atoms-found fs good n h ∙ rw atom

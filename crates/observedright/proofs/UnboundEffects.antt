@@ -8,7 +8,7 @@ use borrow.Author.Tests.{eqb-true, eq-eqb, not-false, not-true}
 use Rattle.truth.specs.Bools.{clash, is-true, bool-eq, and-in, and-out, not-in}
 use Rattle.terms.specs.declared.Step.{Step}
 use Rattle.terms.specs.declared.Fact.{Fact}
-use Rattle.terms.specs.Schema.{Schema, Hall}
+use Rattle.terms.specs.Schema.{Schema, TypedObjects}
 use Rattle.terms.specs.Facts.{factBad, factNumber, noFact}
 use Rattle.terms.specs.Steps.{isAtom, ground}
 use Rattle.terms.proofs.Atoms.{atom-below}
@@ -33,9 +33,9 @@ use Rattle.observedright.proofs.Unbound.{unbound-in, unbound-out, sorte
 pub imaged : Schema → Step → ℕ → Bool
 imaged sch st x = image (domain sch) (isAtom sch (st .action .0)) (groundAction sch st) x
 
-module _ (sch : Schema) (hl : Hall) (few : hl .count ≤ maxObjects) (st : Step) (right : RightStep sch hl st) where
+module _ (sch : Schema) (ob : TypedObjects) (few : ob .count ≤ maxObjects) (st : Step) (right : RightStep sch ob st) where
   -- A right fact is that of a bound fact of the step exactly if it is found to be one.
-  pub bound-image : (f : Fact) → factBad sch hl f ≡ false → factBound (st .binding) f ≡ imaged sch st (factNumber f)
+  pub bound-image : (f : Fact) → factBad sch ob f ≡ false → factBound (st .binding) f ≡ imaged sch st (factNumber f)
   unfolding imaged image domain groundAction
   bound-image f good = bool-eq _ _ into out
     where
@@ -44,16 +44,16 @@ module _ (sch : Schema) (hl : Hall) (few : hl .count ≤ maxObjects) (st : Step)
 
       into : factBound (st .binding) f ≡ true → below (16 * sch .relations) atomic ≡ true
       into e =
-          let (atom, grounds) = found-out sch hl st right few f good e in
+          let (atom, grounds) = found-out sch ob st right few f good e in
           below-in _ atomic _ (atom-below sch (st .action .0) _ atom) (and-in _ _ atom (eq-eqb _ _ grounds))
 
       out : below (16 * sch .relations) atomic ≡ true → factBound (st .binding) f ≡ true
       out e =
           let (n, l, h) = below-out _ atomic e in
           let (atom, grounds) = and-out (isAtom sch (st .action .0) n) (eqb (ground sch (st .binding) n) (factNumber f)) h in
-          found-in sch hl st right few f good n atom (eqb-true _ _ grounds) .0
+          found-in sch ob st right few f good n atom (eqb-true _ _ grounds) .0
 
-  module _ (fs gs : List Fact) (suit : (f : Fact) → Mem f fs → factBad sch hl f ≡ false) (suit′ : (f : Fact) → Mem f gs → factBad sch hl f ≡ false) where
+  module _ (fs gs : List Fact) (suit : (f : Fact) → Mem f fs → factBad sch ob f ≡ false) (suit′ : (f : Fact) → Mem f gs → factBad sch ob f ≡ false) where
     -- where the facts left over are among the others, what is no bound fact and holds, holds in the others
     holds-too : ((f : Fact) → Mem f (unbound (st .binding) fs) → Mem f (unbound (st .binding) gs))
         → (x : ℕ) → imaged sch st x ≡ false → holding fs x ≡ true → holding gs x ≡ true
@@ -69,12 +69,12 @@ module _ (sch : Schema) (hl : Hall) (few : hl .count ≤ maxObjects) (st : Step)
     left-too stay f m =
         let (k, u) = unbound-out (st .binding) fs m in
         let off : imaged sch st (factNumber f) ≡ false = sym (bound-image f (suit f k)) ∙ u in
-        let h = sym (stay (factNumber f) (number-below sch hl few f (suit f k)) off) ∙ holding-in fs k in
+        let h = sym (stay (factNumber f) (number-below sch ob few f (suit f k)) off) ∙ holding-in fs k in
         let (g, l, e) = holding-out gs (factNumber f) h in
-        let q : g ≡ f = number-injective sch hl few g f (suit′ g l) (suit f k) e in
+        let q : g ≡ f = number-injective sch ob few g f (suit′ g l) (suit f k) e in
         unbound-in (st .binding) gs (rw q at l) u
 
-module _ (sch : Schema) (hl : Hall) (few : hl .count ≤ maxObjects) (f : RecordedStep) (right : Right sch hl f) where
+module _ (sch : Schema) (ob : TypedObjects) (few : ob .count ≤ maxObjects) (f : RecordedStep) (right : Right sch ob f) where
   differs : ℕ → Bool
   differs x = not (same (holding (f .pre) x) (holding (f .post) x)) && not (imaged sch (f .step) x)
 
@@ -92,10 +92,10 @@ module _ (sch : Schema) (hl : Hall) (few : hl .count ≤ maxObjects) (f : Record
   unfolding unboundChanged differs left left′
   unbound-changed-differs = bool-eq _ _ (λ e. is-true _ (none e)) (λ e. is-true _ (some e))
     where
-      suit : (g : Fact) → Mem g (f .pre) → factBad sch hl g ≡ false
+      suit : (g : Fact) → Mem g (f .pre) → factBad sch ob g ≡ false
       suit = right .pre .suits
 
-      suit′ : (g : Fact) → Mem g (f .post) → factBad sch hl g ≡ false
+      suit′ : (g : Fact) → Mem g (f .post) → factBad sch ob g ≡ false
       suit′ = right .post .suits
 
       stays : below (256 * sch .relations) differs ≡ false → (x : ℕ) → x < 256 * sch .relations → imaged sch (f .step) x ≡ false
@@ -107,8 +107,8 @@ module _ (sch : Schema) (hl : Hall) (few : hl .count ≤ maxObjects) (f : Record
           let q : left ≡ left′ =
           same-members left left′ (sorted-unbound _ _ (sorted noFact (f .pre) (right .pre .increasing)))
           (sorted-unbound _ _ (sorted noFact (f .post) (right .post .increasing)))
-          (left-too sch hl few (f .step) (right .step) (f .pre) (f .post) suit suit′ (stays h))
-          (left-too sch hl few (f .step) (right .step) (f .post) (f .pre) suit′ suit (λ x l off. sym (stays h x l off))) in
+          (left-too sch ob few (f .step) (right .step) (f .pre) (f .post) suit suit′ (stays h))
+          (left-too sch ob few (f .step) (right .step) (f .post) (f .pre) suit′ suit (λ x l off. sym (stays h x l off))) in
           clash (sameFacts left left′) (ap (sameFacts left) (sym q) ∙ facts-same left) (not-true _ e)
 
       some : below (256 * sch .relations) differs ≡ true → not (sameFacts left left′) ≡ false → ⊥
@@ -119,8 +119,8 @@ module _ (sch : Schema) (hl : Hall) (few : hl .count ≤ maxObjects) (f : Record
           let off = not-true _ away in
           let z : holding (f .pre) x ≡ holding (f .post) x =
           bool-eq _ _
-          (holds-too sch hl few (f .step) (right .step) (f .pre) (f .post) suit suit′ (λ g m. rw q at m) x off)
-          (holds-too sch hl few (f .step) (right .step) (f .post) (f .pre) suit′ suit (λ g m. rw (← q) at m) x off) in
+          (holds-too sch ob few (f .step) (right .step) (f .pre) (f .post) suit suit′ (λ g m. rw q at m) x off)
+          (holds-too sch ob few (f .step) (right .step) (f .post) (f .pre) suit′ suit (λ g m. rw (← q) at m) x off) in
           clash _ (same-in _ _ z) (not-true _ turned)
 
   -- Row 11 found from the facts is row 11 of the transition.

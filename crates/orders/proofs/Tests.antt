@@ -16,7 +16,7 @@ use Rattle.input.specs.Bytes.{byteAt}
 use Rattle.terms.specs.declared.Sections.{Sections}
 use Rattle.terms.specs.declared.Objects.{Objects}
 use Rattle.terms.specs.declared.Step.{Step}
-use Rattle.terms.specs.Schema.{Schema, Hall, schema, hall, numberBad}
+use Rattle.terms.specs.Schema.{Schema, TypedObjects, schema, typedObjects, numberBad}
 use Rattle.terms.specs.Facts.{factAt, factBad, precedes, noFact}
 use Rattle.terms.specs.Steps.{stepAt, stepBad, repeats}
 use Rattle.limits.specs.Limits.{headerSize, maxObjects, entrySize, nearCeiling}
@@ -27,30 +27,30 @@ use Rattle.states.specs.declared.FactCursor.{FactCursor}
 use Rattle.states.specs.Cursor.{misplaced}
 use Rattle.states.proofs.Cursors.{fact-of}
 
-module _ (sch : Schema) (hl : Hall) (o : List ℕ) where
+module _ (sch : Schema) (ob : TypedObjects) (o : List ℕ) where
   pub start-by : (n from : ℕ) (a : Answer)
       → n ≡ startCount o
       → from ≡ startAt o
-      → a ≡ facts 16 sch hl o (length o) n noFact from
-      → a ≡ facts 16 sch hl o (length o) (startCount o) noFact (startAt o)
+      → a ≡ facts 16 sch ob o (length o) n noFact from
+      → a ≡ facts 16 sch ob o (length o) (startCount o) noFact (startAt o)
   start-by n from a p q e = rw (← p, ← q) e
 
   -- row 17, as the code meets it
   pub entry-bad-by : (c : FactCursor) (wanted : ℕ) (b : Bool)
       → c .size ≡ entrySize
       → wanted ≡ byteAt o (c .at)
-      → b ≡ misplaced sch hl o c
-      → (ltb 1 wanted || b) ≡ entryBad sch hl o (c .last) (c .at)
+      → b ≡ misplaced sch ob o c
+      → (ltb 1 wanted || b) ≡ entryBad sch ob o (c .last) (c .at)
   unfolding entryBad misplaced
   entry-bad-by c wanted b e p q =
-      rw (p, q, fact-of sch hl o c (c .at + 1) (omega arith))
-      (sym (or-assoc (ltb 1 (byteAt o (c .at))) (factBad sch hl (factAt o (c .at + 1))) (not (precedes (c .last) (factAt o (c .at + 1))))))
+      rw (p, q, fact-of sch ob o c (c .at + 1) (omega arith))
+      (sym (or-assoc (ltb 1 (byteAt o (c .at))) (factBad sch ob (factAt o (c .at + 1))) (not (precedes (c .last) (factAt o (c .at + 1))))))
 
   pub step-bad-by : (st : Step) (at : ℕ) (a b : Bool)
       → st ≡ stepAt o at
-      → a ≡ stepBad sch hl st
+      → a ≡ stepBad sch ob st
       → b ≡ repeats st
-      → (a || b) ≡ planStepBad sch hl o at
+      → (a || b) ≡ planStepBad sch ob o at
   unfolding planStepBad
   step-bad-by st at a b p q r = rw (q, r, p)
 
@@ -69,7 +69,7 @@ objects-fit o objects e l = rw e (omega arith, omega arith)
 
 -- the tables are those of the order's own objects
 pub own-kinds : (sch : Schema) (o ks : List ℕ) (objects : Objects) → objects ≡ orderObjects o
-    → Kinds sch (hall objects o) ks → Kinds sch (hall (orderObjects o) o) ks
+    → Kinds sch (typedObjects objects o) ks → Kinds sch (typedObjects (orderObjects o) o) ks
 own-kinds sch o ks objects e right = rw e at right
 
 pub kinds-are : (h : Sections) (s : List ℕ) → h .kinds ≡ schema h s .kinds
@@ -82,7 +82,7 @@ module _ (sch : Schema) (o : List ℕ) (b : Bool) (b-is : b ≡ orderHeaderBad o
   row-fourteen e = sym (refuse-met _ _ _ _ (sym b-is ∙ e))
 
   module _ (unmet : b ≡ false) where
-    objects-on : (walk (orderObject (sch .kinds) o) (objectCount o) headerSize >>= λ _. fromStart sch (hall (orderObjects o) o) o) ≡ orderForm sch o
+    objects-on : (walk (orderObject (sch .kinds) o) (objectCount o) headerSize >>= λ _. fromStart sch (typedObjects (orderObjects o) o) o) ≡ orderForm sch o
     unfolding orderForm
     objects-on = sym (refuse-unmet _ _ _ _ (sym b-is ∙ unmet))
 
@@ -90,5 +90,5 @@ module _ (sch : Schema) (o : List ℕ) (b : Bool) (b-is : b ≡ orderHeaderBad o
       pub row-fifteen : c ≡ true → a ≡ orderForm sch o
       row-fifteen e = part-stays _ _ a c (rw is at a-is) c-is e ∙ objects-on
 
-      pub rows-behind : c ≡ false → (r : Answer) → r ≡ fromStart sch (hall (orderObjects o) o) o → r ≡ orderForm sch o
+      pub rows-behind : c ≡ false → (r : Answer) → r ≡ fromStart sch (typedObjects (orderObjects o) o) o → r ≡ orderForm sch o
       rows-behind e r q = q ∙ part-then _ _ a c (rw is at a-is) c-is e ∙ objects-on

@@ -9,7 +9,7 @@ ghost use mathlib.Core.Path.{_≡_};
 ghost use Prim.Native.Nat.{_≤_};
 ghost use lib.ListN.{length};
 ghost use Rattle.answer.specs.Walk.{walk};
-ghost use Rattle.terms.specs.Schema.{schema, hall};
+ghost use Rattle.terms.specs.Schema.{schema, typedObjects};
 ghost use Rattle.terms.specs.Facts.{noFact};
 ghost use Rattle.terms.specs.Steps.{repeats};
 ghost use Rattle.limits.specs.Limits.{headerSize, maxObjects, maxFacts, farCeiling};
@@ -37,7 +37,7 @@ fn objects(o: &[u8], kinds: u16) -> Answer
 // Row 16: the start section, whose facts are looked at as those of a state are.
 fn start(o: &[u8], table: &[u32; 512]) -> Answer
     requires { ⌜ startCount (now o) ≤ maxFacts ⌝ }
-    ensures { λ r. ⌜ ForTabled (now (table .entry)) (λ sch hl. r ≡ facts 16 sch hl (now (o .entry)) (length (now (o .entry))) (startCount (now (o .entry))) noFact (startAt (now (o .entry)))) ⌝ }
+    ensures { λ r. ⌜ ForTabled (now (table .entry)) (λ sch ob. r ≡ facts 16 sch ob (now (o .entry)) (length (now (o .entry))) (startCount (now (o .entry))) noFact (startAt (now (o .entry)))) ⌝ }
 {
     states::facts(
         16,
@@ -52,7 +52,7 @@ fn start(o: &[u8], table: &[u32; 512]) -> Answer
 // Row 17 of each goal entry: a byte, then a fact, by the cursor that looks at a state's.
 fn goal(o: &[u8], table: &[u32; 512]) -> Answer
     requires { ⌜ stepsAt (now o) ≤ length (now o) ⌝ }
-    ensures { λ r. ⌜ ForTabled (now (table .entry)) (λ sch hl. r ≡ entries sch hl (now (o .entry)) (goalCount (now (o .entry))) noFact (goalAt (now (o .entry)))) ⌝ }
+    ensures { λ r. ⌜ ForTabled (now (table .entry)) (λ sch ob. r ≡ entries sch ob (now (o .entry)) (goalCount (now (o .entry))) noFact (goalAt (now (o .entry)))) ⌝ }
 {
     let mut c = FactCursor::new(
         limits::ENTRY_SIZE,
@@ -72,7 +72,7 @@ fn goal(o: &[u8], table: &[u32; 512]) -> Answer
 // Row 18, of the step at an offset.
 fn step_bad(book: &[u8], h: Sections, kinds: &[u32; 256], o: &[u8], at: usize) -> bool
     requires { ⌜ at ≤ farCeiling ⌝ }
-    ensures { λ r. ⌜ ForKinds (schema h (now (book .entry))) (now (kinds .entry)) (λ hl. r ≡ planStepBad (schema h (now (book .entry))) hl (now (o .entry)) at) ⌝ }
+    ensures { λ r. ⌜ ForKinds (schema h (now (book .entry))) (now (kinds .entry)) (λ ob. r ≡ planStepBad (schema h (now (book .entry))) ob (now (o .entry)) at) ⌝ }
 {
     let step = Step::read(o, at);
     tables::step_bad(book, h, kinds, step) | step.repeats()
@@ -80,7 +80,7 @@ fn step_bad(book: &[u8], h: Sections, kinds: &[u32; 256], o: &[u8], at: usize) -
 
 // Row 18 of each plan step.
 fn plan(book: &[u8], h: Sections, kinds: &[u32; 256], o: &[u8]) -> Answer
-    ensures { λ r. ⌜ ForKinds (schema h (now (book .entry))) (now (kinds .entry)) (λ hl. r ≡ walk (planStep (schema h (now (book .entry))) hl (now (o .entry))) (stepCount (now (o .entry))) (stepsAt (now (o .entry)))) ⌝ }
+    ensures { λ r. ⌜ ForKinds (schema h (now (book .entry))) (now (kinds .entry)) (λ ob. r ≡ walk (planStep (schema h (now (book .entry))) ob (now (o .entry))) (stepCount (now (o .entry))) (stepsAt (now (o .entry)))) ⌝ }
 {
     let mut left = orderhead::step_count(o);
     let mut at = orderhead::steps_at(o);
@@ -97,7 +97,7 @@ fn plan(book: &[u8], h: Sections, kinds: &[u32; 256], o: &[u8]) -> Answer
 // Rows 17 and 18.
 fn from_goal(book: &[u8], h: Sections, kinds: &[u32; 256], table: &[u32; 512], o: &[u8]) -> Answer
     requires { ⌜ Follows (schema h (now book)) (now kinds) (now table) × (stepsAt (now o) ≤ length (now o)) ⌝ }
-    ensures { λ r. ⌜ ForKinds (schema h (now (book .entry))) (now (kinds .entry)) (λ hl. r ≡ fromGoal (schema h (now (book .entry))) hl (now (o .entry))) ⌝ }
+    ensures { λ r. ⌜ ForKinds (schema h (now (book .entry))) (now (kinds .entry)) (λ ob. r ≡ fromGoal (schema h (now (book .entry))) ob (now (o .entry))) ⌝ }
 {
     let wanted = goal(o, table);
     if answer::is_refused(wanted) {
@@ -109,7 +109,7 @@ fn from_goal(book: &[u8], h: Sections, kinds: &[u32; 256], table: &[u32; 512], o
 // Rows 16 to 18: the sections behind the objects, by the tables of these. Goal entries are looked at behind good start facts.
 fn from_start(book: &[u8], h: Sections, o: &[u8]) -> Answer
     requires { ⌜ (objectCount (now o) ≤ maxObjects) × (startCount (now o) ≤ maxFacts) × (stepsAt (now o) ≤ length (now o)) ⌝ }
-    ensures { λ r. ⌜ r ≡ fromStart (schema h (now (book .entry))) (hall (orderObjects (now (o .entry))) (now (o .entry))) (now (o .entry)) ⌝ }
+    ensures { λ r. ⌜ r ≡ fromStart (schema h (now (book .entry))) (typedObjects (orderObjects (now (o .entry))) (now (o .entry))) (now (o .entry)) ⌝ }
 {
     let kinds = tables::kinds_of(book, h, o, orderhead::objects_of(o));
     let table = tables::table_of(book, h, &kinds);

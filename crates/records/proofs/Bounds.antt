@@ -10,7 +10,7 @@ use Rattle.truth.specs.Bools.{neither}
 use Rattle.answer.specs.Laws.{parted}
 use Rattle.answer.specs.Walk.{walk}
 use Rattle.terms.specs.declared.Sections.{Sections}
-use Rattle.terms.specs.Schema.{Schema, Hall}
+use Rattle.terms.specs.Schema.{Schema, TypedObjects}
 use Rattle.limits.specs.Limits.{headSize, maxSteps}
 use Rattle.format.specs.States.{cut}
 use Rattle.format.specs.Records.{lengthIn, object, step, trajectory, body, recordAt, stepRefused, closed}
@@ -24,19 +24,19 @@ unfolding object cut
 object-bounded kinds s end at h =
     bounded-row end _ _ _ _ (omega arith) h (λ e. bounded-good end _ (ltb-false _ _ (neither _ _ e .0)))
 
-module _ (sch : Schema) (hl : Hall) (s : List ℕ) (end : ℕ) where
-  step-bounded : (at : ℕ) → at ≤ end → Bounded end (step sch hl s end at)
+module _ (sch : Schema) (ob : TypedObjects) (s : List ℕ) (end : ℕ) where
+  step-bounded : (at : ℕ) → at ≤ end → Bounded end (step sch ob s end at)
   unfolding step stepRefused cut
   step-bounded at h =
       bounded-row end _ _ _ _ (omega arith) h
       (λ e.
       bounded-row end _ _ _ _ (omega arith) h
-      (λ f. state-bounded sch hl s end _ (ltb-false _ _ (neither _ _ e .0))))
+      (λ f. state-bounded sch ob s end _ (ltb-false _ _ (neither _ _ e .0))))
 
-  trajectory-bounded : (n at : ℕ) → at ≤ end → Bounded end (trajectory sch hl s end n at)
+  trajectory-bounded : (n at : ℕ) → at ≤ end → Bounded end (trajectory sch ob s end n at)
   unfolding trajectory
   trajectory-bounded n at h =
-      bounded-then end _ _ (state-bounded sch hl s end at h)
+      bounded-then end _ _ (state-bounded sch ob s end at h)
       (λ next e i. bounded-walk end _ step-bounded n next i)
 
 module _ (h : Sections) (s : List ℕ) where

@@ -14,7 +14,7 @@ use Rattle.answer.specs.Answer.{isRefused, valueOf}
 use Rattle.answer.specs.Laws.{refuse-met, refuse-unmet, bind-good, bind-refused}
 use Rattle.answer.specs.Walk.{walk}
 use Rattle.terms.specs.declared.Sections.{Sections}
-use Rattle.terms.specs.Schema.{schema, hall}
+use Rattle.terms.specs.Schema.{schema, typedObjects}
 use Rattle.limits.specs.Limits.{headSize}
 use Rattle.format.specs.Records.{stepsIn, lengthIn, headBad, object, objectsOf, trajectory, body, recordAt, closed}
 use Rattle.format.specs.LookOver.{stepTotal, allRecords}
@@ -37,13 +37,13 @@ module _ (h : Sections) (s : List ℕ) (at end : ℕ) (head : Head) (read : head
       → b ≡ isRefused a
       → b ≡ false
       → v ≡ valueOf a
-      → t ≡ trajectory (schema h s) (hall (record { count = head .objects; at = at + headSize }) s) s end (head .steps) v
+      → t ≡ trajectory (schema h s) (typedObjects (record { count = head .objects; at = at + headSize }) s) s end (head .steps) v
       → closed at end t ≡ body h s at end
   unfolding body objectsOf closed headOf
   body-rest v a b t p q r u w =
       rw (w, read)
       (part-follows _
-      (λ first. closed at end (trajectory (schema h s) (hall (objectsOf s at) s) s end (stepsIn s at) first))
+      (λ first. closed at end (trajectory (schema h s) (typedObjects (objectsOf s at) s) s end (stepsIn s at) first))
       a b v (rw read at p) q r u)
 
 module _ (at end : ℕ) (a : Answer) (b : Bool) where

@@ -3,7 +3,7 @@ use Prim.Native.Nat.{ℕ, _≤_}
 use mathlib.Core.List.{List}
 use lib.ListN.{length}
 use Rattle.limits.specs.Limits.{maxLength}
-use Rattle.terms.specs.Schema.{schema, hall}
+use Rattle.terms.specs.Schema.{schema, typedObjects}
 use Rattle.tables.specs.Tables.{Kinds, Tabled}
 use Rattle.records.specs.declared.Scope.{Scope}
 
@@ -11,5 +11,5 @@ use Rattle.records.specs.declared.Scope.{Scope}
 pub record Readable (s : List ℕ) (c : Scope) (ks t : List ℕ) : Type 0 where
   pub within : c .end ≤ length s
   pub short : c .end ≤ maxLength
-  pub kinds : Kinds (schema (c .h) s) (hall (c .objects) s) ks
-  pub table : Tabled (schema (c .h) s) (hall (c .objects) s) t
+  pub kinds : Kinds (schema (c .h) s) (typedObjects (c .objects) s) ks
+  pub table : Tabled (schema (c .h) s) (typedObjects (c .objects) s) t

@@ -8,7 +8,7 @@ ghost use mathlib.Core.Path.{_≡_};
 ghost use Prim.Native.Nat.{_≤_};
 ghost use lib.ListN.{length};
 ghost use Rattle.answer.specs.Walk.{walk};
-ghost use Rattle.terms.specs.Schema.{schema, hall};
+ghost use Rattle.terms.specs.Schema.{schema, typedObjects};
 ghost use Rattle.limits.specs.Limits.{maxLength, maxObjects, nearCeiling};
 ghost use Rattle.format.specs.Records.{headBad, object, stepRefused, step, trajectory, closed, body, recordAt};
 ghost use Rattle.tables.specs.Tables.{ForKinds};
@@ -68,7 +68,7 @@ fn objects(s: &[u8], kinds: u16, end: usize, n: usize, from: usize) -> Answer
 // Row 9.
 fn step_refused(book: &[u8], h: Sections, kinds: &[u32; 256], end: usize, at: usize) -> bool
     requires { ⌜ (end ≤ length (now book)) × (at ≤ maxLength) ⌝ }
-    ensures { λ r. ⌜ ForKinds (schema h (now (book .entry))) (now (kinds .entry)) (λ hl. r ≡ stepRefused (schema h (now (book .entry))) hl (now (book .entry)) end at) ⌝ }
+    ensures { λ r. ⌜ ForKinds (schema h (now (book .entry))) (now (kinds .entry)) (λ ob. r ≡ stepRefused (schema h (now (book .entry))) ob (now (book .entry)) end at) ⌝ }
 {
     if end < at + limits::STEP_SIZE {
         return true;
@@ -87,7 +87,7 @@ struct Scope {
 // Rows 9 and 10, then row 8 for the state after the step.
 fn step(book: &[u8], c: Scope, kinds: &[u32; 256], table: &[u32; 512], at: usize) -> Answer
     requires { ⌜ Readable (now book) c (now kinds) (now table) × (at ≤ maxLength) ⌝ }
-    ensures { λ r. ⌜ r ≡ step (schema (c .h) (now (book .entry))) (hall (c .objects) (now (book .entry))) (now (book .entry)) (c .end) at ⌝ }
+    ensures { λ r. ⌜ r ≡ step (schema (c .h) (now (book .entry))) (typedObjects (c .objects) (now (book .entry))) (now (book .entry)) (c .end) at ⌝ }
 {
     if step_refused(book, c.h, kinds, c.end, at) {
         return Answer::Refused(9, at);
@@ -101,7 +101,7 @@ fn step(book: &[u8], c: Scope, kinds: &[u32; 256], table: &[u32; 512], at: usize
 
 fn steps(book: &[u8], c: Scope, kinds: &[u32; 256], table: &[u32; 512], from: usize) -> Answer
     requires { ⌜ Readable (now book) c (now kinds) (now table) × (from ≤ maxLength) ⌝ }
-    ensures { λ r. ⌜ r ≡ walk (step (schema (c .h) (now (book .entry))) (hall (c .objects) (now (book .entry))) (now (book .entry)) (c .end)) (c .steps) from ⌝ }
+    ensures { λ r. ⌜ r ≡ walk (step (schema (c .h) (now (book .entry))) (typedObjects (c .objects) (now (book .entry))) (now (book .entry)) (c .end)) (c .steps) from ⌝ }
 {
     let mut left = c.steps;
     let mut at = from;
@@ -122,7 +122,7 @@ fn steps(book: &[u8], c: Scope, kinds: &[u32; 256], table: &[u32; 512], from: us
 // A state, then steps each with the state after it.
 fn trajectory(book: &[u8], c: Scope, kinds: &[u32; 256], table: &[u32; 512], at: usize) -> Answer
     requires { ⌜ Readable (now book) c (now kinds) (now table) × (at ≤ nearCeiling) ⌝ }
-    ensures { λ r. ⌜ r ≡ trajectory (schema (c .h) (now (book .entry))) (hall (c .objects) (now (book .entry))) (now (book .entry)) (c .end) (c .steps) at ⌝ }
+    ensures { λ r. ⌜ r ≡ trajectory (schema (c .h) (now (book .entry))) (typedObjects (c .objects) (now (book .entry))) (now (book .entry)) (c .end) (c .steps) at ⌝ }
 {
     let first = states::state(book, table, c.end, at);
     if answer::is_refused(first) {
@@ -149,19 +149,25 @@ fn body(s: &[u8], h: Sections, head: Head, at: usize, end: usize) -> Answer
     requires { ⌜ (at ≤ maxLength) × (end ≤ maxLength) × (end ≤ length (now s)) × (head ≡ headOf (now s) at) × (head .objects ≤ maxObjects) ⌝ }
     ensures { λ r. ⌜ r ≡ body h (now (s .entry)) at end ⌝ }
 {
-    let hall = Objects {
+    let typedObjects = Objects {
         count: head.objects,
         at: at + limits::HEAD_SIZE,
     };
-    let first = objects(s, h.kinds, end, hall.count as usize, at + limits::HEAD_SIZE);
+    let first = objects(
+        s,
+        h.kinds,
+        end,
+        typedObjects.count as usize,
+        at + limits::HEAD_SIZE,
+    );
     if answer::is_refused(first) {
         return first;
     }
-    let kinds = tables::kinds_of(s, h, s, hall);
+    let kinds = tables::kinds_of(s, h, s, typedObjects);
     let table = tables::table_of(s, h, &kinds);
     let scope = Scope {
         h,
-        objects: hall,
+        objects: typedObjects,
         steps: head.steps as usize,
         end,
     };

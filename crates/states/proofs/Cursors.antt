@@ -6,7 +6,7 @@ use mathlib.Core.List.{List}
 use native.Mathlib.Omega.{arith}
 use borrow.Author.Tests.{lt-ltb, le-ltb}
 use Rattle.terms.specs.declared.Fact.{Fact}
-use Rattle.terms.specs.Schema.{Schema, Hall}
+use Rattle.terms.specs.Schema.{Schema, TypedObjects}
 use Rattle.terms.specs.Facts.{factAt, precedes}
 use Rattle.terms.specs.Told.{suits}
 use Rattle.limits.specs.Limits.{factSize}
@@ -15,27 +15,27 @@ use Rattle.tables.specs.Tables.{Tabled}
 use Rattle.states.specs.declared.FactCursor.{FactCursor}
 use Rattle.states.specs.Cursor.{factOf, misplaced}
 
-module _ (sch : Schema) (hl : Hall) (s : List ℕ) where
+module _ (sch : Schema) (ob : TypedObjects) (s : List ℕ) where
   -- the fact of an item, by where it stands
   pub fact-of : (c : FactCursor) (at : ℕ) → c .at + (c .size - factSize) ≡ at → factOf s c ≡ factAt s at
   unfolding factOf
   fact-of c at e = rw e refl
 
-  pub misplaced-by : (table : List ℕ) → Tabled sch hl table
+  pub misplaced-by : (table : List ℕ) → Tabled sch ob table
       → (c : FactCursor) (f : Fact) (a b : Bool)
       → f .relation .0 < 256
       → f ≡ factOf s c
       → a ≡ suits table f
       → b ≡ precedes (c .last) f
-      → (not a || not b) ≡ misplaced sch hl s c
+      → (not a || not b) ≡ misplaced sch ob s c
   unfolding misplaced Tabled
   misplaced-by table right c f a b l p q r = rw (q, right f l, r, p) refl
 
   module _ (end : ℕ) where
-    pub fact-cut : (last : Fact) (at : ℕ) → end < at + factSize → true ≡ factRefused sch hl s end last at
+    pub fact-cut : (last : Fact) (at : ℕ) → end < at + factSize → true ≡ factRefused sch ob s end last at
     unfolding factRefused cut
     fact-cut last at h = rw (lt-ltb end (at + factSize) h) refl
 
-    pub fact-whole : (c : FactCursor) (b : Bool) → c .size ≡ factSize → c .at + factSize ≤ end → b ≡ misplaced sch hl s c → b ≡ factRefused sch hl s end (c .last) (c .at)
+    pub fact-whole : (c : FactCursor) (b : Bool) → c .size ≡ factSize → c .at + factSize ≤ end → b ≡ misplaced sch ob s c → b ≡ factRefused sch ob s end (c .last) (c .at)
     unfolding misplaced factRefused cut
     fact-whole c b e h p = rw (p, fact-of c (c .at) (omega arith), le-ltb end (c .at + factSize) h) refl

@@ -5,7 +5,7 @@ use mathlib.Core.Bool.{Bool, _||_, not}
 use mathlib.Core.List.{List}
 use lib.ListN.{length}
 use Rattle.terms.specs.declared.Fact.{Fact}
-use Rattle.terms.specs.Schema.{Schema, Hall}
+use Rattle.terms.specs.Schema.{Schema, TypedObjects}
 use Rattle.terms.specs.Facts.{factAt, factBad, precedes}
 use Rattle.terms.specs.Told.{factKey}
 use Rattle.limits.specs.Limits.{factSize, farCeiling}
@@ -23,5 +23,5 @@ unfoldable pub factOf : List ℕ → FactCursor → Fact
 factOf s c = factAt s (c .at + (c .size - factSize))
 
 -- it is wrong, or not behind the one before it
-unfoldable pub misplaced : Schema → Hall → List ℕ → FactCursor → Bool
-misplaced sch hl s c = factBad sch hl (factOf s c) || not (precedes (c .last) (factOf s c))
+unfoldable pub misplaced : Schema → TypedObjects → List ℕ → FactCursor → Bool
+misplaced sch ob s c = factBad sch ob (factOf s c) || not (precedes (c .last) (factOf s c))

@@ -11,7 +11,7 @@ use Rattle.objectset.specs.Sets.{member, entry}
 use Rattle.objectset.proofs.Laws.{member-none, member-one}
 use Rattle.terms.specs.declared.Object.{Object}
 use Rattle.terms.specs.declared.Relation.{Relation}
-use Rattle.terms.specs.Schema.{Schema, Hall, numberBad, kindSuits, objectBad}
+use Rattle.terms.specs.Schema.{Schema, TypedObjects, numberBad, kindSuits, objectBad}
 use Rattle.terms.specs.Facts.{factBad}
 use Rattle.terms.specs.Told.{suits}
 use Rattle.tables.specs.Tables.{Kinds, kindsBad, placeSet, Tabled, Follows}
@@ -28,33 +28,33 @@ module _ (sch : Schema) (ks : List ℕ) (r : Relation) (i places : ℕ) (is : pl
   place-unused l = rw (← is, lt-leb i places l) refl
 
 -- ---- the table by kind
-pub kinds-right : (sch : Schema) (hl : Hall) (n : ℕ) (ks : List ℕ) → n ≡ hl .count + 1 → KindsTo sch (λ x. hl .kind (record { 0 = x })) n ks → Kinds sch hl ks
+pub kinds-right : (sch : Schema) (ob : TypedObjects) (n : ℕ) (ks : List ℕ) → n ≡ ob .count + 1 → KindsTo sch (λ x. ob .kind (record { 0 = x })) n ks → Kinds sch ob ks
 unfolding Kinds KindsTo
-kinds-right sch hl n ks e i k x =
-    i .1 k (x .0) ∙ ap (λ (b : Bool). b && kindSuits sch k (hl .kind x)) (below-all (hl .count) n (x .0) (λ l. omega arith) (λ l. omega arith))
+kinds-right sch ob n ks e i k x =
+    i .1 k (x .0) ∙ ap (λ (b : Bool). b && kindSuits sch k (ob .kind x)) (below-all (ob .count) n (x .0) (λ l. omega arith) (λ l. omega arith))
 
 both-good : (a s : Bool) → (not a && s) ≡ not (a || not s)
 both-good true s = refl
 both-good false true = refl
 both-good false false = refl
 
-module _ (sch : Schema) (hl : Hall) (ks : List ℕ) (right : Kinds sch hl ks) where
-  object-in : (named : ℕ) (x : Object) → member (entry ks named) (x .0) ≡ not (numberBad (hl .count) (x .0) || not (kindSuits sch named (hl .kind x)))
+module _ (sch : Schema) (ob : TypedObjects) (ks : List ℕ) (right : Kinds sch ob ks) where
+  object-in : (named : ℕ) (x : Object) → member (entry ks named) (x .0) ≡ not (numberBad (ob .count) (x .0) || not (kindSuits sch named (ob .kind x)))
   unfolding Kinds
-  object-in named x = right named x ∙ both-good (numberBad (hl .count) (x .0)) (kindSuits sch named (hl .kind x))
+  object-in named x = right named x ∙ both-good (numberBad (ob .count) (x .0)) (kindSuits sch named (ob .kind x))
 
-  pub kinds-bad : (used : Bool) (named : ℕ) (x : Object) → kindsBad ks used named x ≡ objectBad sch hl used named x
+  pub kinds-bad : (used : Bool) (named : ℕ) (x : Object) → kindsBad ks used named x ≡ objectBad sch ob used named x
   unfolding kindsBad objectBad
-  kinds-bad used named x = rw (object-in named x, Bool·not-not (numberBad (hl .count) (x .0) || not (kindSuits sch named (hl .kind x)))) refl
+  kinds-bad used named x = rw (object-in named x, Bool·not-not (numberBad (ob .count) (x .0) || not (kindSuits sch named (ob .kind x)))) refl
 
-  place-in : (used : Bool) (named : ℕ) (x : Object) → member (cond used (entry ks named) 1) (x .0) ≡ not (objectBad sch hl used named x)
+  place-in : (used : Bool) (named : ℕ) (x : Object) → member (cond used (entry ks named) 1) (x .0) ≡ not (objectBad sch ob used named x)
   unfolding objectBad
   place-in true named x =
-      rw (or-false (numberBad (hl .count) (x .0) || not (kindSuits sch named (hl .kind x)))) (object-in named x)
+      rw (or-false (numberBad (ob .count) (x .0) || not (kindSuits sch named (ob .kind x)))) (object-in named x)
   place-in false named x = member-one (x .0) ∙ sym (Bool·not-not (eqb (x .0) 0))
 
   pub place-set-in : (r : Relation) (i : ℕ) (x : Object)
-      → member (placeSet sch ks r i) (x .0) ≡ not (objectBad sch hl (leb i (sch .places r)) (sch .placeKind r i) x)
+      → member (placeSet sch ks r i) (x .0) ≡ not (objectBad sch ob (leb i (sch .places r)) (sch .placeKind r i) x)
   unfolding placeSet
   place-set-in r i x = place-in (leb i (sch .places r)) (sch .placeKind r i) x
 
@@ -71,7 +71,7 @@ module _ (sch : Schema) (hl : Hall) (ks : List ℕ) (right : Kinds sch hl ks) wh
       → n ≤ sch .relations + 1
       → ((x : ℕ) → x < 256 → x ≤ sch .relations → x < n)
       → RowsTo (λ q. placeSet sch ks (record { 0 = q }) 1) (λ q. placeSet sch ks (record { 0 = q }) 2) n t
-      → Tabled sch hl t
+      → Tabled sch ob t
   unfolding Tabled RowsTo suits factBad
   rows-tabled n t l g i f k =
       let r = f .relation .0 in
@@ -94,4 +94,4 @@ pub rows-follow : (sch : Schema) (ks : List ℕ) (n : ℕ) (t : List ℕ)
     → RowsTo (λ q. placeSet sch ks (record { 0 = q }) 1) (λ q. placeSet sch ks (record { 0 = q }) 2) n t
     → Follows sch ks t
 unfolding Follows
-rows-follow sch ks n t l g i hl right = rows-tabled sch hl ks right n t l (walked (sch .relations) n _ _ refl refl g) i
+rows-follow sch ks n t l g i ob right = rows-tabled sch ob ks right n t l (walked (sch .relations) n _ _ refl refl g) i

@@ -12,7 +12,7 @@ ghost use lib.ListN.{length};
 ghost use Rattle.limits.specs.Limits.{maxParams, nearCeiling};
 ghost use Rattle.mask.specs.Sets.{empty};
 ghost use Rattle.objectset.specs.Sets.{stored};
-ghost use Rattle.terms.specs.Schema.{schema, hall};
+ghost use Rattle.terms.specs.Schema.{schema, typedObjects};
 ghost use Rattle.terms.specs.Steps.{argumentBad, stepBad};
 ghost use Rattle.tables.specs.Tables.{Joined, Kinds, kindsBad, placeSet, Follows, ForKinds};
 
@@ -39,7 +39,7 @@ fn no_places() -> [u32; 512]
 // The table by kind, of the objects in `s`.
 pub fn kinds_of(book: &[u8], h: Sections, s: &[u8], objects: Objects) -> [u32; 256]
     requires { ⌜ (objects .at ≤ nearCeiling) × (objects .count < 32) ⌝ }
-    ensures { λ r. ⌜ Kinds (schema h (now (book .entry))) (hall objects (now (s .entry))) r ⌝ }
+    ensures { λ r. ⌜ Kinds (schema h (now (book .entry))) (typedObjects objects (now (s .entry))) r ⌝ }
 {
     let n = objects.count;
     let mut kinds = no_kinds();
@@ -102,7 +102,7 @@ pub fn table_of(book: &[u8], h: Sections, kinds: &[u32; 256]) -> [u32; 512]
 // Row 9 of one parameter. The move has so many.
 fn argument_bad(book: &[u8], h: Sections, kinds: &[u32; 256], st: Step, params: u8, i: u8) -> bool
     requires { ⌜ (i ≤ maxParams) × (params ≡ schema h (now book) .params (st .action)) ⌝ }
-    ensures { λ r. ⌜ ForKinds (schema h (now (book .entry))) (now (kinds .entry)) (λ hl. r ≡ argumentBad (schema h (now (book .entry))) hl st i) ⌝ }
+    ensures { λ r. ⌜ ForKinds (schema h (now (book .entry))) (now (kinds .entry)) (λ ob. r ≡ argumentBad (schema h (now (book .entry))) ob st i) ⌝ }
 {
     let b = st.binding;
     object_bad(
@@ -115,7 +115,7 @@ fn argument_bad(book: &[u8], h: Sections, kinds: &[u32; 256], st: Step, params: 
 
 // Rows 9 and 18 of a step's move and objects: the move is there, and its parameters have objects that suit.
 pub fn step_bad(book: &[u8], h: Sections, kinds: &[u32; 256], st: Step) -> bool
-    ensures { λ r. ⌜ ForKinds (schema h (now (book .entry))) (now (kinds .entry)) (λ hl. r ≡ stepBad (schema h (now (book .entry))) hl st) ⌝ }
+    ensures { λ r. ⌜ ForKinds (schema h (now (book .entry))) (now (kinds .entry)) (λ ob. r ≡ stepBad (schema h (now (book .entry))) ob st) ⌝ }
 {
     let params = h.params(book, st.action);
     terms::number_bad(h.moves.count, st.action.0)

@@ -17,7 +17,7 @@ use Rattle.terms.specs.declared.Binding.{Binding}
 use Rattle.terms.specs.declared.Fact.{Fact}
 use Rattle.terms.specs.declared.Step.{Step}
 use Rattle.terms.specs.declared.Sections.{Sections}
-use Rattle.terms.specs.Schema.{Schema, Hall, numberBad, relationAt, moveAt, schema, objectBad}
+use Rattle.terms.specs.Schema.{Schema, TypedObjects, numberBad, relationAt, moveAt, schema, objectBad}
 use Rattle.terms.specs.Facts.{factBad}
 use Rattle.terms.specs.Steps.{argumentBad, stepBad, atomRelation, atomFirst, atomSecond, parameterFills, isAtom, placed, ground}
 use Rattle.terms.specs.Agree.{SameSchema}
@@ -60,7 +60,7 @@ same-by-bytes h k s t relations moves bytes bytes′ =
         rw (x, y) (f (j + i) l)
 
 -- two halls have as many objects, of the same kinds
-pub record SameHall (H K : Hall) : Type 0 where
+pub record SameObjects (H K : TypedObjects) : Type 0 where
   pub count : H .count ≡ K .count
   pub kind : (x : Object) → 1 ≤ x .0 → x .0 ≤ H .count → H .kind x ≡ K .kind x
 
@@ -98,7 +98,7 @@ module _ (S T : Schema) (h : SameSchema S T) where
 
   -- ---- what is right stays right
 
-  module _ (H K : Hall) (o : SameHall H K) where
+  module _ (H K : TypedObjects) (o : SameObjects H K) where
     object-over : (used : Bool) (named : ℕ) (x : Object) → objectBad S H used named x ≡ false → objectBad T K used named x ≡ false
     unfolding objectBad
     object-over true named x e =

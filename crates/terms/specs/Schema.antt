@@ -47,18 +47,18 @@ schema h s =
     }
 
 -- the objects of a record or an order, with their kinds: the typed objects of a planning problem
-pub record Hall : Type 0 where
+pub record TypedObjects : Type 0 where
   pub count : ℕ
   pub kind : Object → ℕ
 
-unfoldable pub hall : Objects → List ℕ → Hall
-hall o s = record { count = o .count; kind = λ x. byteAt s (o .at + (x .0 - 1)) }
+unfoldable pub typedObjects : Objects → List ℕ → TypedObjects
+typedObjects o s = record { count = o .count; kind = λ x. byteAt s (o .at + (x .0 - 1)) }
 
 -- whether a kind suits a place or a parameter of the kind named
 unfoldable pub kindSuits : Schema → ℕ → ℕ → Bool
 kindSuits sch named kind = eqb kind named
 
 -- what stands where an object of the kind named belongs is wrong: a used place has an object's number, of a kind that suits; an unused one has 0
-unfoldable pub objectBad : Schema → Hall → Bool → ℕ → Object → Bool
-objectBad sch hl used named x =
-    used && (numberBad (hl .count) (x .0) || not (kindSuits sch named (hl .kind x))) || not used && not (eqb (x .0) 0)
+unfoldable pub objectBad : Schema → TypedObjects → Bool → ℕ → Object → Bool
+objectBad sch ob used named x =
+    used && (numberBad (ob .count) (x .0) || not (kindSuits sch named (ob .kind x))) || not used && not (eqb (x .0) 0)

@@ -11,7 +11,7 @@ use Rattle.terms.specs.declared.Relation.{Relation}
 use Rattle.terms.specs.declared.Move.{Move}
 use Rattle.terms.specs.declared.Binding.{Binding}
 use Rattle.terms.specs.declared.Step.{Step}
-use Rattle.terms.specs.Schema.{Schema, Hall, numberBad, objectBad, kindSuits}
+use Rattle.terms.specs.Schema.{Schema, TypedObjects, numberBad, objectBad, kindSuits}
 
 -- the object that a binding gives a parameter: the only way from one to the other
 unfoldable pub objectOf : Binding → Param → Object
@@ -33,18 +33,18 @@ stepAt s at =
     }
 
 -- row 9, of one parameter
-unfoldable pub argumentBad : Schema → Hall → Step → ℕ → Bool
-argumentBad sch hl st i =
-    objectBad sch hl (leb i (sch .params (st .action))) (sch .paramKind (st .action) (record { 0 = i })) (objectOf (st .binding) (record { 0 = i }))
+unfoldable pub argumentBad : Schema → TypedObjects → Step → ℕ → Bool
+argumentBad sch ob st i =
+    objectBad sch ob (leb i (sch .params (st .action))) (sch .paramKind (st .action) (record { 0 = i })) (objectOf (st .binding) (record { 0 = i }))
 
 -- row 9: the move is there, and its parameters have objects that suit
-unfoldable pub stepBad : Schema → Hall → Step → Bool
-stepBad sch hl st =
+unfoldable pub stepBad : Schema → TypedObjects → Step → Bool
+stepBad sch ob st =
     numberBad (sch .moves) (st .action .0)
-    || argumentBad sch hl st 1
-    || argumentBad sch hl st 2
-    || argumentBad sch hl st 3
-    || argumentBad sch hl st 4
+    || argumentBad sch ob st 1
+    || argumentBad sch ob st 2
+    || argumentBad sch ob st 3
+    || argumentBad sch ob st 4
 
 -- row 10, of two parameters: both used, with one object. An unused one has 0
 unfoldable pub samePair : Step → ℕ → ℕ → Bool

@@ -10,7 +10,7 @@ use Rattle.answer.specs.declared.Answer.the-variants.{Good, Refused}
 use Rattle.answer.specs.Laws.{good-refused}
 use Rattle.answer.specs.Walk.{walk}
 use Rattle.terms.specs.declared.Sections.{Sections}
-use Rattle.terms.specs.Schema.{Schema, Hall, schema}
+use Rattle.terms.specs.Schema.{Schema, TypedObjects, schema}
 use Rattle.terms.specs.Steps.{stepAt}
 use Rattle.limits.specs.Limits.{maxLength, maxMoves, headSize, stepSize}
 use Rattle.format.specs.States.{state}
@@ -30,16 +30,16 @@ use Rattle.walk.specs.Walk.{Observable, RecordsWalked}
 use Rattle.walk.proofs.Steps.{observedAs, observed-path}
 
 -- the steps behind a good state, if they are good
-observable-steps : (sch : Schema) (hl : Hall) (s : List ℕ) (end : ℕ) → end ≤ length s → length s ≤ maxLength → sch .moves ≤ maxMoves
-    → (n at mid last : ℕ) → at ≤ maxLength → state sch hl s end at ≡ Good mid → walk (step sch hl s end) n mid ≡ Good last → Observable s n at
+observable-steps : (sch : Schema) (ob : TypedObjects) (s : List ℕ) (end : ℕ) → end ≤ length s → length s ≤ maxLength → sch .moves ≤ maxMoves
+    → (n at mid last : ℕ) → at ≤ maxLength → state sch ob s end at ≡ Good mid → walk (step sch ob s end) n mid ≡ Good last → Observable s n at
 unfolding Observable
-observable-steps sch hl s end short long few zero at mid last l e f = (l, omega (arith, state-ends sch hl s end at mid e))
-observable-steps sch hl s end short long few (suc n) at mid last l e f =
-    let (after, good, rest) = trajectory-parted sch hl s end n at mid last e f in
-    let (right, behind) = step-parted sch hl s end (stateEnd s at) after good in
-    let k = move-known sch hl (stepAt s (stateEnd s at)) right in
-    let reach = step-reach sch hl s end (stateEnd s at) after good in
-    (l, omega arith, omega arith, k .0, omega arith, observable-steps sch hl s end short long few n (stateEnd s at + stepSize) after last (omega arith) behind rest)
+observable-steps sch ob s end short long few zero at mid last l e f = (l, omega (arith, state-ends sch ob s end at mid e))
+observable-steps sch ob s end short long few (suc n) at mid last l e f =
+    let (after, good, rest) = trajectory-parted sch ob s end n at mid last e f in
+    let (right, behind) = step-parted sch ob s end (stateEnd s at) after good in
+    let k = move-known sch ob (stepAt s (stateEnd s at)) right in
+    let reach = step-reach sch ob s end (stateEnd s at) after good in
+    (l, omega arith, omega arith, k .0, omega arith, observable-steps sch ob s end short long few n (stateEnd s at + stepSize) after last (omega arith) behind rest)
 
 module _ (h : Sections) (s : List ℕ) (long : length s ≤ maxLength) (few : h .moves .count ≤ maxMoves) where
   pub record-observable : (at next : ℕ) → recordAt h s at ≡ Good next → Observable s (stepsIn s at) (at + headSize + objectsIn s at)

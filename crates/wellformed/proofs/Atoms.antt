@@ -9,7 +9,7 @@ use Rattle.terms.specs.declared.Relation.{Relation}
 use Rattle.terms.specs.declared.Binding.{Binding}
 use Rattle.terms.specs.declared.Step.{Step}
 use Rattle.terms.specs.declared.Fact.{Fact}
-use Rattle.terms.specs.Schema.{Schema, Hall, objectBad}
+use Rattle.terms.specs.Schema.{Schema, TypedObjects, objectBad}
 use Rattle.terms.specs.Facts.{factBad, factNumber}
 use Rattle.terms.specs.Steps.{objectOf, atomRelation, atomFirst, atomSecond, parameterFills, isAtom, placed, ground}
 use Rattle.terms.proofs.Atoms.{number-in, first-range, second-range, relation-from-1, atom-same, fills-used, fills-unused, atom-out}
@@ -33,22 +33,22 @@ ground-number sch b n =
     less true x = refl
     less false x = refl
 
-module _ (sch : Schema) (hl : Hall) (st : Step) (right : RightStep sch hl st) where
+module _ (sch : Schema) (ob : TypedObjects) (st : Step) (right : RightStep sch ob st) where
   place-right : (r : Relation) (i : ℕ) (p : Param) → 1 ≤ p .0 → p .0 ≤ 4 → parameterFills sch (st .action) r i p ≡ true
-      → objectBad sch hl (leb i (sch .places r)) (sch .placeKind r i) (objectIn sch (st .binding) r i p) ≡ false
+      → objectBad sch ob (leb i (sch .places r)) (sch .placeKind r i) (objectIn sch (st .binding) r i p) ≡ false
   unfolding objectIn
   place-right r i p low high fills = go (leb i (sch .places r)) refl
     where
       go : (used : Bool) → leb i (sch .places r) ≡ used
-          → objectBad sch hl used (sch .placeKind r i) (record { 0 = cond used (objectOf (st .binding) p .0) 0 }) ≡ false
+          → objectBad sch ob used (sch .placeKind r i) (record { 0 = cond used (objectOf (st .binding) p .0) 0 }) ≡ false
       go true u =
           let (own, fits) = fills-used sch (st .action) r i p fills u in
-          let (some, most, suits) = argument-used sch hl st right (p .0) low high own in
-          used-in sch hl (sch .placeKind r i) (objectOf (st .binding) p) true refl some most (suits-through sch _ _ _ fits suits)
-      go false u = unused-in sch hl (sch .placeKind r i) (record { 0 = 0 }) false refl refl
+          let (some, most, suits) = argument-used sch ob st right (p .0) low high own in
+          used-in sch ob (sch .placeKind r i) (objectOf (st .binding) p) true refl some most (suits-through sch _ _ _ fits suits)
+      go false u = unused-in sch ob (sch .placeKind r i) (record { 0 = 0 }) false refl refl
 
   -- A bound fact becomes a right fact.
-  pub fact-right : (n : ℕ) → isAtom sch (st .action .0) n ≡ true → factBad sch hl (factOf sch (st .binding) n) ≡ false
+  pub fact-right : (n : ℕ) → isAtom sch (st .action .0) n ≡ true → factBad sch ob (factOf sch (st .binding) n) ≡ false
   unfolding factBad factOf
   fact-right n atom =
       let parts = atom-out sch (st .action .0) n atom in
@@ -68,8 +68,8 @@ module _ (sch : Schema) (hl : Hall) (st : Step) (right : RightStep sch hl st) wh
       go : (used : Bool) → leb i (sch .places r) ≡ used → cond used (objectOf (st .binding) p .0) 0 ≡ cond used (objectOf (st .binding) q .0) 0 → p .0 ≡ q .0
       go true u e =
           let (own, fits) = fills-used sch (st .action) r i p fills u in
-          let (some, most, suits) = argument-used sch hl st right (p .0) low high own in
-          parameters-apart sch hl st right (p .0) (q .0) low high low′ high′ some e
+          let (some, most, suits) = argument-used sch ob st right (p .0) low high own in
+          parameters-apart sch ob st right (p .0) (q .0) low high low′ high′ some e
       go false u e = fills-unused sch (st .action) r i p fills u ∙ sym (fills-unused sch (st .action) r i q fills′ u)
 
   -- No two bound facts become one fact.
@@ -88,11 +88,11 @@ module _ (sch : Schema) (hl : Hall) (st : Step) (right : RightStep sch hl st) wh
       (param-same (atomRelation n) 2 (atomSecond m) (atomSecond n) (second-range m .0) (second-range m .1) (second-range n .0) (second-range n .1)
       (rw r at (parts .second)) (parts′ .second) (ap (λ (o : Object). o .0) (rw r at y)))
 
-  module _ (few : hl .count ≤ maxObjects) where
+  module _ (few : ob .count ≤ maxObjects) where
     -- The facts of bound facts are counted by the domain,
     pub ground-below : (n : ℕ) → isAtom sch (st .action .0) n ≡ true → ground sch (st .binding) n < 256 * sch .relations
     ground-below n atom =
-        let h = number-below sch hl few (factOf sch (st .binding) n) (fact-right n atom) in
+        let h = number-below sch ob few (factOf sch (st .binding) n) (fact-right n atom) in
         rw (ground-number sch (st .binding) n) at h
 
     -- grounding is injective on bound facts,
@@ -100,7 +100,7 @@ module _ (sch : Schema) (hl : Hall) (st : Step) (right : RightStep sch hl st) wh
         → ground sch (st .binding) m ≡ ground sch (st .binding) n → m ≡ n
     ground-injective m n atom atom′ e =
         facts-apart m n atom atom′
-        (number-injective sch hl few (factOf sch (st .binding) m) (factOf sch (st .binding) n) (fact-right m atom) (fact-right n atom′)
+        (number-injective sch ob few (factOf sch (st .binding) m) (factOf sch (st .binding) n) (fact-right m atom) (fact-right n atom′)
         (ground-number sch (st .binding) m ∙ e ∙ sym (ground-number sch (st .binding) n)))
 
     -- and a right step is proper in the sense of `model`.

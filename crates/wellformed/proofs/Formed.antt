@@ -20,15 +20,15 @@ formed s n good =
     record {
       proper = λ t m.
           let (f, k, e) = mem-map-out (transition (schemaOf s)) (stepsOfBook s) m in
-          let (hl, few, right) = recorded-right s n good f k in
-          subst (λ (u : Transition). Proper (domain (schemaOf s)) (u .step)) e (step-proper (schemaOf s) hl (f .step) (right .step) few);
+          let (ob, few, right) = recorded-right s n good f k in
+          subst (λ (u : Transition). Proper (domain (schemaOf s)) (u .step)) e (step-proper (schemaOf s) ob (f .step) (right .step) few);
       known = λ t m.
           let (f, k, e) = mem-map-out (transition (schemaOf s)) (stepsOfBook s) m in
-          let (hl, few, right) = recorded-right s n good f k in
-          subst (λ (u : Transition). (1 ≤ u .step .action) × (u .step .action ≤ schemaOf s .moves)) e (move-known (schemaOf s) hl (f .step) (right .step));
+          let (ob, few, right) = recorded-right s n good f k in
+          subst (λ (u : Transition). (1 ≤ u .step .action) × (u .step .action ≤ schemaOf s .moves)) e (move-known (schemaOf s) ob (f .step) (right .step));
       within = λ t m x h.
           let (f, k, e) = mem-map-out (transition (schemaOf s)) (stepsOfBook s) m in
-          let (hl, few, right) = recorded-right s n good f k in
+          let (ob, few, right) = recorded-right s n good f k in
           subst (λ (u : Transition). u .pre x ≡ u .post x) e
-          (holding-below (schemaOf s) hl few (f .pre) (right .pre) x h ∙ sym (holding-below (schemaOf s) hl few (f .post) (right .post) x h));
+          (holding-below (schemaOf s) ob few (f .pre) (right .pre) x h ∙ sym (holding-below (schemaOf s) ob few (f .post) (right .post) x h));
     }

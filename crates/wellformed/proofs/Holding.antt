@@ -8,7 +8,7 @@ use lib.Dec.{eqb}
 use borrow.Author.Tests.{eqb-true, eq-eqb}
 use Rattle.truth.specs.Bools.{is-false}
 use Rattle.terms.specs.declared.Fact.{Fact}
-use Rattle.terms.specs.Schema.{Schema, Hall}
+use Rattle.terms.specs.Schema.{Schema, TypedObjects}
 use Rattle.terms.specs.Facts.{factNumber}
 use Rattle.limits.specs.Limits.{maxObjects}
 use Rattle.model.specs.Quantify.{Mem}
@@ -27,10 +27,10 @@ unfolding holding
 holding-out fs n e = let (f, m, h) = any-out (λ g. eqb (factNumber g) n) fs e in (f, m, eqb-true (factNumber f) n h)
 
 -- No fact that the domain does not count holds in a right state.
-pub holding-below : (sch : Schema) (hl : Hall) → hl .count ≤ maxObjects → (fs : List Fact) → RightState sch hl fs → (n : ℕ) → 256 * sch .relations ≤ n → holding fs n ≡ false
-holding-below sch hl few fs right n h =
+pub holding-below : (sch : Schema) (ob : TypedObjects) → ob .count ≤ maxObjects → (fs : List Fact) → RightState sch ob fs → (n : ℕ) → 256 * sch .relations ≤ n → holding fs n ≡ false
+holding-below sch ob few fs right n h =
     is-false
     _
     (λ e.
     let (f, m, q) = holding-out fs n e in
-    omega (arith, number-below sch hl few f (right .suits f m)))
+    omega (arith, number-below sch ob few f (right .suits f m)))

@@ -9,7 +9,7 @@ use Rattle.terms.specs.declared.Object.{Object}
 use Rattle.terms.specs.declared.Relation.{Relation}
 use Rattle.terms.specs.declared.Step.{Step}
 use Rattle.terms.specs.declared.Fact.{Fact}
-use Rattle.terms.specs.Schema.{Schema, Hall, objectBad}
+use Rattle.terms.specs.Schema.{Schema, TypedObjects, objectBad}
 use Rattle.terms.specs.Facts.{factBad, factNumber}
 use Rattle.terms.specs.Steps.{parameterFills, isAtom, ground}
 use Rattle.terms.proofs.Atoms.{number-out, fact-path, atomNumber, number-relation, number-first, number-second, fills-in-used, fills-in-unused, atom-in}
@@ -29,17 +29,17 @@ record Pick (sch : Schema) (st : Step) (r : Relation) (i : ℕ) (x : Object) : T
   pub fills : parameterFills sch (st .action) r i (record { 0 = param }) ≡ true
   pub object : objectIn sch (st .binding) r i (record { 0 = param }) .0 ≡ x .0
 
-module _ (sch : Schema) (hl : Hall) (few : hl .count ≤ maxObjects) (st : Step) (right : RightStep sch hl st) where
+module _ (sch : Schema) (ob : TypedObjects) (few : ob .count ≤ maxObjects) (st : Step) (right : RightStep sch ob st) where
   pick : (r : Relation) (i : ℕ) (x : Object) → (leb i (sch .places r) ≡ true → BoundBy sch st x)
-      → objectBad sch hl (leb i (sch .places r)) (sch .placeKind r i) x ≡ false → Pick sch st r i x
+      → objectBad sch ob (leb i (sch .places r)) (sch .placeKind r i) x ≡ false → Pick sch st r i x
   unfolding objectIn
   pick r i x bound good = go (leb i (sch .places r)) refl
     where
       go : (used : Bool) → leb i (sch .places r) ≡ used → Pick sch st r i x
       go true u =
           let b = bound u in
-          let (some, most, own) = argument-used sch hl st right (b .param) (b .from-1) (b .to-4) (b .used) in
-          let (some′, most′, here) = used-out sch hl _ x _ good u in
+          let (some, most, own) = argument-used sch ob st right (b .param) (b .from-1) (b .to-4) (b .used) in
+          let (some′, most′, here) = used-out sch ob _ x _ good u in
           record {
             param = b .param;
             low = b .from-1;
@@ -53,24 +53,24 @@ module _ (sch : Schema) (hl : Hall) (few : hl .count ≤ maxObjects) (st : Step)
             low = omega arith;
             high = omega arith;
             fills = fills-in-unused sch (st .action) r i (record { 0 = 1 }) u refl;
-            object = rw u (sym (unused-out sch hl _ x _ good u));
+            object = rw u (sym (unused-out sch ob _ x _ good u));
           }
 
   -- A right fact that a bound fact of the step has the number of, is what the bound fact becomes: its objects are the binding's.
-  pub fact-of-atom : (f : Fact) → factBad sch hl f ≡ false → (n : ℕ) → isAtom sch (st .action .0) n ≡ true
+  pub fact-of-atom : (f : Fact) → factBad sch ob f ≡ false → (n : ℕ) → isAtom sch (st .action .0) n ≡ true
       → ground sch (st .binding) n ≡ factNumber f → f ≡ factOf sch (st .binding) n
   fact-of-atom f good n atom e =
-      number-injective sch hl few f (factOf sch (st .binding) n) good (fact-right sch hl st right n atom) (sym (ground-number sch (st .binding) n ∙ e))
+      number-injective sch ob few f (factOf sch (st .binding) n) good (fact-right sch ob st right n atom) (sym (ground-number sch (st .binding) n ∙ e))
 
   -- A right fact over the objects of the step is a bound fact of it, and only one.
-  pub atom-of-fact : (f : Fact) → factBad sch hl f ≡ false → Covered sch st f
+  pub atom-of-fact : (f : Fact) → factBad sch ob f ≡ false → Covered sch st f
       → (n : ℕ) × (isAtom sch (st .action .0) n ≡ true) × (ground sch (st .binding) n ≡ factNumber f)
       × ((m : ℕ) → isAtom sch (st .action .0) m ≡ true → ground sch (st .binding) m ≡ factNumber f → m ≡ n)
   unfolding factOf
   atom-of-fact f good covered =
-      let (number, first, second) = fact-parts sch hl f good in
+      let (number, first, second) = fact-parts sch ob f good in
       let (some, most) = number-out (sch .relations) (f .relation .0) number in
-      let (from, known) = move-known sch hl st right in
+      let (from, known) = move-known sch ob st right in
       let x = pick (f .relation) 1 (f .first) (covered .first) first in
       let y = pick (f .relation) 2 (f .second) (covered .second) second in
       let n : ℕ = atomNumber (f .relation .0) (x .param) (y .param) in
@@ -88,4 +88,4 @@ module _ (sch : Schema) (hl : Hall) (few : hl .count ≤ maxObjects) (st : Step)
       in
       let same : factOf sch (st .binding) n ≡ f = fact-path (factOf sch (st .binding) n) f (ap (λ (k : Relation). k .0) r) (rw (r, p) (x .object)) (rw (r, q) (y .object)) in
       let grounds : ground sch (st .binding) n ≡ factNumber f = sym (ground-number sch (st .binding) n) ∙ ap factNumber same in
-      (n, atom, grounds, λ m atom′ e. ground-injective sch hl st right few m n atom′ atom (e ∙ sym grounds))
+      (n, atom, grounds, λ m atom′ e. ground-injective sch ob st right few m n atom′ atom (e ∙ sym grounds))

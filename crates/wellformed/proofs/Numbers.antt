@@ -7,7 +7,7 @@ use lib.Dec.{leb}
 use Rattle.truth.specs.Bools.{neither}
 use Rattle.terms.specs.declared.Object.{Object}
 use Rattle.terms.specs.declared.Fact.{Fact}
-use Rattle.terms.specs.Schema.{Schema, Hall, numberBad, objectBad}
+use Rattle.terms.specs.Schema.{Schema, TypedObjects, numberBad, objectBad}
 use Rattle.terms.specs.Facts.{factBad, factNumber}
 use Rattle.terms.proofs.Atoms.{number-out, fact-path}
 use Rattle.limits.specs.Limits.{maxObjects}
@@ -22,47 +22,47 @@ digits-same a b c d e f hb hc he hf q =
     (p, r, omega arith)
 
 -- the three parts of the test on a fact
-pub fact-parts : (sch : Schema) (hl : Hall) (f : Fact) → factBad sch hl f ≡ false
+pub fact-parts : (sch : Schema) (ob : TypedObjects) (f : Fact) → factBad sch ob f ≡ false
     → (numberBad (sch .relations) (f .relation .0) ≡ false)
-    × (objectBad sch hl (leb 1 (sch .places (f .relation))) (sch .placeKind (f .relation) 1) (f .first) ≡ false)
-    × (objectBad sch hl (leb 2 (sch .places (f .relation))) (sch .placeKind (f .relation) 2) (f .second) ≡ false)
+    × (objectBad sch ob (leb 1 (sch .places (f .relation))) (sch .placeKind (f .relation) 1) (f .first) ≡ false)
+    × (objectBad sch ob (leb 2 (sch .places (f .relation))) (sch .placeKind (f .relation) 2) (f .second) ≡ false)
 unfolding factBad
-fact-parts sch hl f e =
+fact-parts sch ob f e =
     let nb : Bool = numberBad (sch .relations) (f .relation .0) in
-    let one : Bool = objectBad sch hl (leb 1 (sch .places (f .relation))) (sch .placeKind (f .relation) 1) (f .first) in
-    let (both, second) = neither (nb || one) (objectBad sch hl (leb 2 (sch .places (f .relation))) (sch .placeKind (f .relation) 2) (f .second)) e in
+    let one : Bool = objectBad sch ob (leb 1 (sch .places (f .relation))) (sch .placeKind (f .relation) 1) (f .first) in
+    let (both, second) = neither (nb || one) (objectBad sch ob (leb 2 (sch .places (f .relation))) (sch .placeKind (f .relation) 2) (f .second)) e in
     let (number, first) = neither nb one both in
     (number, first, second)
 
-module _ (sch : Schema) (hl : Hall) (few : hl .count ≤ maxObjects) where
+module _ (sch : Schema) (ob : TypedObjects) (few : ob .count ≤ maxObjects) where
   -- A right fact's number is under 256 for each relation.
-  pub number-below : (f : Fact) → factBad sch hl f ≡ false → factNumber f < 256 * sch .relations
+  pub number-below : (f : Fact) → factBad sch ob f ≡ false → factNumber f < 256 * sch .relations
   unfolding factNumber
   number-below f e =
-      let (number, first, second) = fact-parts sch hl f e in
+      let (number, first, second) = fact-parts sch ob f e in
       let (low, high) = number-out (sch .relations) (f .relation .0) number in
-      let one = object-most sch hl _ (f .first) _ first in
-      let two = object-most sch hl _ (f .second) _ second in
+      let one = object-most sch ob _ (f .first) _ first in
+      let two = object-most sch ob _ (f .second) _ second in
       omega arith
 
   -- what stands in a place of two right facts of one relation is the same if its number from 0 is
-  place-same : (used : Bool) (named : ℕ) (x y : Object) → objectBad sch hl used named x ≡ false → objectBad sch hl used named y ≡ false
+  place-same : (used : Bool) (named : ℕ) (x y : Object) → objectBad sch ob used named x ≡ false → objectBad sch ob used named y ≡ false
       → x .0 - 1 ≡ y .0 - 1 → x .0 ≡ y .0
-  place-same true named x y e h q = omega (arith, used-out sch hl named x true e refl, used-out sch hl named y true h refl)
-  place-same false named x y e h q = unused-out sch hl named x false e refl ∙ sym (unused-out sch hl named y false h refl)
+  place-same true named x y e h q = omega (arith, used-out sch ob named x true e refl, used-out sch ob named y true h refl)
+  place-same false named x y e h q = unused-out sch ob named x false e refl ∙ sym (unused-out sch ob named y false h refl)
 
   -- Two right facts of one hall with equal numbers are equal.
-  pub number-injective : (f g : Fact) → factBad sch hl f ≡ false → factBad sch hl g ≡ false → factNumber f ≡ factNumber g → f ≡ g
+  pub number-injective : (f g : Fact) → factBad sch ob f ≡ false → factBad sch ob g ≡ false → factNumber f ≡ factNumber g → f ≡ g
   unfolding factNumber
   number-injective f g e h q =
-      let (number, first, second) = fact-parts sch hl f e in
-      let (number′, first′, second′) = fact-parts sch hl g h in
+      let (number, first, second) = fact-parts sch ob f e in
+      let (number′, first′, second′) = fact-parts sch ob g h in
       let (low, high) = number-out (sch .relations) (f .relation .0) number in
       let (low′, high′) = number-out (sch .relations) (g .relation .0) number′ in
-      let one = object-most sch hl _ (f .first) _ first in
-      let two = object-most sch hl _ (f .second) _ second in
-      let one′ = object-most sch hl _ (g .first) _ first′ in
-      let two′ = object-most sch hl _ (g .second) _ second′ in
+      let one = object-most sch ob _ (f .first) _ first in
+      let two = object-most sch ob _ (f .second) _ second in
+      let one′ = object-most sch ob _ (g .first) _ first′ in
+      let two′ = object-most sch ob _ (g .second) _ second′ in
       let (r, x, y) = digits-same (f .relation .0 - 1) (f .first .0 - 1) (f .second .0 - 1) (g .relation .0 - 1) (g .first .0 - 1) (g .second .0 - 1)
       (omega arith) (omega arith) (omega arith) (omega arith) q
       in

@@ -11,7 +11,7 @@ use Rattle.answer.specs.Walk.{walk, walk-parted}
 use Rattle.answer.specs.Entries.{item-good}
 use Rattle.terms.specs.declared.Fact.{Fact}
 use Rattle.terms.specs.declared.Step.{Step}
-use Rattle.terms.specs.Schema.{Schema, Hall, hall}
+use Rattle.terms.specs.Schema.{Schema, TypedObjects, typedObjects}
 use Rattle.terms.specs.Facts.{factAt, factBad, noFact}
 use Rattle.terms.specs.Steps.{stepAt, stepBad, repeats, isAtom}
 use Rattle.limits.specs.Limits.{maxObjects, entrySize, stepSize}
@@ -23,35 +23,35 @@ use Rattle.model.specs.Quantify.{Mem, here, there}
 use Rattle.model.specs.Domain.{GroundAction}
 use Rattle.model.specs.Formed.{Proper, Grounded}
 use Rattle.jobs.specs.Planning.{domain, groundAction, startState, planOf}
-use Rattle.wellformed.specs.Right.{RightStep, orderHall, RightOrder}
+use Rattle.wellformed.specs.Right.{RightStep, orderTyped, RightOrder}
 use Rattle.wellformed.proofs.States.{length-facts, facts-suit, facts-increase}
 use Rattle.wellformed.proofs.Holding.{holding-below}
 use Rattle.wellformed.proofs.Atoms.{step-proper, ground-below}
 use Rattle.wellformed.proofs.Lists.{mem-map-out}
 
-module _ (sch : Schema) (hl : Hall) (o : List ℕ) where
+module _ (sch : Schema) (ob : TypedObjects) (o : List ℕ) where
   -- the first of a number of good steps is right, and the others are good
-  plan-parted : (n at last : ℕ) → walk (planStep sch hl o) (suc n) at ≡ Good last → RightStep sch hl (stepAt o at) × (walk (planStep sch hl o) n (at + stepSize) ≡ Good last)
+  plan-parted : (n at last : ℕ) → walk (planStep sch ob o) (suc n) at ≡ Good last → RightStep sch ob (stepAt o at) × (walk (planStep sch ob o) n (at + stepSize) ≡ Good last)
   unfolding planStepBad
   plan-parted n at last e =
-      let (next, good, rest) = walk-parted (planStep sch hl o) n at last e in
-      let (test, place) = item-good _ _ 18 stepSize (plan-step-entry sch hl o) at next good in
-      let (bad, twice) = neither (stepBad sch hl (stepAt o at)) (repeats (stepAt o at)) test in
-      (record { suits = bad; different = twice }, subst (λ (x : ℕ). walk (planStep sch hl o) n x ≡ Good last) place rest)
+      let (next, good, rest) = walk-parted (planStep sch ob o) n at last e in
+      let (test, place) = item-good _ _ 18 stepSize (plan-step-entry sch ob o) at next good in
+      let (bad, twice) = neither (stepBad sch ob (stepAt o at)) (repeats (stepAt o at)) test in
+      (record { suits = bad; different = twice }, subst (λ (x : ℕ). walk (planStep sch ob o) n x ≡ Good last) place rest)
 
   -- the steps of a good plan are right
-  plan-right : (n at last : ℕ) → walk (planStep sch hl o) n at ≡ Good last → (st : Step) → Mem st (planFrom o n at) → RightStep sch hl st
+  plan-right : (n at last : ℕ) → walk (planStep sch ob o) n at ≡ Good last → (st : Step) → Mem st (planFrom o n at) → RightStep sch ob st
   unfolding planFrom
   plan-right (suc n) at last e st here = plan-parted n at last e .0
   plan-right (suc n) at last e st (there m) = plan-right n (at + stepSize) last (plan-parted n at last e .1) st m
 
   -- the facts of good goal entries suit
-  goal-right : (n : ℕ) (last : Fact) (at next : ℕ) → entries sch hl o n last at ≡ Good next
-      → (e : GoalEntry) → Mem e (goalFrom o n at) → factBad sch hl (e .fact) ≡ false
+  goal-right : (n : ℕ) (last : Fact) (at next : ℕ) → entries sch ob o n last at ≡ Good next
+      → (e : GoalEntry) → Mem e (goalFrom o n at) → factBad sch ob (e .fact) ≡ false
   unfolding goalFrom entryAt
-  goal-right (suc n) last at next good e here = goal-entry-suits sch hl o last at (chain-parted (goal-chain sch hl o) n last at next good .0)
+  goal-right (suc n) last at next good e here = goal-entry-suits sch ob o last at (chain-parted (goal-chain sch ob o) n last at next good .0)
   goal-right (suc n) last at next good e (there m) =
-      goal-right n (factAt o (at + 1)) (at + entrySize) next (chain-parted (goal-chain sch hl o) n last at next good .1) e m
+      goal-right n (factAt o (at + 1)) (at + entrySize) next (chain-parted (goal-chain sch ob o) n last at next good .1) e m
 
 length-plan-from : (o : List ℕ) (n at : ℕ) → length (planFrom o n at) ≡ n
 unfolding planFrom
@@ -65,48 +65,48 @@ length-plan o = length-plan-from o (stepCount o) (stepsAt o)
 
 -- An order of good form is right in all its parts.
 pub order-right : (sch : Schema) (o : List ℕ) (n : ℕ) → orderForm sch o ≡ Good n → RightOrder sch o
-unfolding hall orderObjects startFacts goal plan
+unfolding typedObjects orderObjects startFacts goal plan
 order-right sch o n e =
-    let hl : Hall = orderHall o in
+    let ob : TypedObjects = orderTyped o in
     let g = order-good sch o n e in
     let counts = g .header .counts in
     record {
       few = counts .objects;
       start =
           record {
-            suits = facts-suit 16 sch hl o (length o) (startCount o) noFact (startAt o) (goalAt o) (g .start);
-            increasing = facts-increase 16 sch hl o (length o) (startCount o) noFact (startAt o) (goalAt o) (g .start);
+            suits = facts-suit 16 sch ob o (length o) (startCount o) noFact (startAt o) (goalAt o) (g .start);
+            increasing = facts-increase 16 sch ob o (length o) (startCount o) noFact (startAt o) (goalAt o) (g .start);
             few = omega (arith, counts .starts, length-facts o (startCount o) (startAt o));
           };
-      goals = goal-right sch hl o (goalCount o) noFact (goalAt o) (stepsAt o) (g .goal);
-      steps = plan-right sch hl o (stepCount o) (stepsAt o) (length o) (g .plan);
+      goals = goal-right sch ob o (goalCount o) noFact (goalAt o) (stepsAt o) (g .goal);
+      steps = plan-right sch ob o (stepCount o) (stepsAt o) (length o) (g .plan);
     }
 
 -- Steps that are right over some objects, wherever they stand, meet the hypothesis of `model`,
-module _ (sch : Schema) (hl : Hall) (few : hl .count ≤ maxObjects) (steps : List Step) (right : (st : Step) → Mem st steps → RightStep sch hl st) where
+module _ (sch : Schema) (ob : TypedObjects) (few : ob .count ≤ maxObjects) (steps : List Step) (right : (st : Step) → Mem st steps → RightStep sch ob st) where
   pub steps-grounded : Grounded (domain sch) (map (groundAction sch) steps)
   steps-grounded t m =
       let (st, k, q) = mem-map-out (groundAction sch) steps m in
-      subst (λ (u : GroundAction). Proper (domain sch) u) q (step-proper sch hl st (right st k) few)
+      subst (λ (u : GroundAction). Proper (domain sch) u) q (step-proper sch ob st (right st k) few)
 
   -- and their atoms become facts that the domain counts.
   pub steps-under : (t : GroundAction) → Mem t (map (groundAction sch) steps) → (k : ℕ) → isAtom sch (t .action) k ≡ true → t .ground k < 256 * sch .relations
   unfolding groundAction
   steps-under t m =
       let (st, k, q) = mem-map-out (groundAction sch) steps m in
-      subst (λ (u : GroundAction). (k : ℕ) → isAtom sch (u .action) k ≡ true → u .ground k < 256 * sch .relations) q (ground-below sch hl st (right st k) few)
+      subst (λ (u : GroundAction). (k : ℕ) → isAtom sch (u .action) k ≡ true → u .ground k < 256 * sch .relations) q (ground-below sch ob st (right st k) few)
 
 -- So does the plan of an order of good form,
 module _ (sch : Schema) (o : List ℕ) (n : ℕ) (e : orderForm sch o ≡ Good n) where
   pub grounded : Grounded (domain sch) (planOf sch o)
   unfolding planOf
-  grounded = let right = order-right sch o n e in steps-grounded sch (orderHall o) (right .few) (plan o) (right .steps)
+  grounded = let right = order-right sch o n e in steps-grounded sch (orderTyped o) (right .few) (plan o) (right .steps)
 
   pub plan-under : (t : GroundAction) → Mem t (planOf sch o) → (k : ℕ) → isAtom sch (t .action) k ≡ true → t .ground k < 256 * sch .relations
   unfolding planOf
-  plan-under = let right = order-right sch o n e in steps-under sch (orderHall o) (right .few) (plan o) (right .steps)
+  plan-under = let right = order-right sch o n e in steps-under sch (orderTyped o) (right .few) (plan o) (right .steps)
 
   -- and its start facts are counted too.
   pub start-under : (k : ℕ) → 256 * sch .relations ≤ k → startState o k ≡ false
   unfolding startState
-  start-under = let right = order-right sch o n e in holding-below sch (orderHall o) (right .few) (startFacts o) (right .start)
+  start-under = let right = order-right sch o n e in holding-below sch (orderTyped o) (right .few) (startFacts o) (right .start)

@@ -8,7 +8,7 @@ use Rattle.answer.specs.declared.Answer.the-variants.{Good}
 use Rattle.answer.specs.Walk.{walk, walk-parted}
 use Rattle.terms.specs.declared.Sections.{Sections}
 use Rattle.terms.specs.Sections.{sectionsOf}
-use Rattle.terms.specs.Schema.{Schema, Hall, schema, hall}
+use Rattle.terms.specs.Schema.{Schema, TypedObjects, schema, typedObjects}
 use Rattle.terms.specs.Steps.{stepAt}
 use Rattle.limits.specs.Limits.{headSize, stepSize, maxObjects}
 use Rattle.format.specs.States.{state}
@@ -23,35 +23,35 @@ use Rattle.jobs.specs.Planning.{schemaOf, stepsOfBook}
 use Rattle.wellformed.specs.Right.{RightStep, Right, RightSomewhere}
 use Rattle.wellformed.proofs.States.{state-right}
 
-module _ (sch : Schema) (hl : Hall) (s : List ℕ) (end : ℕ) where
+module _ (sch : Schema) (ob : TypedObjects) (s : List ℕ) (end : ℕ) where
   -- a step of good form is right, and so is the state behind it
-  pub step-parted : (at next : ℕ) → step sch hl s end at ≡ Good next → RightStep sch hl (stepAt s at) × (state sch hl s end (at + stepSize) ≡ Good next)
+  pub step-parted : (at next : ℕ) → step sch ob s end at ≡ Good next → RightStep sch ob (stepAt s at) × (state sch ob s end (at + stepSize) ≡ Good next)
   step-parted at next e =
-      let (suits, different, rest) = step-good sch hl s end at next e in
+      let (suits, different, rest) = step-good sch ob s end at next e in
       (record { suits = suits; different = different }, rest)
 
   -- The steps of a good trajectory are right, with the states about them.
-  pub trajectory-right : (n at next last : ℕ) → state sch hl s end at ≡ Good next → walk (step sch hl s end) n next ≡ Good last
-      → (f : RecordedStep) → Mem f (recordedStepsAt s n at) → Right sch hl f
+  pub trajectory-right : (n at next last : ℕ) → state sch ob s end at ≡ Good next → walk (step sch ob s end) n next ≡ Good last
+      → (f : RecordedStep) → Mem f (recordedStepsAt s n at) → Right sch ob f
   unfolding recordedStepsAt recordedStep
   trajectory-right (suc n) at next last e w f here =
-      let (after, good, rest) = trajectory-parted sch hl s end n at next last e w in
+      let (after, good, rest) = trajectory-parted sch ob s end n at next last e w in
       let (right, behind) = step-parted (stateEnd s at) after good in
-      record { step = right; pre = state-right sch hl s end at next e; post = state-right sch hl s end (stateEnd s at + stepSize) after behind }
+      record { step = right; pre = state-right sch ob s end at next e; post = state-right sch ob s end (stateEnd s at + stepSize) after behind }
   trajectory-right (suc n) at next last e w f (there m) =
-      let (after, good, rest) = trajectory-parted sch hl s end n at next last e w in
+      let (after, good, rest) = trajectory-parted sch ob s end n at next last e w in
       trajectory-right n (stateEnd s at + stepSize) after last (step-parted (stateEnd s at) after good .1) rest f m
 
 module _ (h : Sections) (s : List ℕ) where
   -- A record of good form ends where its length says, has at most 16 objects, and every step filed in it is right over them.
   pub record-right : (at next : ℕ) → recordAt h s at ≡ Good next
-      → (next ≡ at + lengthIn s at) × (hall (objectsOf s at) s .count ≤ maxObjects) × ((f : RecordedStep) → Mem f (stepsOfRecord s at) → Right (schema h s) (hall (objectsOf s at) s) f)
-  unfolding stepsOfRecord hall objectsOf
+      → (next ≡ at + lengthIn s at) × (typedObjects (objectsOf s at) s .count ≤ maxObjects) × ((f : RecordedStep) → Mem f (stepsOfRecord s at) → Right (schema h s) (typedObjects (objectsOf s at) s) f)
+  unfolding stepsOfRecord typedObjects objectsOf
   record-right at next e =
       let g = record-good h s at next e in (
         g .end,
         head-objects s at (g .head),
-        trajectory-right (schema h s) (hall (objectsOf s at) s) s (at + lengthIn s at) (stepsIn s at) (at + headSize + objectsIn s at) (g .after) (g .last) (g .start) (g .steps),
+        trajectory-right (schema h s) (typedObjects (objectsOf s at) s) s (at + lengthIn s at) (stepsIn s at) (at + headSize + objectsIn s at) (g .after) (g .last) (g .start) (g .steps),
       )
 
   -- A step that is filed in good records is filed in one of them.
@@ -84,4 +84,4 @@ module _ (s : List ℕ) (n : ℕ) (e : lookOver s ≡ Good n) where
   recorded-right f m =
       let (from, next, good, k) = recorded-somewhere m in
       let (place, few, right) = record-right (sectionsOf s) s from next good in
-      (hall (objectsOf s from) s, few, right f k)
+      (typedObjects (objectsOf s from) s, few, right f k)

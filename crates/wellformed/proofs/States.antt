@@ -9,7 +9,7 @@ use Rattle.answer.specs.declared.Answer.the-variants.{Good}
 use Rattle.answer.specs.Laws.{passed}
 use Rattle.input.specs.Bytes.{two}
 use Rattle.terms.specs.declared.Fact.{Fact}
-use Rattle.terms.specs.Schema.{Schema, Hall}
+use Rattle.terms.specs.Schema.{Schema, TypedObjects}
 use Rattle.terms.specs.Facts.{factAt, factBad, precedes, noFact}
 use Rattle.limits.specs.Limits.{factSize}
 use Rattle.format.specs.States.{facts, state}
@@ -24,24 +24,24 @@ unfolding factsAt
 length-facts s zero at = refl
 length-facts s (suc n) at = ap suc (length-facts s n (at + factSize))
 
-module _ (num : ℕ) (sch : Schema) (hl : Hall) (s : List ℕ) (end : ℕ) where
+module _ (num : ℕ) (sch : Schema) (ob : TypedObjects) (s : List ℕ) (end : ℕ) where
   -- what the first of a number of good facts says
-  facts-parted : (n : ℕ) (last : Fact) (at next : ℕ) → facts num sch hl s end (suc n) last at ≡ Good next
-      → (factBad sch hl (factAt s at) ≡ false) × (precedes last (factAt s at) ≡ true) × (facts num sch hl s end n (factAt s at) (at + factSize) ≡ Good next)
+  facts-parted : (n : ℕ) (last : Fact) (at next : ℕ) → facts num sch ob s end (suc n) last at ≡ Good next
+      → (factBad sch ob (factAt s at) ≡ false) × (precedes last (factAt s at) ≡ true) × (facts num sch ob s end n (factAt s at) (at + factSize) ≡ Good next)
   facts-parted n last at next e =
-      let (test, rest) = chain-parted (facts-chain num sch hl s end) n last at next e in
-      let (reach, bad, order) = fact-good sch hl s end last at test in
+      let (test, rest) = chain-parted (facts-chain num sch ob s end) n last at next e in
+      let (reach, bad, order) = fact-good sch ob s end last at test in
       (bad, order, rest)
 
   -- Facts of good form suit,
-  pub facts-suit : (n : ℕ) (last : Fact) (at next : ℕ) → facts num sch hl s end n last at ≡ Good next
-      → (f : Fact) → Mem f (factsAt s n at) → factBad sch hl f ≡ false
+  pub facts-suit : (n : ℕ) (last : Fact) (at next : ℕ) → facts num sch ob s end n last at ≡ Good next
+      → (f : Fact) → Mem f (factsAt s n at) → factBad sch ob f ≡ false
   unfolding factsAt
   facts-suit (suc n) last at next e f here = facts-parted n last at next e .0
   facts-suit (suc n) last at next e f (there m) = facts-suit n (factAt s at) (at + factSize) next (facts-parted n last at next e .2) f m
 
   -- and they strictly increase.
-  pub facts-increase : (n : ℕ) (last : Fact) (at next : ℕ) → facts num sch hl s end n last at ≡ Good next → Increasing last (factsAt s n at)
+  pub facts-increase : (n : ℕ) (last : Fact) (at next : ℕ) → facts num sch ob s end n last at ≡ Good next → Increasing last (factsAt s n at)
   unfolding factsAt
   facts-increase zero last at next e = tt
   facts-increase (suc n) last at next e =
@@ -49,13 +49,13 @@ module _ (num : ℕ) (sch : Schema) (hl : Hall) (s : List ℕ) (end : ℕ) where
       (order, facts-increase n (factAt s at) (at + factSize) next rest)
 
 -- A state of good form is right.
-pub state-right : (sch : Schema) (hl : Hall) (s : List ℕ) (end at next : ℕ) → state sch hl s end at ≡ Good next → RightState sch hl (stateAt s at)
+pub state-right : (sch : Schema) (ob : TypedObjects) (s : List ℕ) (end at next : ℕ) → state sch ob s end at ≡ Good next → RightState sch ob (stateAt s at)
 unfolding state stateAt
-state-right sch hl s end at next good =
+state-right sch ob s end at next good =
     let (test, rest) = passed _ 8 at next _ good in
     let (reach, few) = count-within s end at test in
     record {
-      suits = facts-suit 8 sch hl s end (two s at) noFact (at + 2) next rest;
-      increasing = facts-increase 8 sch hl s end (two s at) noFact (at + 2) next rest;
+      suits = facts-suit 8 sch ob s end (two s at) noFact (at + 2) next rest;
+      increasing = facts-increase 8 sch ob s end (two s at) noFact (at + 2) next rest;
       few = omega (arith, few, length-facts s (two s at) (at + 2));
     }

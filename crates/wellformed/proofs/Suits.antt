@@ -10,39 +10,39 @@ use borrow.Author.Tests.{ltb-true, ltb-false, lt-ltb, le-leb, eqb-true, eq-eqb, 
 use Rattle.truth.specs.Bools.{clash, and-in, decide, neither}
 use Rattle.terms.specs.declared.Object.{Object}
 use Rattle.terms.specs.declared.Step.{Step}
-use Rattle.terms.specs.Schema.{Schema, Hall, numberBad, kindSuits, objectBad}
+use Rattle.terms.specs.Schema.{Schema, TypedObjects, numberBad, kindSuits, objectBad}
 use Rattle.terms.specs.Steps.{objectOf, argumentBad, stepBad, samePair, repeats}
 use Rattle.terms.proofs.Atoms.{number-out, number-in}
 use Rattle.wellformed.specs.Right.{RightStep}
 
-module _ (sch : Schema) (hl : Hall) (named : ℕ) (x : Object) where
+module _ (sch : Schema) (ob : TypedObjects) (named : ℕ) (x : Object) where
   -- a used place has the number of an object of a kind that suits; an unused one has 0
-  pub used-out : (used : Bool) → objectBad sch hl used named x ≡ false → used ≡ true
-      → (1 ≤ x .0) × (x .0 ≤ hl .count) × (kindSuits sch named (hl .kind x) ≡ true)
+  pub used-out : (used : Bool) → objectBad sch ob used named x ≡ false → used ≡ true
+      → (1 ≤ x .0) × (x .0 ≤ ob .count) × (kindSuits sch named (ob .kind x) ≡ true)
   unfolding objectBad
   used-out true e u =
-      let (wrong, unused) = neither (numberBad (hl .count) (x .0) || not (kindSuits sch named (hl .kind x))) (not true && not (eqb (x .0) 0)) e in
-      let (number, suits) = neither (numberBad (hl .count) (x .0)) (not (kindSuits sch named (hl .kind x))) wrong in
-      let (low, high) = number-out (hl .count) (x .0) number in
+      let (wrong, unused) = neither (numberBad (ob .count) (x .0) || not (kindSuits sch named (ob .kind x))) (not true && not (eqb (x .0) 0)) e in
+      let (number, suits) = neither (numberBad (ob .count) (x .0)) (not (kindSuits sch named (ob .kind x))) wrong in
+      let (low, high) = number-out (ob .count) (x .0) number in
       (low, high, not-false _ suits)
   used-out false e u = clash false u refl
 
-  pub unused-out : (used : Bool) → objectBad sch hl used named x ≡ false → used ≡ false → x .0 ≡ 0
+  pub unused-out : (used : Bool) → objectBad sch ob used named x ≡ false → used ≡ false → x .0 ≡ 0
   unfolding objectBad
   unused-out true e u = clash true refl u
   unused-out false e u = eqb-true (x .0) 0 (not-false _ e)
 
   -- in either case it counts at most as far as the objects
-  pub object-most : (used : Bool) → objectBad sch hl used named x ≡ false → x .0 ≤ hl .count
+  pub object-most : (used : Bool) → objectBad sch ob used named x ≡ false → x .0 ≤ ob .count
   object-most true e = used-out true e refl .1
   object-most false e = omega (arith, unused-out false e refl)
 
-  pub used-in : (used : Bool) → used ≡ true → 1 ≤ x .0 → x .0 ≤ hl .count → kindSuits sch named (hl .kind x) ≡ true → objectBad sch hl used named x ≡ false
+  pub used-in : (used : Bool) → used ≡ true → 1 ≤ x .0 → x .0 ≤ ob .count → kindSuits sch named (ob .kind x) ≡ true → objectBad sch ob used named x ≡ false
   unfolding objectBad
-  used-in true u low high suits = rw (number-in (hl .count) (x .0) low high, suits)
+  used-in true u low high suits = rw (number-in (ob .count) (x .0) low high, suits)
   used-in false u low high suits = clash false u refl
 
-  pub unused-in : (used : Bool) → used ≡ false → x .0 ≡ 0 → objectBad sch hl used named x ≡ false
+  pub unused-in : (used : Bool) → used ≡ false → x .0 ≡ 0 → objectBad sch ob used named x ≡ false
   unfolding objectBad
   unused-in true u none = clash true refl u
   unused-in false u none = rw (eq-eqb (x .0) 0 none)
@@ -60,34 +60,34 @@ four Q a b c d (suc (suc (suc (suc (suc i))))) low high = absurd (omega arith)
 abbrev pub objectAt : Step → ℕ → Object
 objectAt st i = objectOf (st .binding) (record { 0 = i })
 
-module _ (sch : Schema) (hl : Hall) (st : Step) (right : RightStep sch hl st) where
+module _ (sch : Schema) (ob : TypedObjects) (st : Step) (right : RightStep sch ob st) where
   -- the five parts of the test on a step
-  step-parts : (numberBad (sch .moves) (st .action .0) ≡ false) × ((i : ℕ) → 1 ≤ i → i ≤ 4 → argumentBad sch hl st i ≡ false)
+  step-parts : (numberBad (sch .moves) (st .action .0) ≡ false) × ((i : ℕ) → 1 ≤ i → i ≤ 4 → argumentBad sch ob st i ≡ false)
   unfolding stepBad
   step-parts =
       let nb : Bool = numberBad (sch .moves) (st .action .0) in
-      let a1 : Bool = argumentBad sch hl st 1 in
-      let a2 : Bool = argumentBad sch hl st 2 in
-      let a3 : Bool = argumentBad sch hl st 3 in
-      let e4 = neither (nb || a1 || a2 || a3) (argumentBad sch hl st 4) (right .suits) in
+      let a1 : Bool = argumentBad sch ob st 1 in
+      let a2 : Bool = argumentBad sch ob st 2 in
+      let a3 : Bool = argumentBad sch ob st 3 in
+      let e4 = neither (nb || a1 || a2 || a3) (argumentBad sch ob st 4) (right .suits) in
       let e3 = neither (nb || a1 || a2) a3 (e4 .0) in
       let e2 = neither (nb || a1) a2 (e3 .0) in
       let e1 = neither nb a1 (e2 .0) in
-      (e1 .0, four (λ i. argumentBad sch hl st i ≡ false) (e1 .1) (e2 .1) (e3 .1) (e4 .1))
+      (e1 .0, four (λ i. argumentBad sch ob st i ≡ false) (e1 .1) (e2 .1) (e3 .1) (e4 .1))
 
   -- The move of a right step is there,
   pub move-known : (1 ≤ st .action .0) × (st .action .0 ≤ sch .moves)
   move-known = number-out (sch .moves) (st .action .0) (step-parts .0)
 
-  pub argument-right : (i : ℕ) → 1 ≤ i → i ≤ 4 → argumentBad sch hl st i ≡ false
+  pub argument-right : (i : ℕ) → 1 ≤ i → i ≤ 4 → argumentBad sch ob st i ≡ false
   argument-right = step-parts .1
 
   -- its parameters have objects that suit,
   pub argument-used : (i : ℕ) → 1 ≤ i → i ≤ 4 → i ≤ sch .params (st .action)
-      → (1 ≤ objectAt st i .0) × (objectAt st i .0 ≤ hl .count)
-      × (kindSuits sch (sch .paramKind (st .action) (record { 0 = i })) (hl .kind (objectAt st i)) ≡ true)
+      → (1 ≤ objectAt st i .0) × (objectAt st i .0 ≤ ob .count)
+      × (kindSuits sch (sch .paramKind (st .action) (record { 0 = i })) (ob .kind (objectAt st i)) ≡ true)
   unfolding argumentBad
-  argument-used i low high used = used-out sch hl _ (objectAt st i) _ (step-parts .1 i low high) (le-leb i (sch .params (st .action)) used)
+  argument-used i low high used = used-out sch ob _ (objectAt st i) _ (step-parts .1 i low high) (le-leb i (sch .params (st .action)) used)
 
   pair-apart : (i : ℕ) → 1 ≤ i → i ≤ 4 → (j : ℕ) → 1 ≤ j → j ≤ 4 → i < j → samePair st i j ≡ false
   unfolding repeats

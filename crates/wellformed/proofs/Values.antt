@@ -6,7 +6,7 @@ use mathlib.Core.List.{List}
 use Rattle.terms.specs.declared.Binding.{Binding}
 use Rattle.terms.specs.declared.Step.{Step}
 use Rattle.terms.specs.declared.Fact.{Fact}
-use Rattle.terms.specs.Schema.{Schema, Hall}
+use Rattle.terms.specs.Schema.{Schema, TypedObjects}
 use Rattle.terms.specs.Steps.{isAtom, ground}
 use Rattle.limits.specs.Limits.{maxObjects}
 use Rattle.model.specs.Quantify.{Mem}
@@ -21,8 +21,8 @@ pub holds-in : (sch : Schema) (b : Binding) (fs : List Fact) (n : ℕ) → Mem (
 holds-in sch b fs n m = rw (ground-number sch b n) at (holding-in fs m)
 
 -- the other way round for a right step and a right state of one hall
-pub holds-out : (sch : Schema) (hl : Hall) → hl .count ≤ maxObjects → (st : Step) → RightStep sch hl st → (fs : List Fact) → RightState sch hl fs
+pub holds-out : (sch : Schema) (ob : TypedObjects) → ob .count ≤ maxObjects → (st : Step) → RightStep sch ob st → (fs : List Fact) → RightState sch ob fs
     → (n : ℕ) → isAtom sch (st .action .0) n ≡ true → holding fs (ground sch (st .binding) n) ≡ true → Mem (factOf sch (st .binding) n) fs
-holds-out sch hl few st right fs state n atom e =
+holds-out sch ob few st right fs state n atom e =
     let (f, m, q) = holding-out fs (ground sch (st .binding) n) e in
-    subst (λ (g : Fact). Mem g fs) (fact-of-atom sch hl few st right f (state .suits f m) n atom (sym q)) m
+    subst (λ (g : Fact). Mem g fs) (fact-of-atom sch ob few st right f (state .suits f m) n atom (sym q)) m

@@ -6,7 +6,7 @@ use mathlib.Core.List.{List, [], _∷_}
 use lib.ListN.{length}
 use Rattle.terms.specs.declared.Fact.{Fact}
 use Rattle.terms.specs.declared.Step.{Step}
-use Rattle.terms.specs.Schema.{Schema, Hall, hall}
+use Rattle.terms.specs.Schema.{Schema, TypedObjects, typedObjects}
 use Rattle.terms.specs.Facts.{factBad, precedes, noFact}
 use Rattle.terms.specs.Steps.{stepBad, repeats}
 use Rattle.limits.specs.Limits.{maxObjects, maxFacts}
@@ -20,33 +20,33 @@ Increasing last [] = Unit {0}
 Increasing last (f ∷ fs) = (precedes last f ≡ true) × Increasing f fs
 
 -- the move is there, its parameters have objects that suit, and no object stands twice
-pub record RightStep (sch : Schema) (hl : Hall) (st : Step) : Type 0 where
-  pub suits : stepBad sch hl st ≡ false
+pub record RightStep (sch : Schema) (ob : TypedObjects) (st : Step) : Type 0 where
+  pub suits : stepBad sch ob st ≡ false
   pub different : repeats st ≡ false
 
 -- facts that suit, strictly increasing, at most 256
-pub record RightState (sch : Schema) (hl : Hall) (fs : List Fact) : Type 0 where
-  pub suits : (f : Fact) → Mem f fs → factBad sch hl f ≡ false
+pub record RightState (sch : Schema) (ob : TypedObjects) (fs : List Fact) : Type 0 where
+  pub suits : (f : Fact) → Mem f fs → factBad sch ob f ≡ false
   pub increasing : Increasing noFact fs
   pub few : length fs ≤ maxFacts
 
 -- a recorded step with the states before and after it
-pub record Right (sch : Schema) (hl : Hall) (f : RecordedStep) : Type 0 where
-  pub step : RightStep sch hl (f .step)
-  pub pre : RightState sch hl (f .pre)
-  pub post : RightState sch hl (f .post)
+pub record Right (sch : Schema) (ob : TypedObjects) (f : RecordedStep) : Type 0 where
+  pub step : RightStep sch ob (f .step)
+  pub pre : RightState sch ob (f .pre)
+  pub post : RightState sch ob (f .post)
 
 -- the same over some hall of at most 16 objects: that of the record in which the step is filed
 abbrev pub RightSomewhere : Schema → RecordedStep → Type 0
-RightSomewhere sch f = (hl : Hall) × (hl .count ≤ maxObjects) × Right sch hl f
+RightSomewhere sch f = (ob : TypedObjects) × (ob .count ≤ maxObjects) × Right sch ob f
 
 -- the objects of an order
-abbrev pub orderHall : List ℕ → Hall
-orderHall o = hall (orderObjects o) o
+abbrev pub orderTyped : List ℕ → TypedObjects
+orderTyped o = typedObjects (orderObjects o) o
 
 -- an order's start facts, goal facts and steps over its own objects, of which there are at most 16
 pub record RightOrder (sch : Schema) (o : List ℕ) : Type 0 where
-  pub few : orderHall o .count ≤ maxObjects
-  pub start : RightState sch (orderHall o) (startFacts o)
-  pub goals : (e : GoalEntry) → Mem e (goal o) → factBad sch (orderHall o) (e .fact) ≡ false
-  pub steps : (st : Step) → Mem st (plan o) → RightStep sch (orderHall o) st
+  pub few : orderTyped o .count ≤ maxObjects
+  pub start : RightState sch (orderTyped o) (startFacts o)
+  pub goals : (e : GoalEntry) → Mem e (goal o) → factBad sch (orderTyped o) (e .fact) ≡ false
+  pub steps : (st : Step) → Mem st (plan o) → RightStep sch (orderTyped o) st

@@ -9,17 +9,17 @@ use Rattle.format.specs.Order.{fromGoal}
 
 returns : tie.Need-returns
 unfolding ForKinds ForTabled Follows fromGoal
-returns c hl right =
+returns c ob right =
     let d = c .before .before in
-    part-stays _ _ _ _ (d .goal .ensures _ hl (d .before .before .before .pre .0 hl right)) (c .before .is-refused .ensures) (c .if1 .taken)
+    part-stays _ _ _ _ (d .goal .ensures _ ob (d .before .before .before .pre .0 ob right)) (c .before .is-refused .ensures) (c .if1 .taken)
 
 returns-2 : tie.Need-returns-2
 unfolding ForKinds ForTabled Follows fromGoal
-returns-2 c hl right =
+returns-2 c ob right =
     let e = c .before in
     let d = e .before .before in
-    c .plan .ensures hl right
-    ∙ part-then _ _ _ _ (d .goal .ensures _ hl (d .before .before .before .pre .0 hl right)) (e .before .is-refused .ensures) (e .if1 .left)
+    c .plan .ensures ob right
+    ∙ part-then _ _ _ _ (d .goal .ensures _ ob (d .before .before .before .pre .0 ob right)) (e .before .is-refused .ensures) (e .if1 .left)
 
 pub from-goal-spec : {M : Type 1} → statement M
 from-goal-spec = tie.close (tie.spec (λ c κs. search needs) (λ c κs. search needs) returns (λ c κs. search needs) returns-2)

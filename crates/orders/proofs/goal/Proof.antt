@@ -22,7 +22,7 @@ Inv-loop o table c₀ c =
     × (c .key ≡ factKey (c .last))
     × (c .at + entrySize * c .left ≤ length o)
     × (c .at + entrySize * c .left ≤ nearCeiling)
-    × ForTabled table (λ sch hl. entries sch hl o (c .left) (c .last) (c .at) ≡ entries sch hl o (goalCount o) noFact (goalAt o))
+    × ForTabled table (λ sch ob. entries sch ob o (c .left) (c .last) (c .at) ≡ entries sch ob o (goalCount o) noFact (goalAt o))
 
 abbrev μ-loop : tie.MeasureT-loop
 μ-loop o table c₀ c = c .left
@@ -33,7 +33,7 @@ loop-holds c =
     let e = c .new .ensures in
     let a = c .before .goal-at .ensures in
     let n = c .before .before .goal-count .ensures in
-    (e .3, e .4, omega arith, omega arith, λ sch hl right. chain-same (goal-chain sch hl _) (e .0 ∙ a .0) (e .1 ∙ n) (e .2))
+    (e .3, e .4, omega arith, omega arith, λ sch ob right. chain-same (goal-chain sch ob _) (e .0 ∙ a .0) (e .1 ∙ n) (e .2))
 
 bad-requires : tie.Need-bad-requires Inv-loop μ-loop
 bad-requires c κs =
@@ -42,11 +42,11 @@ bad-requires c κs =
 
 returns : tie.Need-returns Inv-loop μ-loop
 unfolding ForTabled
-returns c sch hl right =
+returns c sch ob right =
     let w = c .before .before in
     let l = w .before .before .before .loop in
-    chain-refused (goal-chain sch hl _) (l .inv .4 sch hl right) (w .before .if1 .taken)
-    (entry-bad-by _ _ _ _ _ _ (l .inv .0) (w .byte-at .ensures) (c .before .bad .ensures sch hl right)) (c .if2 .taken)
+    chain-refused (goal-chain sch ob _) (l .inv .4 sch ob right) (w .before .if1 .taken)
+    (entry-bad-by _ _ _ _ _ _ (l .inv .0) (w .byte-at .ensures) (c .before .bad .ensures sch ob right)) (c .if2 .taken)
 
 next-requires : tie.Need-next-requires Inv-loop μ-loop
 next-requires c κs =
@@ -65,15 +65,15 @@ loop-again c =
       e .4,
       omega arith,
       omega arith,
-      λ sch hl right.
-          chain-same (goal-chain sch hl _) p (e .1) (e .2 ∙ fact-of sch hl _ _ _ (omega arith))
-          ∙ chain-good (goal-chain sch hl _) (l .inv .4 sch hl right) (w .before .if1 .taken)
-          (entry-bad-by _ _ _ _ _ _ (l .inv .0) (w .byte-at .ensures) (b .bad .ensures sch hl right)) (c .before .if2 .left),
+      λ sch ob right.
+          chain-same (goal-chain sch ob _) p (e .1) (e .2 ∙ fact-of sch ob _ _ _ (omega arith))
+          ∙ chain-good (goal-chain sch ob _) (l .inv .4 sch ob right) (w .before .if1 .taken)
+          (entry-bad-by _ _ _ _ _ _ (l .inv .0) (w .byte-at .ensures) (b .bad .ensures sch ob right)) (c .before .if2 .left),
     )
 
 returns-2 : tie.Need-returns-2 Inv-loop μ-loop
 unfolding ForTabled
-returns-2 c sch hl right = chain-none (goal-chain sch hl _) (c .before .before .loop .inv .4 sch hl right) (omega arith)
+returns-2 c sch ob right = chain-none (goal-chain sch ob _) (c .before .before .loop .inv .4 sch ob right) (omega arith)
 
 pub goal-spec : {M : Type 1} → statement M
 goal-spec =

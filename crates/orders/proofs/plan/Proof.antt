@@ -18,33 +18,33 @@ use Rattle.orders.proofs.plan.Tie as tie
 abbrev Inv-loop : tie.InvT-loop
 Inv-loop book h kinds o left₀ at₀ left at =
     (at + stepSize * left ≤ farCeiling)
-    × ForKinds (schema h book) kinds (λ hl. walk (planStep (schema h book) hl o) left at ≡ walk (planStep (schema h book) hl o) (stepCount o) (stepsAt o))
+    × ForKinds (schema h book) kinds (λ ob. walk (planStep (schema h book) ob o) left at ≡ walk (planStep (schema h book) ob o) (stepCount o) (stepsAt o))
 
 abbrev μ-loop : tie.MeasureT-loop
 μ-loop book h kinds o left₀ at₀ left at = left
 
 loop-holds : tie.Need-loop-holds Inv-loop μ-loop
 unfolding ForKinds
-loop-holds c = (omega arith, λ hl right. walk-same _ _ _ _ _ (c .before .step-count .ensures) (c .steps-at .ensures .0))
+loop-holds c = (omega arith, λ ob right. walk-same _ _ _ _ _ (c .before .step-count .ensures) (c .steps-at .ensures .0))
 
 returns : tie.Need-returns Inv-loop μ-loop
 unfolding ForKinds
-returns c hl right =
+returns c ob right =
     let d = c .before in
-    entry-refused _ _ 18 stepSize (plan-step-entry _ _ _) _ _ _ _ (d .before .before .loop .inv .1 hl right) (d .before .loop-test .taken) (d .step-bad .ensures hl right) (c .if1 .taken)
+    entry-refused _ _ 18 stepSize (plan-step-entry _ _ _) _ _ _ _ (d .before .before .loop .inv .1 ob right) (d .before .loop-test .taken) (d .step-bad .ensures ob right) (c .if1 .taken)
 
 loop-again : tie.Need-loop-again Inv-loop μ-loop
 unfolding ForKinds
 loop-again c =
     let d = c .before in (
       omega arith,
-      λ hl right.
-          entry-good _ _ 18 stepSize (plan-step-entry _ _ _) _ _ _ _ (d .before .before .loop .inv .1 hl right) (d .before .loop-test .taken) (d .step-bad .ensures hl right) (c .if1 .left),
+      λ ob right.
+          entry-good _ _ 18 stepSize (plan-step-entry _ _ _) _ _ _ _ (d .before .before .loop .inv .1 ob right) (d .before .loop-test .taken) (d .step-bad .ensures ob right) (c .if1 .left),
     )
 
 returns-2 : tie.Need-returns-2 Inv-loop μ-loop
 unfolding ForKinds
-returns-2 c hl right = turn-none _ _ _ _ (c .before .loop .inv .1 hl right) (omega arith)
+returns-2 c ob right = turn-none _ _ _ _ (c .before .loop .inv .1 ob right) (omega arith)
 
 pub plan-spec : {M : Type 1} → statement M
 plan-spec =

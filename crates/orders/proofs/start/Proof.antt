@@ -7,8 +7,8 @@ use Rattle.orders.proofs.start.Tie as tie
 
 returns : tie.Need-returns
 unfolding ForTabled
-returns c sch hl right =
-    start-by _ _ _ _ _ _ (c .before .before .start-count .ensures) (c .before .start-at .ensures .0) (c .facts .ensures sch hl right)
+returns c sch ob right =
+    start-by _ _ _ _ _ _ (c .before .before .start-count .ensures) (c .before .start-at .ensures .0) (c .facts .ensures sch ob right)
 
 pub start-spec : {M : Type 1} → statement M
 start-spec = tie.close (tie.spec (λ c κs. search needs) (λ c. search needs) (λ c κs. search needs) (λ c κs. search needs) returns)

@@ -7,7 +7,7 @@ use Rattle.orders.proofs.step_bad.Tie as tie
 
 returns : tie.Need-returns
 unfolding ForKinds
-returns c hl right = step-bad-by _ _ _ _ _ _ _ (c .before .before .read .ensures) (c .before .step-bad .ensures hl right) (c .repeats .ensures)
+returns c ob right = step-bad-by _ _ _ _ _ _ _ (c .before .before .read .ensures) (c .before .step-bad .ensures ob right) (c .repeats .ensures)
 
 pub step-bad-spec : {M : Type 1} → statement M
 step-bad-spec = tie.close (tie.spec (λ c κs. search needs) (λ c κs. search needs) (λ c κs. search needs) returns)

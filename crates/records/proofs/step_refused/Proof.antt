@@ -7,11 +7,11 @@ use Rattle.records.proofs.step_refused.Tie as tie
 
 returns : tie.Need-returns
 unfolding ForKinds
-returns c hl right = step-cut _ _ _ _ _ (c .if1 .taken)
+returns c ob right = step-cut _ _ _ _ _ (c .if1 .taken)
 
 returns-2 : tie.Need-returns-2
 unfolding ForKinds
-returns-2 c hl right = step-whole _ _ _ _ _ _ _ (c .before .before .if1 .left) (c .before .whole .ensures) (c .step-bad .ensures hl right)
+returns-2 c ob right = step-whole _ _ _ _ _ _ _ (c .before .before .if1 .left) (c .before .whole .ensures) (c .step-bad .ensures ob right)
 
 pub step-refused-spec : {M : Type 1} → statement M
 step-refused-spec = tie.close (tie.spec (λ c. search needs) returns (λ c κs. search needs) (λ c κs. search needs) returns-2)

@@ -5,7 +5,7 @@ use native.Mathlib.Omega.{arith}
 use borrow.Author.Needs.{needs}
 use Rattle.limits.specs.Limits.{maxLength}
 use Rattle.answer.specs.Walk.{walk}
-use Rattle.terms.specs.Schema.{schema, hall}
+use Rattle.terms.specs.Schema.{schema, typedObjects}
 use Rattle.format.specs.Records.{step}
 use Rattle.format.proofs.Records.{step-within}
 use Rattle.answer.specs.Turns.{turn-none, turn-refused, turn-good}
@@ -14,7 +14,7 @@ use Rattle.records.proofs.steps.Tie as tie
 
 abbrev Inv-loop : tie.InvT-loop
 Inv-loop book scope kinds table from left₀ at₀ left at =
-    let one = step (schema (scope .h) book) (hall (scope .objects) book) book (scope .end) in
+    let one = step (schema (scope .h) book) (typedObjects (scope .objects) book) book (scope .end) in
     (at ≤ maxLength) × (walk one left at ≡ walk one (scope .steps) from)
 
 abbrev μ-loop : tie.MeasureT-loop

@@ -19,7 +19,7 @@ Inv-loop number t table end n from c₀ c =
     (c .size ≡ factSize)
     × (c .key ≡ factKey (c .last))
     × (c .at + factSize * c .left ≤ from + factSize * n)
-    × ForTabled table (λ sch hl. facts number sch hl t end (c .left) (c .last) (c .at) ≡ facts number sch hl t end n noFact from)
+    × ForTabled table (λ sch ob. facts number sch ob t end (c .left) (c .last) (c .at) ≡ facts number sch ob t end n noFact from)
 
 abbrev μ-loop : tie.MeasureT-loop
 μ-loop number t table end n from c₀ c = c .left
@@ -28,7 +28,7 @@ loop-holds : tie.Need-loop-holds Inv-loop μ-loop
 unfolding ForTabled
 loop-holds c =
     let e = c .new .ensures in
-    (e .3, e .4, omega arith, λ sch hl right. chain-same (facts-chain _ sch hl _ _) (e .0) (e .1) (e .2))
+    (e .3, e .4, omega arith, λ sch ob right. chain-same (facts-chain _ sch ob _ _) (e .0) (e .1) (e .2))
 
 refused-requires : tie.Need-refused-requires Inv-loop μ-loop
 refused-requires c κs =
@@ -37,9 +37,9 @@ refused-requires c κs =
 
 returns : tie.Need-returns Inv-loop μ-loop
 unfolding ForTabled
-returns c sch hl right =
+returns c sch ob right =
     let d = c .before .before in
-    chain-refused (facts-chain _ sch hl _ _) (d .before .before .loop .inv .3 sch hl right) (d .if1 .taken) (c .before .refused .ensures .1 sch hl right) (c .if2 .taken)
+    chain-refused (facts-chain _ sch ob _ _) (d .before .before .loop .inv .3 sch ob right) (d .if1 .taken) (c .before .refused .ensures .1 sch ob right) (c .if2 .taken)
 
 next-requires : tie.Need-next-requires Inv-loop μ-loop
 next-requires c κs =
@@ -57,14 +57,14 @@ loop-again c =
       e .3 ∙ l .inv .0,
       e .4,
       omega arith,
-      λ sch hl right.
-          chain-same (facts-chain _ sch hl _ _) p (e .1) (e .2 ∙ fact-of sch hl _ _ _ (omega arith))
-          ∙ chain-good (facts-chain _ sch hl _ _) (l .inv .3 sch hl right) (d .if1 .taken) (c .before .before .refused .ensures .1 sch hl right) (c .before .if2 .left),
+      λ sch ob right.
+          chain-same (facts-chain _ sch ob _ _) p (e .1) (e .2 ∙ fact-of sch ob _ _ _ (omega arith))
+          ∙ chain-good (facts-chain _ sch ob _ _) (l .inv .3 sch ob right) (d .if1 .taken) (c .before .before .refused .ensures .1 sch ob right) (c .before .if2 .left),
     )
 
 returns-2 : tie.Need-returns-2 Inv-loop μ-loop
 unfolding ForTabled
-returns-2 c sch hl right = chain-none (facts-chain _ sch hl _ _) (c .before .before .loop .inv .3 sch hl right) (omega arith)
+returns-2 c sch ob right = chain-none (facts-chain _ sch ob _ _) (c .before .before .loop .inv .3 sch ob right) (omega arith)
 
 pub facts-spec : {M : Type 1} → statement M
 facts-spec =

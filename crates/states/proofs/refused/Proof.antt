@@ -10,7 +10,7 @@ use Rattle.states.proofs.refused.Tie as tie
 
 returns : tie.Need-returns
 unfolding ForTabled
-returns c = (λ e. clash _ refl e, λ sch hl right. fact-cut sch hl _ _ _ _ (c .if1 .taken))
+returns c = (λ e. clash _ refl e, λ sch ob right. fact-cut sch ob _ _ _ _ (c .if1 .taken))
 
 bad-requires : tie.Need-bad-requires
 bad-requires c κs =
@@ -21,7 +21,7 @@ returns-2 : tie.Need-returns-2
 unfolding ForTabled
 returns-2 c =
     let d = c .before in
-    (λ e. d .if1 .left, λ sch hl right. fact-whole sch hl _ _ _ _ (d .before .before .before .pre .2) (d .if1 .left) (c .bad .ensures sch hl right))
+    (λ e. d .if1 .left, λ sch ob right. fact-whole sch ob _ _ _ _ (d .before .before .before .pre .2) (d .if1 .left) (c .bad .ensures sch ob right))
 
 pub refused-spec : {M : Type 1} → statement M
 refused-spec = tie.close (tie.spec (λ c. search needs) returns bad-requires returns-2)

@@ -9,9 +9,9 @@ use Rattle.tables.proofs.argument_bad.Tie as tie
 
 returns : tie.Need-returns
 unfolding ForKinds argumentBad
-returns c hl right =
+returns c ob right =
     let d = c .before in
-    c .object-bad .ensures ∙ rw (d .before .before .before .before .pre .1, d .before .param-kind .ensures, d .object .ensures) (kinds-bad _ hl _ right _ _ _)
+    c .object-bad .ensures ∙ rw (d .before .before .before .before .pre .1, d .before .param-kind .ensures, d .object .ensures) (kinds-bad _ ob _ right _ _ _)
 
 pub argument-bad-spec : {M : Type 1} → statement M
 argument-bad-spec =

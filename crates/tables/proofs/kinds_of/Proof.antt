@@ -3,7 +3,7 @@ use Prim.Native.Nat.{_+_, _-_, _≤_, _<_}
 use mathlib.Core.Path.{_≡_, refl}
 use native.Mathlib.Omega.{arith}
 use Rattle.input.specs.Bytes.{byteAt}
-use Rattle.terms.specs.Schema.{schema, hall}
+use Rattle.terms.specs.Schema.{schema, typedObjects}
 use Rattle.tables.proofs.Turns.{KindsTo, kinds-none, kinds-turn}
 use Rattle.tables.proofs.Laws.{kinds-right}
 use borrow.Author.Needs.{needs}
@@ -32,7 +32,7 @@ loop-again c =
     (omega arith, omega arith, i .2, i .3, kinds-turn _ _ _ _ _ _ (i .4) (i .0) (c .before .byte-at .ensures) (c .put-object .ensures))
 
 returns : tie.Need-returns Inv-loop μ-loop
-unfolding hall
+unfolding typedObjects
 returns c =
     let i = c .before .loop .inv in
     kinds-right _ _ _ _ (omega arith) (i .4)

@@ -9,14 +9,14 @@ use Rattle.tables.proofs.step_bad.Tie as tie
 
 returns : tie.Need-returns
 unfolding ForKinds stepBad schema
-returns c hl right =
+returns c ob right =
     let d = c .before .before .before in
     rw (
       d .before .number-bad .ensures,
-      d .argument-bad .ensures hl right,
-      c .before .before .argument-bad2 .ensures hl right,
-      c .before .argument-bad3 .ensures hl right,
-      c .argument-bad4 .ensures hl right,
+      d .argument-bad .ensures ob right,
+      c .before .before .argument-bad2 .ensures ob right,
+      c .before .argument-bad3 .ensures ob right,
+      c .argument-bad4 .ensures ob right,
     )
 
 pub step-bad-spec : {M : Type 1} → statement M

@@ -8,7 +8,7 @@ use Rattle.states.proofs.FactCursor.bad.Tie as tie
 
 returns : tie.Need-returns
 unfolding ForTabled
-returns c sch hl right =
+returns c sch ob right =
     let d = c .before in
     let f = d .before .fact in
     misplaced-by _ _ _ _ right _ _ _ _ (omega (arith, f .ok)) (f .ensures) (d .suits .ensures) (c .follows .ensures)
