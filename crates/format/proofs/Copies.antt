@@ -17,7 +17,7 @@ use Rattle.answer.specs.Entries.{entries-right, entries-all}
 use Rattle.input.specs.Bytes.{byteAt, two}
 use Rattle.terms.specs.declared.Fact.{Fact}
 use Rattle.terms.specs.declared.Sections.{Sections}
-use Rattle.terms.specs.Schema.{Schema, TypedObjects, schema, typedObjects, numberBad}
+use Rattle.terms.specs.Schema.{Schema, TypedObjects, schema, typedObjects, outOfRange}
 use Rattle.terms.specs.Facts.{factAt, noFact}
 use Rattle.terms.specs.Steps.{stepAt}
 use Rattle.terms.specs.Agree.{SameSchema}
@@ -98,7 +98,7 @@ module _ {s t : List ℕ} {at at′ size : ℕ} (c : Copied s at t at′ size) w
   objects-beside kinds end end′ ends short n a b last f e =
       entries-all _ _ 7 1 (object-entry kinds t end′) n b
       (λ i k.
-      let (reach, right) = neither (cut end (a + 1 * i) 1) (numberBad kinds (byteAt s (a + 1 * i))) (entries-right _ _ 7 1 (object-entry kinds s end) n a last e i k) in
+      let (reach, right) = neither (cut end (a + 1 * i) 1) (outOfRange kinds (byteAt s (a + 1 * i))) (entries-right _ _ 7 1 (object-entry kinds s end) n a last e i k) in
       let w = ltb-false end (a + 1 * i + 1) reach in
       rw (byte-copied c (a + 1 * i) (b + 1 * i) (facing-on f (1 * i)) (omega arith), le-ltb end′ (b + 1 * i + 1) (omega arith)) right)
       ∙ ap Good (omega arith)

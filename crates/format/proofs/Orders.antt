@@ -12,7 +12,7 @@ use Rattle.answer.specs.Laws.{none-over}
 use Rattle.answer.specs.Entries.{Entry}
 use Rattle.input.specs.Bytes.{byteAt, two}
 use Rattle.terms.specs.declared.Fact.{Fact}
-use Rattle.terms.specs.Schema.{Schema, TypedObjects, numberBad}
+use Rattle.terms.specs.Schema.{Schema, TypedObjects, outOfRange}
 use Rattle.terms.specs.Facts.{factAt, factBad, precedes}
 use Rattle.limits.specs.Limits.{headerSize, maxObjects, maxFacts, maxEntries, maxSteps, factSize, entrySize, stepSize}
 use Rattle.format.specs.Order.{objectCount, startCount, goalCount, stepCount, startAt, goalAt, stepsAt, orderCountsBad, orderOffsetsBad, orderObject, entryBad, entries, planStep, orderHeaderBad, planStepBad}
@@ -86,7 +86,7 @@ unfolding stepsAt
 steps-at-is o = refl
 
 -- answer/specs/Entries has the laws of a walk over entries
-pub order-object-entry : (kinds : ℕ) (o : List ℕ) → Entry (orderObject kinds o) (λ at. numberBad kinds (byteAt o at)) 15 1
+pub order-object-entry : (kinds : ℕ) (o : List ℕ) → Entry (orderObject kinds o) (λ at. outOfRange kinds (byteAt o at)) 15 1
 unfolding orderObject
 order-object-entry kinds o at = refl
 

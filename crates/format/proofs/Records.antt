@@ -14,7 +14,7 @@ use Rattle.answer.specs.Walk.{walk, walk-parted}
 use Rattle.answer.specs.Entries.{Entry, item-good, entries-end}
 use Rattle.input.specs.Bytes.{byteAt}
 use Rattle.terms.specs.declared.Sections.{Sections}
-use Rattle.terms.specs.Schema.{Schema, TypedObjects, schema, typedObjects, numberBad}
+use Rattle.terms.specs.Schema.{Schema, TypedObjects, schema, typedObjects, outOfRange}
 use Rattle.terms.specs.Steps.{stepAt, stepBad, repeats}
 use Rattle.limits.specs.Limits.{headSize, maxObjects, maxSteps, stepSize}
 use Rattle.format.specs.States.{cut, state}
@@ -39,7 +39,7 @@ module _ (s : List ℕ) (at : ℕ) (good : headBad s at ≡ false) where
 
 module _ (kinds : ℕ) (s : List ℕ) (end : ℕ) where
   -- an object is an entry of one byte
-  pub object-entry : Entry (object kinds s end) (λ at. cut end at 1 || numberBad kinds (byteAt s at)) 7 1
+  pub object-entry : Entry (object kinds s end) (λ at. cut end at 1 || outOfRange kinds (byteAt s at)) 7 1
   unfolding object
   object-entry at = refl
 

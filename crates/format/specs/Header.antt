@@ -10,7 +10,7 @@ use Rattle.answer.specs.Answer.{_>>=_, refuse}
 use Rattle.answer.specs.Walk.{walk}
 use Rattle.input.specs.Bytes.{byteAt}
 use Rattle.terms.specs.declared.Sections.{Sections}
-use Rattle.terms.specs.Schema.{numberBad}
+use Rattle.terms.specs.Schema.{outOfRange}
 use Rattle.limits.specs.Limits.{headerSize, maxLength, maxKinds, maxRelations, maxMoves, maxRecords, relationSize, moveSize, maxPlaces, maxParams}
 
 unfoldable pub lengthBad : List ℕ → Bool
@@ -34,7 +34,7 @@ offsetsBad h size =
 
 -- a kind byte of a relation or a move: a kind where it is used, 0 where it is not
 unfoldable pub kindBad : List ℕ → ℕ → ℕ → Bool → Bool
-kindBad s kinds i used = used && numberBad kinds (byteAt s i) || not used && not (eqb (byteAt s i) 0)
+kindBad s kinds i used = used && outOfRange kinds (byteAt s i) || not used && not (eqb (byteAt s i) 0)
 
 unfoldable pub relationBad : List ℕ → ℕ → ℕ → Bool
 relationBad s kinds at =

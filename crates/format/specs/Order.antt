@@ -12,7 +12,7 @@ use Rattle.input.specs.Bytes.{byteAt, two}
 use Rattle.terms.specs.declared.Objects.{Objects}
 use Rattle.terms.specs.declared.Fact.{Fact}
 use Rattle.terms.specs.declared.Step.{Step}
-use Rattle.terms.specs.Schema.{Schema, TypedObjects, typedObjects, numberBad}
+use Rattle.terms.specs.Schema.{Schema, TypedObjects, typedObjects, outOfRange}
 use Rattle.terms.specs.Facts.{factAt, factBad, precedes, noFact}
 use Rattle.terms.specs.Steps.{stepAt, stepBad, repeats}
 use Rattle.limits.specs.Limits.{headerSize, maxObjects, maxFacts, maxEntries, maxSteps, factSize, entrySize, stepSize}
@@ -63,7 +63,7 @@ orderObjects o = record { count = objectCount o; at = headerSize }
 -- row 15
 unfoldable pub orderObject : ℕ → List ℕ → ℕ → Answer
 orderObject kinds o at = do
-  _ ← refuse (numberBad kinds (byteAt o at)) 15 at
+  _ ← refuse (outOfRange kinds (byteAt o at)) 15 at
   Good (at + 1)
 
 -- row 17: a byte 1 or 0, then a fact behind the one of the entry before

@@ -11,7 +11,7 @@ use Rattle.answer.specs.Walk.{walk}
 use Rattle.input.specs.Bytes.{byteAt, two}
 use Rattle.terms.specs.declared.Sections.{Sections}
 use Rattle.terms.specs.declared.Objects.{Objects}
-use Rattle.terms.specs.Schema.{Schema, TypedObjects, schema, typedObjects, numberBad}
+use Rattle.terms.specs.Schema.{Schema, TypedObjects, schema, typedObjects, outOfRange}
 use Rattle.terms.specs.Steps.{stepAt, stepBad, repeats}
 use Rattle.limits.specs.Limits.{headSize, maxObjects, maxSteps, stepSize}
 use Rattle.format.specs.States.{cut, state}
@@ -37,7 +37,7 @@ headBad s at =
 -- row 7
 unfoldable pub object : ℕ → List ℕ → ℕ → ℕ → Answer
 object kinds s end at = do
-  _ ← refuse (cut end at 1 || numberBad kinds (byteAt s at)) 7 at
+  _ ← refuse (cut end at 1 || outOfRange kinds (byteAt s at)) 7 at
   Good (at + 1)
 
 -- row 9 of the step at an offset

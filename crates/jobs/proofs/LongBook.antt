@@ -16,7 +16,7 @@ use Rattle.answer.specs.Walk.{walk}
 use Rattle.input.specs.Bytes.{byteAt, two}
 use Rattle.terms.specs.declared.Sections.{Sections}
 use Rattle.terms.specs.Sections.{sectionsOf}
-use Rattle.terms.specs.Schema.{numberBad, relationAt, moveAt, schema, typedObjects, kindSuits, objectBad}
+use Rattle.terms.specs.Schema.{outOfRange, relationAt, moveAt, schema, typedObjects, kindSuits, objectBad}
 use Rattle.terms.specs.Facts.{factAt, factBad, precedes, noFact}
 use Rattle.terms.specs.Steps.{objectOf, stepAt, argumentBad, stepBad, samePair, repeats}
 use Rattle.terms.specs.Agree.{SameSchema}
@@ -76,7 +76,7 @@ abbrev single : List ℕ
 single = longHeader 1 969 ++ (longSections ++ (longRecord ++ []))
 
 one-good : recordAt (sectionsOf single) single 32 ≡ Good 969
-unfolding _>>=_ refuse walk byteAt two sectionsOf numberBad relationAt moveAt schema typedObjects kindSuits objectBad factAt factBad precedes noFact objectOf stepAt argumentBad stepBad samePair repeats cut countBad factRefused facts state objectsIn stepsIn lengthIn headBad object stepRefused step objectsOf trajectory closed body recordAt
+unfolding _>>=_ refuse walk byteAt two sectionsOf outOfRange relationAt moveAt schema typedObjects kindSuits objectBad factAt factBad precedes noFact objectOf stepAt argumentBad stepBad samePair repeats cut countBad factRefused facts state objectsIn stepsIn lengthIn headBad object stepRefused step objectsOf trajectory closed body recordAt
 one-good = refl
 
 same-schema : SameSchema (schema (sectionsOf single) single) (schema (sectionsOf long) long)
@@ -93,7 +93,7 @@ long-length =
     ∙ ap (λ n. 16 + n) (length-append longSections (copies 64 longRecord) ∙ ap (λ n. 16 + n) (length-copies 64 longRecord))
 
 long-sections : sections (sectionsOf long) long ≡ Good 32
-unfolding _>>=_ refuse walk byteAt two sectionsOf numberBad countsBad offsetsBad kindBad relationBad moveBad relation move
+unfolding _>>=_ refuse walk byteAt two sectionsOf outOfRange countsBad offsetsBad kindBad relationBad moveBad relation move
 long-sections =
     sections-in (sectionsOf long) long 20 32 (length-in long (omega (arith, long-length)) (omega (arith, long-length))) refl
     (subst (λ (n : ℕ). offsetsBad (sectionsOf long) n ≡ false) (sym long-length) refl) refl refl

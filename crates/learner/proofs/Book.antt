@@ -23,8 +23,8 @@ use Rattle.observed.specs.Observed.{Observed, nothingSeen}
 use Rattle.observed.specs.Rules.{unboundAnswer, conflictAmong, sheetObserved}
 use Rattle.observedright.proofs.ObservedRight.{observed-right}
 use Rattle.notes.specs.Notes.{IsObserved}
-use Rattle.walk.specs.declared.Walked.{Walked}
-use Rattle.walk.specs.Walk.{RecordsWalked}
+use Rattle.scan.specs.declared.Walked.{Walked}
+use Rattle.scan.specs.Scan.{RecordsScanned}
 use Rattle.learner.specs.Learner.{FormObserved, observedOf, BookObserved, LearnOutcome}
 
 refused-not-good {ℓ} : {A : Type ℓ} (a : Answer) (m : ℕ) → isRefused a ≡ true → a ≡ Good m → A
@@ -60,16 +60,16 @@ module _ (s : List ℕ) (h : Sections) (own : h ≡ sectionsOf s) where
   -- what is observed after all records of a book
   pub all-observed : (first bytes : List ℕ) (w : Walked) (m : ℕ)
       → first ≡ nothingSeen .masks
-      → RecordsWalked h s (h .records .count) (h .records .at) true (record { masks = first; named = 0 }) bytes w
+      → RecordsScanned h s (h .records .count) (h .records .at) true (record { masks = first; named = 0 }) bytes w
       → w .answer ≡ Good m
       → IsObserved (observedOf s) bytes (w .named)
   unfolding observedOf stepsOfBook recordedSteps nothingSeen
   all-observed first bytes w m e r f = rw (e, own) at (r .observes refl m f)
 
   -- the records by the header that was read
-  pub walked-own : (n from : ℕ) (noting : Bool) (before : Observed) (bytes : List ℕ) (w : Walked)
-      → RecordsWalked (sectionsOf s) s n from noting before bytes w → RecordsWalked h s n from noting before bytes w
-  walked-own n from noting before bytes w e = rw own e
+  pub scanned-own : (n from : ℕ) (noting : Bool) (before : Observed) (bytes : List ℕ) (w : Walked)
+      → RecordsScanned (sectionsOf s) s n from noting before bytes w → RecordsScanned h s n from noting before bytes w
+  scanned-own n from noting before bytes w e = rw own e
 
   -- rows 6 to 10
   pub at-records : (first bytes : List ℕ) (w : Walked) (a : Answer) (b : Bool)
@@ -77,7 +77,7 @@ module _ (s : List ℕ) (h : Sections) (own : h ≡ sectionsOf s) where
       → b ≡ isRefused a
       → b ≡ false
       → first ≡ nothingSeen .masks
-      → RecordsWalked h s (h .records .count) (h .records .at) true (record { masks = first; named = 0 }) bytes w
+      → RecordsScanned h s (h .records .count) (h .records .at) true (record { masks = first; named = 0 }) bytes w
       → FormObserved s bytes w
   at-records first bytes w a b p q r e n =
       record { says = looked a (w .answer) b p q r (n .says); observes = λ m f. all-observed first bytes w m e n f }

@@ -10,7 +10,7 @@ use Rattle.observed.specs.Observed.{Observed, observeAll, nothingSeen}
 use Rattle.notes.specs.Notes.{IsObserved}
 use Rattle.jobs.specs.Planning.{stepsOfBook}
 use Rattle.jobs.specs.Learn.{learnable, learn, learnBytes}
-use Rattle.walk.specs.declared.Walked.{Walked}
+use Rattle.scan.specs.declared.Walked.{Walked}
 
 -- what is observed after all steps of a book
 unfoldable pub observedOf : List ℕ → Observed

@@ -1,8 +1,8 @@
 // Learning: the records of a book walked once, each looked over and noted; then rows 11 to 13 and the rule sheet from what is observed.
 // Uses sections and walk for the rows of the form, rulesheet and conflicts for what comes of what is observed.
 use answer::Answer;
+use scan::Walked;
 use terms::Sections;
-use walk::Walked;
 ghost use mathlib.Core.Path.{_≡_};
 ghost use lib.ListN.{length};
 ghost use Rattle.limits.specs.Limits.{observedSize};
@@ -22,7 +22,7 @@ fn observe_form(s: &[u8], h: Sections, observed: &mut [u8]) -> Walked
         };
     }
     notes::nothing_seen(observed);
-    walk::records(
+    scan::records(
         s,
         h.records.count as usize,
         h.records.at as usize,

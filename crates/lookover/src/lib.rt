@@ -17,7 +17,7 @@ fn records(s: &[u8], n: usize, from: usize) -> Answer
     ensures { λ r. ⌜ r ≡ allRecords (sectionsOf (now (s .entry))) (now (s .entry)) n from ⌝ }
 {
     let mut none = [0u8; 0];
-    let w = walk::records(s, n, from, false, &mut none);
+    let w = scan::records(s, n, from, false, &mut none);
     w.answer
 }
 

@@ -17,7 +17,7 @@ use Rattle.terms.specs.declared.Fact.{Fact}
 use Rattle.terms.specs.Steps.{objectOf}
 use Rattle.observed.specs.Inverse.{gives, paramOf, placeBound, factBound, atomOf, mark}
 use Rattle.observed.proofs.Params.{param-most}
-use Rattle.marks.specs.Marks.{share, pairOf, noShares, Inverts}
+use Rattle.marks.specs.Marks.{digit, pairOf, noDigits, Inverts}
 
 -- ---- the table
 
@@ -26,8 +26,8 @@ record Table (t : List ℕ) (f : ℕ → ℕ) : Type 0 where
   long : length t ≡ 256
   has : (x : ℕ) → x < 256 → getD t x 0 ≡ f x
 
-table-none : Table noShares (λ x. 16)
-unfolding noShares
+table-none : Table noDigits (λ x. 16)
+unfolding noDigits
 table-none = record { long = length-replicate {A = ℕ} 256 16; has = λ x h. getD-replicate {A = ℕ} 256 x 16 0 h }
 
 put-at : (l : List ℕ) (i v x : ℕ) → x < length l → getD (set l i v) x 0 ≡ cond (eqb i x) v (getD l x 0)
@@ -56,9 +56,9 @@ eqb-flip m n = go (ℕ-discrete m n)
     go (no d) = ne-eqb m n d ∙ sym (ne-eqb n m (λ e. d (sym e)))
 
 module _ (b : Binding) (x : Object) where
-  share-is : share b x ≡ cond (eqb (x .0) 0) 0 (cond (gives b 1 x) 0 (cond (gives b 2 x) 1 (cond (gives b 3 x) 2 (cond (gives b 4 x) 3 16))))
-  unfolding share placeBound paramOf
-  share-is = go (eqb (x .0) 0) (gives b 1 x) (gives b 2 x) (gives b 3 x) (gives b 4 x)
+  digit-is : digit b x ≡ cond (eqb (x .0) 0) 0 (cond (gives b 1 x) 0 (cond (gives b 2 x) 1 (cond (gives b 3 x) 2 (cond (gives b 4 x) 3 16))))
+  unfolding digit placeBound paramOf
+  digit-is = go (eqb (x .0) 0) (gives b 1 x) (gives b 2 x) (gives b 3 x) (gives b 4 x)
     where
       go : (z g₁ g₂ g₃ g₄ : Bool)
           → cond (z || not (eqb (cond z 0 (cond g₁ 1 (cond g₂ 2 (cond g₃ 3 (cond g₄ 4 0))))) 0)) (cond z 0 (cond g₁ 1 (cond g₂ 2 (cond g₃ 3 (cond g₄ 4 0)))) - 1) 16
@@ -76,7 +76,7 @@ pub inverts-by : (b : Binding) (o₁ o₂ o₃ o₄ : Object) (t₀ t₁ t₂ t�
     → o₂ ≡ objectOf b (record { 0 = 2 })
     → o₃ ≡ objectOf b (record { 0 = 3 })
     → o₄ ≡ objectOf b (record { 0 = 4 })
-    → t₀ ≡ noShares
+    → t₀ ≡ noDigits
     → t₁ ≡ set t₀ (o₄ .0) 3
     → t₂ ≡ set t₁ (o₃ .0) 2
     → t₃ ≡ set t₂ (o₂ .0) 1
@@ -90,7 +90,7 @@ inverts-by b o₁ o₂ o₃ o₄ t₀ t₁ t₂ t₃ t₄ t i₁ i₂ i₃ i₄ 
     let w = table-put w₄ t 0 0 e in
     record {
       long = w .long;
-      gives = λ x h. w .has x h ∙ rw (i₁, i₂, i₃, i₄, eqb-flip 0 x) (sym (share-is b (record { 0 = x })));
+      gives = λ x h. w .has x h ∙ rw (i₁, i₂, i₃, i₄, eqb-flip 0 x) (sym (digit-is b (record { 0 = x })));
     }
 
 -- ---- a fact
@@ -107,7 +107,7 @@ pair-by b f t m n w d e h k = rw (d, e, w .gives (f .first .0) h, w .gives (f .s
 module _ (b : Binding) (f : Fact) where
   -- the places of a bound fact
   filled : factBound b f ≡ true → pairOf b f ≡ 4 * (paramOf b (f .first) - 1) + (paramOf b (f .second) - 1)
-  unfolding factBound pairOf share
+  unfolding factBound pairOf digit
   filled e = go (placeBound b (f .first)) (placeBound b (f .second)) e
     where
       go : (m n : Bool) → (m && n) ≡ true
@@ -117,7 +117,7 @@ module _ (b : Binding) (f : Fact) where
       go false n d = clash false d refl
 
   unfilled : factBound b f ≡ false → 16 ≤ pairOf b f
-  unfolding factBound pairOf share
+  unfolding factBound pairOf digit
   unfilled e = go (placeBound b (f .first)) (placeBound b (f .second)) e
     where
       go : (m n : Bool) → (m && n) ≡ false → 16 ≤ 4 * cond m (paramOf b (f .first) - 1) 16 + cond n (paramOf b (f .second) - 1) 16

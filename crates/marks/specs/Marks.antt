@@ -18,20 +18,20 @@ use Rattle.marks.specs.declared.Walk.{Walk}
 
 -- What an object adds to a bound fact's number in the second place: the object's parameter, counted from 0, and nothing in an unused place.
 -- The number of pairs of parameters where no parameter has the object.
-unfoldable pub share : Binding → Object → ℕ
-share b x = cond (placeBound b x) (paramOf b x - 1) atomsPerRelation
+unfoldable pub digit : Binding → Object → ℕ
+digit b x = cond (placeBound b x) (paramOf b x - 1) atomsPerRelation
 
 -- the number of the pair of parameters in both places, below that number for a bound fact alone
 unfoldable pub pairOf : Binding → Fact → ℕ
-pairOf b f = 4 * share b (f .first) + share b (f .second)
+pairOf b f = 4 * digit b (f .first) + digit b (f .second)
 
-unfoldable pub noShares : List ℕ
-noShares = replicate 256 atomsPerRelation
+unfoldable pub noDigits : List ℕ
+noDigits = replicate 256 atomsPerRelation
 
 -- a table of the shares, by the number of the object
 pub record Inverts (b : Binding) (t : List ℕ) : Type 0 where
   pub long : length t ≡ 256
-  pub gives : (x : ℕ) → x < 256 → getD t x 0 ≡ share b (record { 0 = x })
+  pub gives : (x : ℕ) → x < 256 → getD t x 0 ≡ digit b (record { 0 = x })
 
 -- ---- the facts of a state
 

@@ -8,7 +8,7 @@ ghost use Rattle.limits.specs.Limits.{setSize, nearCeiling, farCeiling};
 ghost use Rattle.mask.specs.Sets.{empty};
 ghost use Rattle.format.specs.Decode.{stateAt, stateEnd};
 ghost use Rattle.observed.specs.Inverse.{mark, marks, sameFact, unboundChanged};
-ghost use Rattle.marks.specs.Marks.{noShares, Inverts, pairOf, rest, next, Ahead, Comes, Turned, StepMarked};
+ghost use Rattle.marks.specs.Marks.{noDigits, Inverts, pairOf, rest, next, Ahead, Comes, Turned, StepMarked};
 use terms::Binding;
 use terms::Fact;
 use terms::Object;
@@ -21,26 +21,26 @@ const UNBOUND: usize = limits::ATOMS_PER_RELATION;
 // ---- from a fact to its bound fact
 
 // A table with no parameter's object in it.
-fn no_shares() -> [u8; 256]
-    ensures { λ r. ⌜ r ≡ noShares ⌝ }
+fn no_digits() -> [u8; 256]
+    ensures { λ r. ⌜ r ≡ noDigits ⌝ }
 {
     [16u8; 256]
 }
 
-fn give(t: &mut [u8], x: Object, share: u8)
-    ensures { λ _. ⌜ now (t .exit) ≡ set (now (t .entry)) (x .0) share ⌝ }
+fn give(t: &mut [u8], x: Object, digit: u8)
+    ensures { λ _. ⌜ now (t .exit) ≡ set (now (t .entry)) (x .0) digit ⌝ }
 {
     let i = x.0 as usize;
     if t.len() <= i {
         return;
     }
-    t[i] = share;
+    t[i] = digit;
 }
 
 // What each object adds to a bound fact's number in the second place, by the object's number. A parameter of a lower number is put in
 // later, and so counts; an unused place, object 0, adds nothing.
 fn invert(t: &mut [u8], b: Binding)
-    requires { ⌜ now t ≡ noShares ⌝ }
+    requires { ⌜ now t ≡ noDigits ⌝ }
     ensures { λ _. ⌜ Inverts b (now (t .exit)) ⌝ }
 {
     give(t, b.object(Param(4)), 3);
@@ -191,7 +191,7 @@ pub fn mark_step(
     requires { ⌜ (now before ≡ empty setSize) × (now after ≡ empty setSize) ⌝ }
     ensures { λ r. ⌜ StepMarked b (stateAt (now (s .entry)) pre) (stateAt (now (s .entry)) post) (now (before .exit)) (now (after .exit)) r ⌝ }
 {
-    let mut t = no_shares();
+    let mut t = no_digits();
     invert(&mut t, b);
     let mut w = Walk {
         pre: Cursor::of_state(s, pre),

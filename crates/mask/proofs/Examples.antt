@@ -7,7 +7,7 @@ use Prim.Native.Nat.{_%_}
 use lib.Count.{ones}
 use lib.Dec.{eqb}
 use Rattle.mask.specs.Bits.{bitOf, without, testBit, setBit, clearBit}
-use Rattle.mask.specs.Sets.{bytewise, intersection, union, difference, empty, size, maskOf}
+use Rattle.mask.specs.Sets.{bytewise, intersection, union, difference, empty, cardinality, maskOf}
 
 -- 10 is bit 2 of byte 1
 ten-in : setBit (empty 2) 10 ≡ 0 ∷ 4 ∷ []
@@ -44,6 +44,6 @@ unfolding maskOf
 multiples-of-three = refl
 
 -- 0, 3, .., 4095
-size-of-multiples : size (maskOf 512 (λ n. eqb (n % 3) 0)) ≡ 1366
-unfolding maskOf size ones
+size-of-multiples : cardinality (maskOf 512 (λ n. eqb (n % 3) 0)) ≡ 1366
+unfolding maskOf cardinality ones
 size-of-multiples = refl

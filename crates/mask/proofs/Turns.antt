@@ -13,7 +13,7 @@ use lib.ListN.{length, getD, take, drop, set, length-set, drop-of-length-le}
 use lib.Pow.{shl-exact}
 use lib.Seq.{append-snoc, drop-cons, drop-drop, drop-set-lt, getD-drop, take-all, take-suc-set}
 use Rattle.mask.specs.Bits.{without}
-use Rattle.mask.specs.Sets.{bytewise, difference, size}
+use Rattle.mask.specs.Sets.{bytewise, difference, cardinality}
 use Rattle.mask.proofs.Bytes.{byte-bytewise}
 use Rattle.mask.proofs.Laws.{power-byte, without-none}
 use Rattle.mask.proofs.Numbers.{and-not}
@@ -91,10 +91,10 @@ byte-difference a b i {x} {y} e e′ h h′ =
     and-not x y h h′ ∙ ap₂ without e e′ ∙ sym (byte-bytewise without a b i (λ o. without-none (getD b i 0)))
 
 -- ---- the count of the bytes from i on
-pub size-turn : (m : List ℕ) (i : ℕ) → i < length m → size (drop i m) ≡ ones (getD m i 0) + size (drop (i + 1) m)
-unfolding size
-size-turn m i h = ap size (drop-cons m i 0 h) ∙ ap (λ (k : ℕ). ones (getD m i 0) + size (drop k m)) (sym (add-one i))
+pub size-turn : (m : List ℕ) (i : ℕ) → i < length m → cardinality (drop i m) ≡ ones (getD m i 0) + cardinality (drop (i + 1) m)
+unfolding cardinality
+size-turn m i h = ap cardinality (drop-cons m i 0 h) ∙ ap (λ (k : ℕ). ones (getD m i 0) + cardinality (drop k m)) (sym (add-one i))
 
-pub size-all : (m : List ℕ) (i : ℕ) → length m ≤ i → size (drop i m) ≡ 0
-unfolding size
-size-all m i h = ap size (drop-of-length-le m h)
+pub size-all : (m : List ℕ) (i : ℕ) → length m ≤ i → cardinality (drop i m) ≡ 0
+unfolding cardinality
+size-all m i h = ap cardinality (drop-of-length-le m h)

@@ -12,7 +12,7 @@ use lib.Dec.{eqb, ltb}
 use lib.ListN.{length, getD, List·getD-eq-default}
 use lib.Seq.{ext-getD}
 use Rattle.mask.specs.Bits.{bitOf, testBit, setBit, clearBit, putBit, Bytes}
-use Rattle.mask.specs.Sets.{bytewise, intersection, union, difference, empty, size, countBelow, number, bytesFrom, maskOf}
+use Rattle.mask.specs.Sets.{bytewise, intersection, union, difference, empty, cardinality, countBelow, number, bytesFrom, maskOf}
 use Rattle.mask.proofs.Laws.{test-empty, length-empty, bytes-empty, test-set-below, length-setBit, bytes-setBit, test-clear, length-clearBit, bytes-clearBit}
 use Rattle.mask.proofs.Laws.{test-intersection, length-intersection, bytes-intersection, test-union-below, length-union, bytes-union, test-difference, length-difference, bytes-difference}
 use Rattle.mask.proofs.Numbers.{bits-ext, number-lt, bit-number, count-same, count-split, ones-bits}
@@ -196,17 +196,17 @@ count-tail x m n = count-same n (testBit m) (λ j. testBit (x ∷ m) (8 + j)) (�
         ap₂ (λ (a b : ℕ). bitOf (getD (x ∷ m) a 0) b) d r
 
 -- The count of ones is the number of elements.
-pub size-count : (m : List ℕ) → Bytes m → size m ≡ countBelow (8 * length m) (testBit m)
-unfolding size countBelow
-size-count [] h = refl
-size-count (x ∷ m) h =
+pub cardinality-count : (m : List ℕ) → Bytes m → cardinality m ≡ countBelow (8 * length m) (testBit m)
+unfolding cardinality countBelow
+cardinality-count [] h = refl
+cardinality-count (x ∷ m) h =
     let low = ones-bits 8 x (h 0) ∙ count-head x m in
-    let up = size-count m (λ i. h (suc i)) ∙ count-tail x m (8 * length m) in
+    let up = cardinality-count m (λ i. h (suc i)) ∙ count-tail x m (8 * length m) in
     let e : 8 + 8 * length m ≡ 8 * suc (length m) = omega arith in
     ap₂ (λ (a b : ℕ). a + b) low up ∙ sym (count-split 8 (8 * length m) (testBit (x ∷ m)))
     ∙ ap (λ (n : ℕ). countBelow n (testBit (x ∷ m))) e
 
-pub size-maskOf : (len : ℕ) (p : ℕ → Bool) → size (maskOf len p) ≡ countBelow (8 * len) p
+pub size-maskOf : (len : ℕ) (p : ℕ → Bool) → cardinality (maskOf len p) ≡ countBelow (8 * len) p
 size-maskOf len p =
-    size-count (maskOf len p) (bytes-maskOf len p) ∙ ap (λ (k : ℕ). countBelow (8 * k) (testBit (maskOf len p))) (length-maskOf len p)
+    cardinality-count (maskOf len p) (bytes-maskOf len p) ∙ ap (λ (k : ℕ). countBelow (8 * k) (testBit (maskOf len p))) (length-maskOf len p)
     ∙ count-same (8 * len) (testBit (maskOf len p)) p (test-maskOf len p)

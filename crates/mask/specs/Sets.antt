@@ -28,9 +28,9 @@ unfoldable pub empty : ℕ → List ℕ
 empty len = replicate len 0
 
 -- how many numbers are in the mask
-unfoldable pub size : List ℕ → ℕ
-size [] = 0
-size (x ∷ m) = ones x + size m
+unfoldable pub cardinality : List ℕ → ℕ
+cardinality [] = 0
+cardinality (x ∷ m) = ones x + cardinality m
 
 unfoldable pub digit : Bool → ℕ
 digit true = 1

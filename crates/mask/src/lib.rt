@@ -5,7 +5,7 @@ ghost use mathlib.Core.Path.{_≡_};
 ghost use Prim.Native.Nat.{_*_, _^_, _<_, _≤_};
 ghost use lib.ListN.{length, getD};
 ghost use Rattle.mask.specs.Bits.{testBit, setBit, clearBit, putBit};
-ghost use Rattle.mask.specs.Sets.{intersection, union, difference, empty, size};
+ghost use Rattle.mask.specs.Sets.{intersection, union, difference, empty, cardinality};
 
 // The byte at an index, 0 past the end: no caller has an index to show.
 fn byte_at(m: &[u8], i: usize) -> u8
@@ -77,7 +77,7 @@ pub fn unite_difference(acc: &mut [u8], a: &[u8], b: &[u8])
 // How many numbers are in the mask. The bound on its length keeps the sum within a usize.
 pub fn count(m: &[u8]) -> usize
     requires { ⌜ length (now m) ≤ 2 ^ 60 ⌝ }
-    ensures { λ r. ⌜ (r ≡ size (now (m .entry))) × (r ≤ 8 * length (now (m .entry))) ⌝ }
+    ensures { λ r. ⌜ (r ≡ cardinality (now (m .entry))) × (r ≤ 8 * length (now (m .entry))) ⌝ }
 {
     let mut n: usize = 0;
     let mut i = 0;
@@ -133,7 +133,7 @@ pub fn mark32(m: &mut [u8; 32], n: usize)
 }
 
 pub fn count32(m: [u8; 32]) -> usize
-    ensures { λ r. ⌜ (r ≡ size m) × (r ≤ 256) ⌝ }
+    ensures { λ r. ⌜ (r ≡ cardinality m) × (r ≤ 256) ⌝ }
 {
     count(&m)
 }

@@ -16,13 +16,13 @@ use Rattle.input.specs.Bytes.{byteAt}
 use Rattle.terms.specs.declared.Sections.{Sections}
 use Rattle.terms.specs.declared.Objects.{Objects}
 use Rattle.terms.specs.declared.Step.{Step}
-use Rattle.terms.specs.Schema.{Schema, TypedObjects, schema, typedObjects, numberBad}
+use Rattle.terms.specs.Schema.{Schema, TypedObjects, schema, typedObjects, outOfRange}
 use Rattle.terms.specs.Facts.{factAt, factBad, precedes, noFact}
 use Rattle.terms.specs.Steps.{stepAt, stepBad, repeats}
 use Rattle.limits.specs.Limits.{headerSize, maxObjects, entrySize, nearCeiling}
 use Rattle.format.specs.States.{facts}
 use Rattle.format.specs.Order.{objectCount, startCount, startAt, orderObjects, orderObject, entryBad, orderForm, fromStart, orderHeaderBad, planStepBad}
-use Rattle.tables.specs.Tables.{Kinds}
+use Rattle.tables.specs.Tables.{RightByKind}
 use Rattle.states.specs.declared.FactCursor.{FactCursor}
 use Rattle.states.specs.Cursor.{misplaced}
 use Rattle.states.proofs.Cursors.{fact-of}
@@ -59,7 +59,7 @@ pub walk-same : (item : ℕ → Answer) (n m a b : ℕ) → n ≡ m → a ≡ b 
 walk-same item n m a b p q = rw (p, q)
 
 -- row 15
-pub object-bad-by : (kinds : ℕ) (o : List ℕ) (at kind : ℕ) (b : Bool) → kind ≡ byteAt o at → b ≡ numberBad kinds kind → b ≡ numberBad kinds (byteAt o at)
+pub object-bad-by : (kinds : ℕ) (o : List ℕ) (at kind : ℕ) (b : Bool) → kind ≡ byteAt o at → b ≡ outOfRange kinds kind → b ≡ outOfRange kinds (byteAt o at)
 object-bad-by kinds o at kind b p q = rw (← p) q
 
 -- the objects stand behind the header, and are few enough for a table
@@ -69,7 +69,7 @@ objects-fit o objects e l = rw e (omega arith, omega arith)
 
 -- the tables are those of the order's own objects
 pub own-kinds : (sch : Schema) (o ks : List ℕ) (objects : Objects) → objects ≡ orderObjects o
-    → Kinds sch (typedObjects objects o) ks → Kinds sch (typedObjects (orderObjects o) o) ks
+    → RightByKind sch (typedObjects objects o) ks → RightByKind sch (typedObjects (orderObjects o) o) ks
 own-kinds sch o ks objects e right = rw e at right
 
 pub kinds-are : (h : Sections) (s : List ℕ) → h .kinds ≡ schema h s .kinds

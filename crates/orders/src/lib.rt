@@ -16,7 +16,7 @@ ghost use Rattle.limits.specs.Limits.{headerSize, maxObjects, maxFacts, farCeil
 ghost use Rattle.format.specs.States.{facts};
 ghost use Rattle.format.specs.Order.{objectCount, startCount, goalCount, stepCount, startAt, goalAt, stepsAt, orderObjects};
 ghost use Rattle.format.specs.Order.{orderObject, entries, planStepBad, planStep, fromGoal, fromStart, orderForm};
-ghost use Rattle.tables.specs.Tables.{ForKinds, ForTabled, Follows};
+ghost use Rattle.tables.specs.Tables.{ForRightByKind, ForRightByPlace, RightFrom};
 
 // Row 15 of each object.
 fn objects(o: &[u8], kinds: u16) -> Answer
@@ -25,7 +25,7 @@ fn objects(o: &[u8], kinds: u16) -> Answer
     let mut left = orderhead::object_count(o);
     let mut at = limits::HEADER_SIZE;
     while 0 < left {
-        if terms::number_bad(kinds, input::byte_at(o, at)) {
+        if terms::out_of_range(kinds, input::byte_at(o, at)) {
             return Answer::Refused(15, at);
         }
         at += 1;
@@ -37,7 +37,7 @@ fn objects(o: &[u8], kinds: u16) -> Answer
 // Row 16: the start section, whose facts are looked at as those of a state are.
 fn start(o: &[u8], table: &[u32; 512]) -> Answer
     requires { ⌜ startCount (now o) ≤ maxFacts ⌝ }
-    ensures { λ r. ⌜ ForTabled (now (table .entry)) (λ sch ob. r ≡ facts 16 sch ob (now (o .entry)) (length (now (o .entry))) (startCount (now (o .entry))) noFact (startAt (now (o .entry)))) ⌝ }
+    ensures { λ r. ⌜ ForRightByPlace (now (table .entry)) (λ sch ob. r ≡ facts 16 sch ob (now (o .entry)) (length (now (o .entry))) (startCount (now (o .entry))) noFact (startAt (now (o .entry)))) ⌝ }
 {
     states::facts(
         16,
@@ -52,7 +52,7 @@ fn start(o: &[u8], table: &[u32; 512]) -> Answer
 // Row 17 of each goal entry: a byte, then a fact, by the cursor that looks at a state's.
 fn goal(o: &[u8], table: &[u32; 512]) -> Answer
     requires { ⌜ stepsAt (now o) ≤ length (now o) ⌝ }
-    ensures { λ r. ⌜ ForTabled (now (table .entry)) (λ sch ob. r ≡ entries sch ob (now (o .entry)) (goalCount (now (o .entry))) noFact (goalAt (now (o .entry)))) ⌝ }
+    ensures { λ r. ⌜ ForRightByPlace (now (table .entry)) (λ sch ob. r ≡ entries sch ob (now (o .entry)) (goalCount (now (o .entry))) noFact (goalAt (now (o .entry)))) ⌝ }
 {
     let mut c = FactCursor::new(
         limits::ENTRY_SIZE,
@@ -72,7 +72,7 @@ fn goal(o: &[u8], table: &[u32; 512]) -> Answer
 // Row 18, of the step at an offset.
 fn step_bad(book: &[u8], h: Sections, kinds: &[u32; 256], o: &[u8], at: usize) -> bool
     requires { ⌜ at ≤ farCeiling ⌝ }
-    ensures { λ r. ⌜ ForKinds (schema h (now (book .entry))) (now (kinds .entry)) (λ ob. r ≡ planStepBad (schema h (now (book .entry))) ob (now (o .entry)) at) ⌝ }
+    ensures { λ r. ⌜ ForRightByKind (schema h (now (book .entry))) (now (kinds .entry)) (λ ob. r ≡ planStepBad (schema h (now (book .entry))) ob (now (o .entry)) at) ⌝ }
 {
     let step = Step::read(o, at);
     tables::step_bad(book, h, kinds, step) | step.repeats()
@@ -80,7 +80,7 @@ fn step_bad(book: &[u8], h: Sections, kinds: &[u32; 256], o: &[u8], at: usize) -
 
 // Row 18 of each plan step.
 fn plan(book: &[u8], h: Sections, kinds: &[u32; 256], o: &[u8]) -> Answer
-    ensures { λ r. ⌜ ForKinds (schema h (now (book .entry))) (now (kinds .entry)) (λ ob. r ≡ walk (planStep (schema h (now (book .entry))) ob (now (o .entry))) (stepCount (now (o .entry))) (stepsAt (now (o .entry)))) ⌝ }
+    ensures { λ r. ⌜ ForRightByKind (schema h (now (book .entry))) (now (kinds .entry)) (λ ob. r ≡ walk (planStep (schema h (now (book .entry))) ob (now (o .entry))) (stepCount (now (o .entry))) (stepsAt (now (o .entry)))) ⌝ }
 {
     let mut left = orderhead::step_count(o);
     let mut at = orderhead::steps_at(o);
@@ -96,8 +96,8 @@ fn plan(book: &[u8], h: Sections, kinds: &[u32; 256], o: &[u8]) -> Answer
 
 // Rows 17 and 18.
 fn from_goal(book: &[u8], h: Sections, kinds: &[u32; 256], table: &[u32; 512], o: &[u8]) -> Answer
-    requires { ⌜ Follows (schema h (now book)) (now kinds) (now table) × (stepsAt (now o) ≤ length (now o)) ⌝ }
-    ensures { λ r. ⌜ ForKinds (schema h (now (book .entry))) (now (kinds .entry)) (λ ob. r ≡ fromGoal (schema h (now (book .entry))) ob (now (o .entry))) ⌝ }
+    requires { ⌜ RightFrom (schema h (now book)) (now kinds) (now table) × (stepsAt (now o) ≤ length (now o)) ⌝ }
+    ensures { λ r. ⌜ ForRightByKind (schema h (now (book .entry))) (now (kinds .entry)) (λ ob. r ≡ fromGoal (schema h (now (book .entry))) ob (now (o .entry))) ⌝ }
 {
     let wanted = goal(o, table);
     if answer::is_refused(wanted) {

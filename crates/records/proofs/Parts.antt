@@ -14,7 +14,7 @@ use Rattle.answer.specs.Laws.{refuse-met, refuse-unmet}
 use Rattle.answer.specs.Walk.{walk}
 use Rattle.input.specs.Bytes.{byteAt}
 use Rattle.terms.specs.declared.Step.{Step}
-use Rattle.terms.specs.Schema.{Schema, TypedObjects, numberBad}
+use Rattle.terms.specs.Schema.{Schema, TypedObjects, outOfRange}
 use Rattle.terms.specs.Steps.{stepAt, stepBad, repeats}
 use Rattle.limits.specs.Limits.{stepSize}
 use Rattle.format.specs.States.{cut, state}
@@ -24,8 +24,8 @@ use Rattle.answer.specs.Turns.{part-stays, part-follows}
 -- row 7, as the code meets it
 pub object-bad-by : (kinds : ℕ) (s : List ℕ) (end at x : ℕ) (b : Bool)
     → x ≡ byteAt s at
-    → b ≡ numberBad kinds x
-    → (ltb end (at + 1) || b) ≡ (cut end at 1 || numberBad kinds (byteAt s at))
+    → b ≡ outOfRange kinds x
+    → (ltb end (at + 1) || b) ≡ (cut end at 1 || outOfRange kinds (byteAt s at))
 unfolding cut
 object-bad-by kinds s end at x b p q = rw (q, p)
 

@@ -11,7 +11,7 @@ ghost use Rattle.answer.specs.Walk.{walk};
 ghost use Rattle.terms.specs.Schema.{schema, typedObjects};
 ghost use Rattle.limits.specs.Limits.{maxLength, maxObjects, nearCeiling};
 ghost use Rattle.format.specs.Records.{headBad, object, stepRefused, step, trajectory, closed, body, recordAt};
-ghost use Rattle.tables.specs.Tables.{ForKinds};
+ghost use Rattle.tables.specs.Tables.{ForRightByKind};
 ghost use Rattle.records.specs.Head.{headOf};
 ghost use Rattle.records.specs.Readable.{Readable};
 
@@ -56,7 +56,7 @@ fn objects(s: &[u8], kinds: u16, end: usize, n: usize, from: usize) -> Answer
     let mut left = n;
     let mut at = from;
     while 0 < left {
-        if (end < at + 1) | terms::number_bad(kinds, input::byte_at(s, at)) {
+        if (end < at + 1) | terms::out_of_range(kinds, input::byte_at(s, at)) {
             return Answer::Refused(7, at);
         }
         at += 1;
@@ -68,7 +68,7 @@ fn objects(s: &[u8], kinds: u16, end: usize, n: usize, from: usize) -> Answer
 // Row 9.
 fn step_refused(book: &[u8], h: Sections, kinds: &[u32; 256], end: usize, at: usize) -> bool
     requires { ⌜ (end ≤ length (now book)) × (at ≤ maxLength) ⌝ }
-    ensures { λ r. ⌜ ForKinds (schema h (now (book .entry))) (now (kinds .entry)) (λ ob. r ≡ stepRefused (schema h (now (book .entry))) ob (now (book .entry)) end at) ⌝ }
+    ensures { λ r. ⌜ ForRightByKind (schema h (now (book .entry))) (now (kinds .entry)) (λ ob. r ≡ stepRefused (schema h (now (book .entry))) ob (now (book .entry)) end at) ⌝ }
 {
     if end < at + limits::STEP_SIZE {
         return true;

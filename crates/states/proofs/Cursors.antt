@@ -11,7 +11,7 @@ use Rattle.terms.specs.Facts.{factAt, precedes}
 use Rattle.terms.specs.Told.{suits}
 use Rattle.limits.specs.Limits.{factSize}
 use Rattle.format.specs.States.{cut, factRefused}
-use Rattle.tables.specs.Tables.{Tabled}
+use Rattle.tables.specs.Tables.{RightByPlace}
 use Rattle.states.specs.declared.FactCursor.{FactCursor}
 use Rattle.states.specs.Cursor.{factOf, misplaced}
 
@@ -21,14 +21,14 @@ module _ (sch : Schema) (ob : TypedObjects) (s : List ℕ) where
   unfolding factOf
   fact-of c at e = rw e refl
 
-  pub misplaced-by : (table : List ℕ) → Tabled sch ob table
+  pub misplaced-by : (table : List ℕ) → RightByPlace sch ob table
       → (c : FactCursor) (f : Fact) (a b : Bool)
       → f .relation .0 < 256
       → f ≡ factOf s c
       → a ≡ suits table f
       → b ≡ precedes (c .last) f
       → (not a || not b) ≡ misplaced sch ob s c
-  unfolding misplaced Tabled
+  unfolding misplaced RightByPlace
   misplaced-by table right c f a b l p q r = rw (q, right f l, r, p) refl
 
   module _ (end : ℕ) where

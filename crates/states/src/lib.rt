@@ -12,7 +12,7 @@ ghost use Rattle.input.specs.Bytes.{two};
 ghost use Rattle.terms.specs.Facts.{noFact};
 ghost use Rattle.terms.specs.Told.{factKey};
 ghost use Rattle.format.specs.States.{countBad, factRefused, facts, state};
-ghost use Rattle.tables.specs.Tables.{ForTabled};
+ghost use Rattle.tables.specs.Tables.{ForRightByPlace};
 ghost use Rattle.states.specs.Cursor.{Ahead, factOf, misplaced};
 
 // Facts still to be looked at, each at the end of an item of a size: from where, how many, and the fact before them with its key. The items
@@ -49,7 +49,7 @@ impl FactCursor {
     // The fact at the cursor is wrong, or not behind the one before it.
     pub fn bad(self, t: &[u8], table: &[u32; 512]) -> bool
         requires { ⌜ Ahead (now t) self ⌝ }
-        ensures { λ r. ⌜ ForTabled (now (table .entry)) (λ sch ob. r ≡ misplaced sch ob (now (t .entry)) self) ⌝ }
+        ensures { λ r. ⌜ ForRightByPlace (now (table .entry)) (λ sch ob. r ≡ misplaced sch ob (now (t .entry)) self) ⌝ }
     {
         let f = self.fact(t);
         !f.suits(table) | !f.follows(self.last, self.key)
@@ -73,7 +73,7 @@ impl FactCursor {
 // The fact at the cursor is cut, wrong, or not behind the one before it.
 fn refused(c: FactCursor, t: &[u8], table: &[u32; 512], end: usize) -> bool
     requires { ⌜ (end ≤ length (now t)) × (c .at + factSize ≤ farCeiling) × (c .size ≡ factSize) × (c .key ≡ factKey (c .last)) ⌝ }
-    ensures { λ r. ⌜ (r ≡ false → c .at + factSize ≤ end) × ForTabled (now (table .entry)) (λ sch ob. r ≡ factRefused sch ob (now (t .entry)) end (c .last) (c .at)) ⌝ }
+    ensures { λ r. ⌜ (r ≡ false → c .at + factSize ≤ end) × ForRightByPlace (now (table .entry)) (λ sch ob. r ≡ factRefused sch ob (now (t .entry)) end (c .last) (c .at)) ⌝ }
 {
     if end < c.at + limits::FACT_SIZE {
         return true;
@@ -91,7 +91,7 @@ pub fn facts(
     from: usize,
 ) -> Answer
     requires { ⌜ (end ≤ length (now t)) × (from ≤ nearCeiling + countSize) × (n ≤ maxFacts) ⌝ }
-    ensures { λ r. ⌜ ForTabled (now (table .entry)) (λ sch ob. r ≡ facts number sch ob (now (t .entry)) end n noFact from) ⌝ }
+    ensures { λ r. ⌜ ForRightByPlace (now (table .entry)) (λ sch ob. r ≡ facts number sch ob (now (t .entry)) end n noFact from) ⌝ }
 {
     let mut c = FactCursor::new(limits::FACT_SIZE, n, from);
     while 0 < c.left {
@@ -130,7 +130,7 @@ fn count_bad(s: &[u8], end: usize, at: usize) -> bool
 // Row 8.
 pub fn state(book: &[u8], table: &[u32; 512], end: usize, at: usize) -> Answer
     requires { ⌜ (end ≤ length (now book)) × (at ≤ nearCeiling) ⌝ }
-    ensures { λ r. ⌜ ForTabled (now (table .entry)) (λ sch ob. r ≡ state sch ob (now (book .entry)) end at) ⌝ }
+    ensures { λ r. ⌜ ForRightByPlace (now (table .entry)) (λ sch ob. r ≡ state sch ob (now (book .entry)) end at) ⌝ }
 {
     if count_bad(book, end, at) {
         return Answer::Refused(8, at);

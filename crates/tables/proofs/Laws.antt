@@ -11,11 +11,11 @@ use Rattle.objectset.specs.Sets.{member, entry}
 use Rattle.objectset.proofs.Laws.{member-none, member-one}
 use Rattle.terms.specs.declared.Object.{Object}
 use Rattle.terms.specs.declared.Relation.{Relation}
-use Rattle.terms.specs.Schema.{Schema, TypedObjects, numberBad, kindSuits, objectBad}
+use Rattle.terms.specs.Schema.{Schema, TypedObjects, outOfRange, kindSuits, objectBad}
 use Rattle.terms.specs.Facts.{factBad}
 use Rattle.terms.specs.Told.{suits}
-use Rattle.tables.specs.Tables.{Kinds, kindsBad, placeSet, Tabled, Follows}
-use Rattle.tables.proofs.Turns.{below-all, KindsTo, RowsTo}
+use Rattle.tables.specs.Tables.{RightByKind, kindsBad, placeSet, RightByPlace, RightFrom}
+use Rattle.tables.proofs.Turns.{below-all, RightByKindTo, RowsTo}
 
 -- ---- one place
 module _ (sch : Schema) (ks : List ℕ) (r : Relation) (i places : ℕ) (is : places ≡ sch .places r) where
@@ -28,8 +28,8 @@ module _ (sch : Schema) (ks : List ℕ) (r : Relation) (i places : ℕ) (is : pl
   place-unused l = rw (← is, lt-leb i places l) refl
 
 -- ---- the table by kind
-pub kinds-right : (sch : Schema) (ob : TypedObjects) (n : ℕ) (ks : List ℕ) → n ≡ ob .count + 1 → KindsTo sch (λ x. ob .kind (record { 0 = x })) n ks → Kinds sch ob ks
-unfolding Kinds KindsTo
+pub kinds-right : (sch : Schema) (ob : TypedObjects) (n : ℕ) (ks : List ℕ) → n ≡ ob .count + 1 → RightByKindTo sch (λ x. ob .kind (record { 0 = x })) n ks → RightByKind sch ob ks
+unfolding RightByKind RightByKindTo
 kinds-right sch ob n ks e i k x =
     i .1 k (x .0) ∙ ap (λ (b : Bool). b && kindSuits sch k (ob .kind x)) (below-all (ob .count) n (x .0) (λ l. omega arith) (λ l. omega arith))
 
@@ -38,19 +38,19 @@ both-good true s = refl
 both-good false true = refl
 both-good false false = refl
 
-module _ (sch : Schema) (ob : TypedObjects) (ks : List ℕ) (right : Kinds sch ob ks) where
-  object-in : (named : ℕ) (x : Object) → member (entry ks named) (x .0) ≡ not (numberBad (ob .count) (x .0) || not (kindSuits sch named (ob .kind x)))
-  unfolding Kinds
-  object-in named x = right named x ∙ both-good (numberBad (ob .count) (x .0)) (kindSuits sch named (ob .kind x))
+module _ (sch : Schema) (ob : TypedObjects) (ks : List ℕ) (right : RightByKind sch ob ks) where
+  object-in : (named : ℕ) (x : Object) → member (entry ks named) (x .0) ≡ not (outOfRange (ob .count) (x .0) || not (kindSuits sch named (ob .kind x)))
+  unfolding RightByKind
+  object-in named x = right named x ∙ both-good (outOfRange (ob .count) (x .0)) (kindSuits sch named (ob .kind x))
 
   pub kinds-bad : (used : Bool) (named : ℕ) (x : Object) → kindsBad ks used named x ≡ objectBad sch ob used named x
   unfolding kindsBad objectBad
-  kinds-bad used named x = rw (object-in named x, Bool·not-not (numberBad (ob .count) (x .0) || not (kindSuits sch named (ob .kind x)))) refl
+  kinds-bad used named x = rw (object-in named x, Bool·not-not (outOfRange (ob .count) (x .0) || not (kindSuits sch named (ob .kind x)))) refl
 
   place-in : (used : Bool) (named : ℕ) (x : Object) → member (cond used (entry ks named) 1) (x .0) ≡ not (objectBad sch ob used named x)
   unfolding objectBad
   place-in true named x =
-      rw (or-false (numberBad (ob .count) (x .0) || not (kindSuits sch named (ob .kind x)))) (object-in named x)
+      rw (or-false (outOfRange (ob .count) (x .0) || not (kindSuits sch named (ob .kind x)))) (object-in named x)
   place-in false named x = member-one (x .0) ∙ sym (Bool·not-not (eqb (x .0) 0))
 
   pub place-set-in : (r : Relation) (i : ℕ) (x : Object)
@@ -67,17 +67,17 @@ module _ (sch : Schema) (ob : TypedObjects) (ks : List ℕ) (right : Kinds sch o
   either false false true p q x y e f = rw (e, f) refl
   either false false false p q x y e f = rw (e, f) refl
 
-  rows-tabled : (n : ℕ) (t : List ℕ)
+  rows-right : (n : ℕ) (t : List ℕ)
       → n ≤ sch .relations + 1
       → ((x : ℕ) → x < 256 → x ≤ sch .relations → x < n)
       → RowsTo (λ q. placeSet sch ks (record { 0 = q }) 1) (λ q. placeSet sch ks (record { 0 = q }) 2) n t
-      → Tabled sch ob t
-  unfolding Tabled RowsTo suits factBad
-  rows-tabled n t l g i f k =
+      → RightByPlace sch ob t
+  unfolding RightByPlace RowsTo suits factBad
+  rows-right n t l g i f k =
       let r = f .relation .0 in
       let b = below-all (sch .relations) n r (g r k) (λ m. omega arith) in
       rw (i .1 r k .0, i .1 r k .1, b)
-      (either (numberBad (sch .relations) r) _ _ _ _ _ _ (place-set-in (f .relation) 1 (f .first)) (place-set-in (f .relation) 2 (f .second)))
+      (either (outOfRange (sch .relations) r) _ _ _ _ _ _ (place-set-in (f .relation) 1 (f .first)) (place-set-in (f .relation) 2 (f .second)))
 
 -- a walk over the relations goes on, and ends behind the last of them that is a byte
 pub goes-on : (count n : ℕ) → (leb n count && ltb n 256) ≡ true → (n ≤ count) × (n < 256)
@@ -92,6 +92,6 @@ pub rows-follow : (sch : Schema) (ks : List ℕ) (n : ℕ) (t : List ℕ)
     → n ≤ sch .relations + 1
     → (leb n (sch .relations) && ltb n 256) ≡ false
     → RowsTo (λ q. placeSet sch ks (record { 0 = q }) 1) (λ q. placeSet sch ks (record { 0 = q }) 2) n t
-    → Follows sch ks t
-unfolding Follows
-rows-follow sch ks n t l g i ob right = rows-tabled sch ob ks right n t l (walked (sch .relations) n _ _ refl refl g) i
+    → RightFrom sch ks t
+unfolding RightFrom
+rows-follow sch ks n t l g i ob right = rows-right sch ob ks right n t l (walked (sch .relations) n _ _ refl refl g) i

@@ -13,7 +13,7 @@ use Rattle.mask.proofs.Laws.{length-empty}
 use Rattle.mask.proofs.Whole.{ltb-next}
 use Rattle.objectset.specs.Sets.{member, entry, put, stored}
 use Rattle.objectset.proofs.Laws.{member-none, member-put, put-same, put-other, length-put, entry-empty, stored-same, stored-other, length-stored}
-use Rattle.terms.specs.Schema.{Schema, numberBad, kindSuits}
+use Rattle.terms.specs.Schema.{Schema, outOfRange, kindSuits}
 use Rattle.terms.proofs.Suits.{suits-own, suits-no-other}
 use Rattle.tables.specs.Tables.{Joined}
 
@@ -58,13 +58,13 @@ below-bools count n x false false e f g i =
     let j = ltb-false count x f in
     rw (le-leb 1 x h, lt-ltb x n (g j)) refl
 
-pub below-all : (count n x : ℕ) → (x ≤ count → x < n) → (count < x → n ≤ x) → below n x ≡ not (numberBad count x)
-unfolding numberBad
+pub below-all : (count n x : ℕ) → (x ≤ count → x < n) → (count < x → n ≤ x) → below n x ≡ not (outOfRange count x)
+unfolding outOfRange
 below-all count n x g i = below-bools count n x (ltb x 1) (ltb count x) refl refl g i
 
 -- ---- the table by kind, when the objects below n are in it
-unfoldable pub KindsTo : Schema → (ℕ → ℕ) → ℕ → List ℕ → Type 0
-KindsTo sch kind n ks = (length ks ≡ 256) × ((k x : ℕ) → member (entry ks k) x ≡ (below n x && kindSuits sch k (kind x)))
+unfoldable pub RightByKindTo : Schema → (ℕ → ℕ) → ℕ → List ℕ → Type 0
+RightByKindTo sch kind n ks = (length ks ≡ 256) × ((k x : ℕ) → member (entry ks k) x ≡ (below n x && kindSuits sch k (kind x)))
 
 -- an object put into the set of its own kind is in the set of each kind that this suits
 pub put-joined : (sch : Schema) (kind x : ℕ) (t new : List ℕ) → x < 32 → kind < length t → new ≡ put t kind x → Joined sch kind x t new
@@ -76,12 +76,12 @@ put-joined sch kind x t new l h e = rw e (length-put t kind x, λ k y. by k y (�
     by k y (no d) = rw (put-other t kind x k d, suits-no-other sch k kind d, and-false (eqb x y)) (sym (or-false (member (entry t k) y)))
 
 module _ (sch : Schema) (kind : ℕ → ℕ) where
-  pub kinds-none : (ks : List ℕ) → ks ≡ empty 256 → KindsTo sch kind 1 ks
-  unfolding KindsTo
+  pub kinds-none : (ks : List ℕ) → ks ≡ empty 256 → RightByKindTo sch kind 1 ks
+  unfolding RightByKindTo
   kinds-none ks e = rw e (length-empty 256, λ k x. rw (entry-empty 256 k, below-one x) (member-none x))
 
-  pub kinds-turn : (n j : ℕ) (ks new : List ℕ) → KindsTo sch kind n ks → 1 ≤ n → j ≡ kind n → Joined sch j n ks new → KindsTo sch kind (n + 1) new
-  unfolding KindsTo Joined
+  pub kinds-turn : (n j : ℕ) (ks new : List ℕ) → RightByKindTo sch kind n ks → 1 ≤ n → j ≡ kind n → Joined sch j n ks new → RightByKindTo sch kind (n + 1) new
+  unfolding RightByKindTo Joined
   kinds-turn n j ks new i h e g = (g .0 ∙ i .0, λ k x. g .1 k x ∙ by k x (ℕ-discrete n x))
     where
       by : (k x : ℕ) → Dec (n ≡ x) → (member (entry ks k) x || eqb n x && kindSuits sch k j) ≡ (below (n + 1) x && kindSuits sch k (kind x))

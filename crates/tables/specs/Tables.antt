@@ -9,7 +9,7 @@ use Rattle.objectset.specs.Sets.{member, entry}
 use Rattle.terms.specs.declared.Object.{Object}
 use Rattle.terms.specs.declared.Relation.{Relation}
 use Rattle.terms.specs.declared.Fact.{Fact}
-use Rattle.terms.specs.Schema.{Schema, TypedObjects, numberBad, kindSuits}
+use Rattle.terms.specs.Schema.{Schema, TypedObjects, outOfRange, kindSuits}
 use Rattle.terms.specs.Facts.{factBad}
 use Rattle.terms.specs.Told.{suits}
 
@@ -18,8 +18,8 @@ unfoldable pub Joined : Schema → ℕ → ℕ → List ℕ → List ℕ → Typ
 Joined sch kind x old new = (length new ≡ length old) × ((k y : ℕ) → member (entry new k) y ≡ (member (entry old k) y || eqb x y && kindSuits sch k kind))
 
 -- the table by kind is right for a schema and a hall: at each kind, the objects whose kind suits it
-unfoldable pub Kinds : Schema → TypedObjects → List ℕ → Type 0
-Kinds sch ob ks = (k : ℕ) (x : Object) → member (entry ks k) (x .0) ≡ (not (numberBad (ob .count) (x .0)) && kindSuits sch k (ob .kind x))
+unfoldable pub RightByKind : Schema → TypedObjects → List ℕ → Type 0
+RightByKind sch ob ks = (k : ℕ) (x : Object) → member (entry ks k) (x .0) ≡ (not (outOfRange (ob .count) (x .0)) && kindSuits sch k (ob .kind x))
 
 -- what stands where an object of the kind named belongs is wrong, by the table
 unfoldable pub kindsBad : List ℕ → Bool → ℕ → Object → Bool
@@ -30,17 +30,17 @@ unfoldable pub placeSet : Schema → List ℕ → Relation → ℕ → ℕ
 placeSet sch ks r i = cond (leb i (sch .places r)) (entry ks (sch .placeKind r i)) 1
 
 -- the table by relation is right for a schema and a hall: it tells which facts are wrong
-unfoldable pub Tabled : Schema → TypedObjects → List ℕ → Type 0
-Tabled sch ob t = (f : Fact) → f .relation .0 < 256 → not (suits t f) ≡ factBad sch ob f
+unfoldable pub RightByPlace : Schema → TypedObjects → List ℕ → Type 0
+RightByPlace sch ob t = (f : Fact) → f .relation .0 < 256 → not (suits t f) ≡ factBad sch ob f
 
 -- and follows from the table by kind, for every hall that one is right for
-unfoldable pub Follows : Schema → List ℕ → List ℕ → Type 0
-Follows sch ks t = (ob : TypedObjects) → Kinds sch ob ks → Tabled sch ob t
+unfoldable pub RightFrom : Schema → List ℕ → List ℕ → Type 0
+RightFrom sch ks t = (ob : TypedObjects) → RightByKind sch ob ks → RightByPlace sch ob t
 
 -- what holds for every schema and hall that the table by relation is right for
-unfoldable pub ForTabled : List ℕ → (Schema → TypedObjects → Type 0) → Type 0
-ForTabled t P = (sch : Schema) (ob : TypedObjects) → Tabled sch ob t → P sch ob
+unfoldable pub ForRightByPlace : List ℕ → (Schema → TypedObjects → Type 0) → Type 0
+ForRightByPlace t P = (sch : Schema) (ob : TypedObjects) → RightByPlace sch ob t → P sch ob
 
 -- what holds for every hall that the table by kind is right for, under a schema
-unfoldable pub ForKinds : Schema → List ℕ → (TypedObjects → Type 0) → Type 0
-ForKinds sch ks P = (ob : TypedObjects) → Kinds sch ob ks → P ob
+unfoldable pub ForRightByKind : Schema → List ℕ → (TypedObjects → Type 0) → Type 0
+ForRightByKind sch ks P = (ob : TypedObjects) → RightByKind sch ob ks → P ob

@@ -14,7 +14,7 @@ ghost use Rattle.mask.specs.Sets.{empty};
 ghost use Rattle.objectset.specs.Sets.{stored};
 ghost use Rattle.terms.specs.Schema.{schema, typedObjects};
 ghost use Rattle.terms.specs.Steps.{argumentBad, stepBad};
-ghost use Rattle.tables.specs.Tables.{Joined, Kinds, kindsBad, placeSet, Follows, ForKinds};
+ghost use Rattle.tables.specs.Tables.{Joined, RightByKind, kindsBad, placeSet, RightFrom, ForRightByKind};
 
 // Puts an object into the set of each kind that its own kind suits: its own, as long as no kind lies under another.
 fn put_object(book: &[u8], h: Sections, kinds: &mut [u32; 256], kind: u8, x: u8)
@@ -39,7 +39,7 @@ fn no_places() -> [u32; 512]
 // The table by kind, of the objects in `s`.
 pub fn kinds_of(book: &[u8], h: Sections, s: &[u8], objects: Objects) -> [u32; 256]
     requires { ⌜ (objects .at ≤ nearCeiling) × (objects .count < 32) ⌝ }
-    ensures { λ r. ⌜ Kinds (schema h (now (book .entry))) (typedObjects objects (now (s .entry))) r ⌝ }
+    ensures { λ r. ⌜ RightByKind (schema h (now (book .entry))) (typedObjects objects (now (s .entry))) r ⌝ }
 {
     let n = objects.count;
     let mut kinds = no_kinds();
@@ -83,7 +83,7 @@ fn store_place(t: &mut [u32; 512], i: usize, set: u32)
 
 // The table by relation. A number over 255 is no byte's.
 pub fn table_of(book: &[u8], h: Sections, kinds: &[u32; 256]) -> [u32; 512]
-    ensures { λ t. ⌜ Follows (schema h (now (book .entry))) (now (kinds .entry)) t ⌝ }
+    ensures { λ t. ⌜ RightFrom (schema h (now (book .entry))) (now (kinds .entry)) t ⌝ }
 {
     let n = h.relations.count as usize;
     let mut t = no_places();
@@ -102,7 +102,7 @@ pub fn table_of(book: &[u8], h: Sections, kinds: &[u32; 256]) -> [u32; 512]
 // Row 9 of one parameter. The move has so many.
 fn argument_bad(book: &[u8], h: Sections, kinds: &[u32; 256], st: Step, params: u8, i: u8) -> bool
     requires { ⌜ (i ≤ maxParams) × (params ≡ schema h (now book) .params (st .action)) ⌝ }
-    ensures { λ r. ⌜ ForKinds (schema h (now (book .entry))) (now (kinds .entry)) (λ ob. r ≡ argumentBad (schema h (now (book .entry))) ob st i) ⌝ }
+    ensures { λ r. ⌜ ForRightByKind (schema h (now (book .entry))) (now (kinds .entry)) (λ ob. r ≡ argumentBad (schema h (now (book .entry))) ob st i) ⌝ }
 {
     let b = st.binding;
     object_bad(
@@ -115,10 +115,10 @@ fn argument_bad(book: &[u8], h: Sections, kinds: &[u32; 256], st: Step, params: 
 
 // Rows 9 and 18 of a step's move and objects: the move is there, and its parameters have objects that suit.
 pub fn step_bad(book: &[u8], h: Sections, kinds: &[u32; 256], st: Step) -> bool
-    ensures { λ r. ⌜ ForKinds (schema h (now (book .entry))) (now (kinds .entry)) (λ ob. r ≡ stepBad (schema h (now (book .entry))) ob st) ⌝ }
+    ensures { λ r. ⌜ ForRightByKind (schema h (now (book .entry))) (now (kinds .entry)) (λ ob. r ≡ stepBad (schema h (now (book .entry))) ob st) ⌝ }
 {
     let params = h.params(book, st.action);
-    terms::number_bad(h.moves.count, st.action.0)
+    terms::out_of_range(h.moves.count, st.action.0)
         | argument_bad(book, h, kinds, st, params, 1)
         | argument_bad(book, h, kinds, st, params, 2)
         | argument_bad(book, h, kinds, st, params, 3)

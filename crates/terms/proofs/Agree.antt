@@ -17,12 +17,12 @@ use Rattle.terms.specs.declared.Binding.{Binding}
 use Rattle.terms.specs.declared.Fact.{Fact}
 use Rattle.terms.specs.declared.Step.{Step}
 use Rattle.terms.specs.declared.Sections.{Sections}
-use Rattle.terms.specs.Schema.{Schema, TypedObjects, numberBad, relationAt, moveAt, schema, objectBad}
+use Rattle.terms.specs.Schema.{Schema, TypedObjects, outOfRange, relationAt, moveAt, schema, objectBad}
 use Rattle.terms.specs.Facts.{factBad}
 use Rattle.terms.specs.Steps.{argumentBad, stepBad, atomRelation, atomFirst, atomSecond, parameterFills, isAtom, placed, ground}
 use Rattle.terms.specs.Agree.{SameSchema}
 use Rattle.terms.proofs.Suits.{suits-same}
-use Rattle.terms.proofs.Atoms.{number-out, relation-from-1, first-range, second-range, atom-out, atom-in}
+use Rattle.terms.proofs.Atoms.{range-out, relation-from-1, first-range, second-range, atom-out, atom-in}
 
 pub same-sym : (S T : Schema) → SameSchema S T → SameSchema T S
 same-sym S T h =
@@ -102,7 +102,7 @@ module _ (S T : Schema) (h : SameSchema S T) where
     object-over : (used : Bool) (named : ℕ) (x : Object) → objectBad S H used named x ≡ false → objectBad T K used named x ≡ false
     unfolding objectBad
     object-over true named x e =
-        let w = number-out (H .count) (x .0) (neither (numberBad (H .count) (x .0)) _ (neither _ _ e .0) .0) in
+        let w = range-out (H .count) (x .0) (neither (outOfRange (H .count) (x .0)) _ (neither _ _ e .0) .0) in
         rw (← suits-same S T h named (K .kind x), ← o .count, ← o .kind x (w .0) (w .1)) e
     object-over false named x e = e
 
@@ -111,11 +111,11 @@ module _ (S T : Schema) (h : SameSchema S T) where
     fact-over f e =
         let p = neither _ _ e in
         let q = neither _ _ (p .0) in
-        let w = number-out (S .relations) (f .relation .0) (q .0) in
+        let w = range-out (S .relations) (f .relation .0) (q .0) in
         let place : (i : ℕ) (x : Object) → i ≤ maxPlaces → objectBad S H (leb i (S .places (f .relation))) (S .placeKind (f .relation) i) x ≡ false
         → objectBad T K (leb i (T .places (f .relation))) (T .placeKind (f .relation) i) x ≡ false =
         λ i x l g. rw (← h .places (f .relation) (w .0) (w .1), ← h .placeKind (f .relation) (w .0) (w .1) i l) (object-over _ _ _ g) in
-        let number : numberBad (T .relations) (f .relation .0) ≡ false = rw (← h .relations) (q .0) in
+        let number : outOfRange (T .relations) (f .relation .0) ≡ false = rw (← h .relations) (q .0) in
         neither-in _ _ (neither-in _ _ number (place 1 (f .first) (omega arith) (q .1))) (place 2 (f .second) (omega arith) (p .1))
 
     pub step-over : (st : Step) → stepBad S H st ≡ false → stepBad T K st ≡ false
@@ -125,11 +125,11 @@ module _ (S T : Schema) (h : SameSchema S T) where
         let b = neither _ _ (a .0) in
         let c = neither _ _ (b .0) in
         let d = neither _ _ (c .0) in
-        let w = number-out (S .moves) (st .action .0) (d .0) in
+        let w = range-out (S .moves) (st .action .0) (d .0) in
         let argument : (i : ℕ) → i ≤ maxParams → argumentBad S H st i ≡ false → argumentBad T K st i ≡ false =
         λ i l g.
         rw (← h .params (st .action) (w .0) (w .1), ← h .paramKind (st .action) (w .0) (w .1) (record { 0 = i }) l) (object-over _ _ _ g) in
-        let number : numberBad (T .moves) (st .action .0) ≡ false = rw (← h .moves) (d .0) in
+        let number : outOfRange (T .moves) (st .action .0) ≡ false = rw (← h .moves) (d .0) in
         neither-in _ _
         (neither-in _ _
         (neither-in _ _ (neither-in _ _ number (argument 1 (omega arith) (d .1))) (argument 2 (omega arith) (c .1)))

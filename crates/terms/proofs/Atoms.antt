@@ -11,18 +11,18 @@ use Rattle.terms.specs.declared.Param.{Param}
 use Rattle.terms.specs.declared.Relation.{Relation}
 use Rattle.terms.specs.declared.Move.{Move}
 use Rattle.terms.specs.declared.Fact.{Fact}
-use Rattle.terms.specs.Schema.{Schema, numberBad, kindSuits}
+use Rattle.terms.specs.Schema.{Schema, outOfRange, kindSuits}
 use Rattle.terms.specs.Steps.{atomRelation, atomFirst, atomSecond, parameterFills, isAtom}
 
-pub number-out : (count n : ℕ) → numberBad count n ≡ false → (1 ≤ n) × (n ≤ count)
-unfolding numberBad
-number-out count n e =
+pub range-out : (count n : ℕ) → outOfRange count n ≡ false → (1 ≤ n) × (n ≤ count)
+unfolding outOfRange
+range-out count n e =
     let (low, high) = neither (ltb n 1) (ltb count n) e in
     (ltb-false n 1 low, ltb-false count n high)
 
-pub number-in : (count n : ℕ) → 1 ≤ n → n ≤ count → numberBad count n ≡ false
-unfolding numberBad
-number-in count n low high = rw (le-ltb n 1 low, le-ltb count n high)
+pub range-in : (count n : ℕ) → 1 ≤ n → n ≤ count → outOfRange count n ≡ false
+unfolding outOfRange
+range-in count n low high = rw (le-ltb n 1 low, le-ltb count n high)
 
 -- a fact is told by its three numbers
 pub fact-path : (f g : Fact) → f .relation .0 ≡ g .relation .0 → f .first .0 ≡ g .first .0 → f .second .0 ≡ g .second .0 → f ≡ g

@@ -5,7 +5,7 @@ use mathlib.Core.List.{List}
 use lib.Dec.{eqb, ltb, leb}
 use Rattle.input.specs.Bytes.{byteAt}
 use Rattle.terms.specs.declared.Fact.{Fact}
-use Rattle.terms.specs.Schema.{Schema, TypedObjects, numberBad, objectBad}
+use Rattle.terms.specs.Schema.{Schema, TypedObjects, outOfRange, objectBad}
 
 unfoldable pub factAt : List ℕ → ℕ → Fact
 factAt s at =
@@ -18,7 +18,7 @@ factAt s at =
 -- the relation is there, and its places have objects that suit
 unfoldable pub factBad : Schema → TypedObjects → Fact → Bool
 factBad sch ob f =
-    numberBad (sch .relations) (f .relation .0)
+    outOfRange (sch .relations) (f .relation .0)
     || objectBad sch ob (leb 1 (sch .places (f .relation))) (sch .placeKind (f .relation) 1) (f .first)
     || objectBad sch ob (leb 2 (sch .places (f .relation))) (sch .placeKind (f .relation) 2) (f .second)
 

@@ -13,8 +13,8 @@ use Rattle.terms.specs.declared.Sections.{Sections}
 use Rattle.terms.specs.declared.Objects.{Objects}
 
 -- a number that counts from 1, over its count
-unfoldable pub numberBad : ℕ → ℕ → Bool
-numberBad count n = ltb n 1 || ltb count n
+unfoldable pub outOfRange : ℕ → ℕ → Bool
+outOfRange count n = ltb n 1 || ltb count n
 
 -- kinds (types of objects), relations (predicates) with the kinds of their places, moves (action schemas) with the kinds of their parameters
 pub record Schema : Type 0 where
@@ -61,4 +61,4 @@ kindSuits sch named kind = eqb kind named
 -- what stands where an object of the kind named belongs is wrong: a used place has an object's number, of a kind that suits; an unused one has 0
 unfoldable pub objectBad : Schema → TypedObjects → Bool → ℕ → Object → Bool
 objectBad sch ob used named x =
-    used && (numberBad (ob .count) (x .0) || not (kindSuits sch named (ob .kind x))) || not used && not (eqb (x .0) 0)
+    used && (outOfRange (ob .count) (x .0) || not (kindSuits sch named (ob .kind x))) || not used && not (eqb (x .0) 0)

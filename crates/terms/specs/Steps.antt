@@ -11,7 +11,7 @@ use Rattle.terms.specs.declared.Relation.{Relation}
 use Rattle.terms.specs.declared.Move.{Move}
 use Rattle.terms.specs.declared.Binding.{Binding}
 use Rattle.terms.specs.declared.Step.{Step}
-use Rattle.terms.specs.Schema.{Schema, TypedObjects, numberBad, objectBad, kindSuits}
+use Rattle.terms.specs.Schema.{Schema, TypedObjects, outOfRange, objectBad, kindSuits}
 
 -- the object that a binding gives a parameter: the only way from one to the other
 unfoldable pub objectOf : Binding → Param → Object
@@ -40,7 +40,7 @@ argumentBad sch ob st i =
 -- row 9: the move is there, and its parameters have objects that suit
 unfoldable pub stepBad : Schema → TypedObjects → Step → Bool
 stepBad sch ob st =
-    numberBad (sch .moves) (st .action .0)
+    outOfRange (sch .moves) (st .action .0)
     || argumentBad sch ob st 1
     || argumentBad sch ob st 2
     || argumentBad sch ob st 3

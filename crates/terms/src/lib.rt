@@ -5,7 +5,7 @@ ghost use Prim.Native.Nat.{_+_, _-_, _≤_, _<_};
 ghost use lib.ListN.{length};
 ghost use Rattle.limits.specs.Limits.{maxParams, maxAtoms, factSize, stepSize, nearCeiling, farCeiling};
 ghost use Rattle.terms.specs.Sections.{sectionsOf};
-ghost use Rattle.terms.specs.Schema.{schema, numberBad, relationAt, moveAt, kindSuits};
+ghost use Rattle.terms.specs.Schema.{schema, outOfRange, relationAt, moveAt, kindSuits};
 ghost use Rattle.terms.specs.Facts.{factAt, precedes, noFact};
 ghost use Rattle.terms.specs.Told.{suits, factKey};
 ghost use Rattle.terms.specs.Steps.{objectOf, stepAt, samePair, repeats, atomRelation, atomFirst, atomSecond};
@@ -145,8 +145,8 @@ pub fn index(n: u8) -> usize
     n as usize - 1
 }
 
-pub fn number_bad(count: u16, n: u8) -> bool
-    ensures { λ r. ⌜ r ≡ numberBad count n ⌝ }
+pub fn out_of_range(count: u16, n: u8) -> bool
+    ensures { λ r. ⌜ r ≡ outOfRange count n ⌝ }
 {
     let wide = n as u16;
     (wide < 1) | (count < wide)

@@ -12,7 +12,7 @@ use Rattle.terms.specs.declared.Fact.{Fact}
 use Rattle.terms.specs.Schema.{Schema, TypedObjects, objectBad}
 use Rattle.terms.specs.Facts.{factBad, factNumber}
 use Rattle.terms.specs.Steps.{objectOf, atomRelation, atomFirst, atomSecond, parameterFills, isAtom, placed, ground}
-use Rattle.terms.proofs.Atoms.{number-in, first-range, second-range, relation-from-1, atom-same, fills-used, fills-unused, atom-out}
+use Rattle.terms.proofs.Atoms.{range-in, first-range, second-range, relation-from-1, atom-same, fills-used, fills-unused, atom-out}
 use Rattle.terms.proofs.Atoms.{atom-below}
 use Rattle.terms.proofs.Suits.{suits-through}
 use Rattle.limits.specs.Limits.{maxObjects}
@@ -54,7 +54,7 @@ module _ (sch : Schema) (ob : TypedObjects) (st : Step) (right : RightStep sch o
       let parts = atom-out sch (st .action .0) n atom in
       let low : 1 ≤ atomRelation n .0 = relation-from-1 n in
       rw (
-        number-in (sch .relations) (atomRelation n .0) low (parts .relation),
+        range-in (sch .relations) (atomRelation n .0) low (parts .relation),
         place-right (atomRelation n) 1 (atomFirst n) (first-range n .0) (first-range n .1) (parts .first),
         place-right (atomRelation n) 2 (atomSecond n) (second-range n .0) (second-range n .1) (parts .second),
       )

@@ -12,7 +12,7 @@ use Rattle.terms.specs.declared.Fact.{Fact}
 use Rattle.terms.specs.Schema.{Schema, TypedObjects, objectBad}
 use Rattle.terms.specs.Facts.{factBad, factNumber}
 use Rattle.terms.specs.Steps.{parameterFills, isAtom, ground}
-use Rattle.terms.proofs.Atoms.{number-out, fact-path, atomNumber, number-relation, number-first, number-second, fills-in-used, fills-in-unused, atom-in}
+use Rattle.terms.proofs.Atoms.{range-out, fact-path, atomNumber, number-relation, number-first, number-second, fills-in-used, fills-in-unused, atom-in}
 use Rattle.terms.proofs.Suits.{parameter-suits}
 use Rattle.limits.specs.Limits.{maxObjects}
 use Rattle.wellformed.specs.Right.{RightStep}
@@ -69,7 +69,7 @@ module _ (sch : Schema) (ob : TypedObjects) (few : ob .count ≤ maxObjects) (st
   unfolding factOf
   atom-of-fact f good covered =
       let (number, first, second) = fact-parts sch ob f good in
-      let (some, most) = number-out (sch .relations) (f .relation .0) number in
+      let (some, most) = range-out (sch .relations) (f .relation .0) number in
       let (from, known) = move-known sch ob st right in
       let x = pick (f .relation) 1 (f .first) (covered .first) first in
       let y = pick (f .relation) 2 (f .second) (covered .second) second in

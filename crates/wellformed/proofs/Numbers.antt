@@ -7,9 +7,9 @@ use lib.Dec.{leb}
 use Rattle.truth.specs.Bools.{neither}
 use Rattle.terms.specs.declared.Object.{Object}
 use Rattle.terms.specs.declared.Fact.{Fact}
-use Rattle.terms.specs.Schema.{Schema, TypedObjects, numberBad, objectBad}
+use Rattle.terms.specs.Schema.{Schema, TypedObjects, outOfRange, objectBad}
 use Rattle.terms.specs.Facts.{factBad, factNumber}
-use Rattle.terms.proofs.Atoms.{number-out, fact-path}
+use Rattle.terms.proofs.Atoms.{range-out, fact-path}
 use Rattle.limits.specs.Limits.{maxObjects}
 use Rattle.wellformed.proofs.Suits.{used-out, unused-out, object-most}
 
@@ -23,12 +23,12 @@ digits-same a b c d e f hb hc he hf q =
 
 -- the three parts of the test on a fact
 pub fact-parts : (sch : Schema) (ob : TypedObjects) (f : Fact) → factBad sch ob f ≡ false
-    → (numberBad (sch .relations) (f .relation .0) ≡ false)
+    → (outOfRange (sch .relations) (f .relation .0) ≡ false)
     × (objectBad sch ob (leb 1 (sch .places (f .relation))) (sch .placeKind (f .relation) 1) (f .first) ≡ false)
     × (objectBad sch ob (leb 2 (sch .places (f .relation))) (sch .placeKind (f .relation) 2) (f .second) ≡ false)
 unfolding factBad
 fact-parts sch ob f e =
-    let nb : Bool = numberBad (sch .relations) (f .relation .0) in
+    let nb : Bool = outOfRange (sch .relations) (f .relation .0) in
     let one : Bool = objectBad sch ob (leb 1 (sch .places (f .relation))) (sch .placeKind (f .relation) 1) (f .first) in
     let (both, second) = neither (nb || one) (objectBad sch ob (leb 2 (sch .places (f .relation))) (sch .placeKind (f .relation) 2) (f .second)) e in
     let (number, first) = neither nb one both in
@@ -40,7 +40,7 @@ module _ (sch : Schema) (ob : TypedObjects) (few : ob .count ≤ maxObjects) whe
   unfolding factNumber
   number-below f e =
       let (number, first, second) = fact-parts sch ob f e in
-      let (low, high) = number-out (sch .relations) (f .relation .0) number in
+      let (low, high) = range-out (sch .relations) (f .relation .0) number in
       let one = object-most sch ob _ (f .first) _ first in
       let two = object-most sch ob _ (f .second) _ second in
       omega arith
@@ -57,8 +57,8 @@ module _ (sch : Schema) (ob : TypedObjects) (few : ob .count ≤ maxObjects) whe
   number-injective f g e h q =
       let (number, first, second) = fact-parts sch ob f e in
       let (number′, first′, second′) = fact-parts sch ob g h in
-      let (low, high) = number-out (sch .relations) (f .relation .0) number in
-      let (low′, high′) = number-out (sch .relations) (g .relation .0) number′ in
+      let (low, high) = range-out (sch .relations) (f .relation .0) number in
+      let (low′, high′) = range-out (sch .relations) (g .relation .0) number′ in
       let one = object-most sch ob _ (f .first) _ first in
       let two = object-most sch ob _ (f .second) _ second in
       let one′ = object-most sch ob _ (g .first) _ first′ in

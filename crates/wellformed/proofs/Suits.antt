@@ -10,9 +10,9 @@ use borrow.Author.Tests.{ltb-true, ltb-false, lt-ltb, le-leb, eqb-true, eq-eqb, 
 use Rattle.truth.specs.Bools.{clash, and-in, decide, neither}
 use Rattle.terms.specs.declared.Object.{Object}
 use Rattle.terms.specs.declared.Step.{Step}
-use Rattle.terms.specs.Schema.{Schema, TypedObjects, numberBad, kindSuits, objectBad}
+use Rattle.terms.specs.Schema.{Schema, TypedObjects, outOfRange, kindSuits, objectBad}
 use Rattle.terms.specs.Steps.{objectOf, argumentBad, stepBad, samePair, repeats}
-use Rattle.terms.proofs.Atoms.{number-out, number-in}
+use Rattle.terms.proofs.Atoms.{range-out, range-in}
 use Rattle.wellformed.specs.Right.{RightStep}
 
 module _ (sch : Schema) (ob : TypedObjects) (named : ℕ) (x : Object) where
@@ -21,9 +21,9 @@ module _ (sch : Schema) (ob : TypedObjects) (named : ℕ) (x : Object) where
       → (1 ≤ x .0) × (x .0 ≤ ob .count) × (kindSuits sch named (ob .kind x) ≡ true)
   unfolding objectBad
   used-out true e u =
-      let (wrong, unused) = neither (numberBad (ob .count) (x .0) || not (kindSuits sch named (ob .kind x))) (not true && not (eqb (x .0) 0)) e in
-      let (number, suits) = neither (numberBad (ob .count) (x .0)) (not (kindSuits sch named (ob .kind x))) wrong in
-      let (low, high) = number-out (ob .count) (x .0) number in
+      let (wrong, unused) = neither (outOfRange (ob .count) (x .0) || not (kindSuits sch named (ob .kind x))) (not true && not (eqb (x .0) 0)) e in
+      let (number, suits) = neither (outOfRange (ob .count) (x .0)) (not (kindSuits sch named (ob .kind x))) wrong in
+      let (low, high) = range-out (ob .count) (x .0) number in
       (low, high, not-false _ suits)
   used-out false e u = clash false u refl
 
@@ -39,7 +39,7 @@ module _ (sch : Schema) (ob : TypedObjects) (named : ℕ) (x : Object) where
 
   pub used-in : (used : Bool) → used ≡ true → 1 ≤ x .0 → x .0 ≤ ob .count → kindSuits sch named (ob .kind x) ≡ true → objectBad sch ob used named x ≡ false
   unfolding objectBad
-  used-in true u low high suits = rw (number-in (ob .count) (x .0) low high, suits)
+  used-in true u low high suits = rw (range-in (ob .count) (x .0) low high, suits)
   used-in false u low high suits = clash false u refl
 
   pub unused-in : (used : Bool) → used ≡ false → x .0 ≡ 0 → objectBad sch ob used named x ≡ false
@@ -62,10 +62,10 @@ objectAt st i = objectOf (st .binding) (record { 0 = i })
 
 module _ (sch : Schema) (ob : TypedObjects) (st : Step) (right : RightStep sch ob st) where
   -- the five parts of the test on a step
-  step-parts : (numberBad (sch .moves) (st .action .0) ≡ false) × ((i : ℕ) → 1 ≤ i → i ≤ 4 → argumentBad sch ob st i ≡ false)
+  step-parts : (outOfRange (sch .moves) (st .action .0) ≡ false) × ((i : ℕ) → 1 ≤ i → i ≤ 4 → argumentBad sch ob st i ≡ false)
   unfolding stepBad
   step-parts =
-      let nb : Bool = numberBad (sch .moves) (st .action .0) in
+      let nb : Bool = outOfRange (sch .moves) (st .action .0) in
       let a1 : Bool = argumentBad sch ob st 1 in
       let a2 : Bool = argumentBad sch ob st 2 in
       let a3 : Bool = argumentBad sch ob st 3 in
@@ -77,7 +77,7 @@ module _ (sch : Schema) (ob : TypedObjects) (st : Step) (right : RightStep sch o
 
   -- The move of a right step is there,
   pub move-known : (1 ≤ st .action .0) × (st .action .0 ≤ sch .moves)
-  move-known = number-out (sch .moves) (st .action .0) (step-parts .0)
+  move-known = range-out (sch .moves) (st .action .0) (step-parts .0)
 
   pub argument-right : (i : ℕ) → 1 ≤ i → i ≤ 4 → argumentBad sch ob st i ≡ false
   argument-right = step-parts .1

@@ -3,7 +3,7 @@ use mathlib.Core.Path.{sym, _∙_}
 use native.Mathlib.Omega.{arith}
 use Rattle.answer.specs.Turns.{is-good}
 use Rattle.format.proofs.Header.{sections-good}
-use Rattle.learner.proofs.Book.{at-sections, walked-own, at-records}
+use Rattle.learner.proofs.Book.{at-sections, scanned-own, at-records}
 use borrow.Author.Needs.{needs}
 use Rattle.learner.proofs.observe_form.Statement.{statement}
 use Rattle.learner.proofs.observe_form.Tie as tie
@@ -24,7 +24,7 @@ returns-2 c =
     let d = c .before .before .before in
     let x = d .before .before .before .before .before .before .before in
     at-records _ _ (c .before .before .before .before .before .before .before .before .before .before .before .before .before .before .before .pre .0) _ _ _ _ _ (x .before .before .sections .ensures) (x .before .is-refused .ensures) (x .if1 .left)
-    (d .before .before .before .before .before .nothing-seen .ensures) (walked-own _ _ (c .before .before .before .before .before .before .before .before .before .before .before .before .before .before .before .pre .0) _ _ _ _ _ _ (c .before .before .records .ensures))
+    (d .before .before .before .before .before .nothing-seen .ensures) (scanned-own _ _ (c .before .before .before .before .before .before .before .before .before .before .before .before .before .before .before .pre .0) _ _ _ _ _ _ (c .before .before .records .ensures))
 
 pub observe-form-spec : {M : Type 1} → statement M
 observe-form-spec =

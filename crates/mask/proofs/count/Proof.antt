@@ -4,13 +4,13 @@ use Prim.Native.Nat.{_+_, _-_, _*_, _≤_}
 use native.Mathlib.Omega.{arith}
 use lib.Count.{ones-le}
 use lib.ListN.{length, drop}
-use Rattle.mask.specs.Sets.{size}
+use Rattle.mask.specs.Sets.{cardinality}
 use Rattle.mask.proofs.Turns.{size-turn, size-all}
 use Rattle.mask.proofs.count.Statement.{statement}
 use Rattle.mask.proofs.count.Tie as tie
 
 abbrev Inv-loop : tie.InvT-loop
-Inv-loop m n₀ i₀ n i = (i ≤ length m) × (n ≤ 8 * i) × (n + size (drop i m) ≡ size m)
+Inv-loop m n₀ i₀ n i = (i ≤ length m) × (n ≤ 8 * i) × (n + cardinality (drop i m) ≡ cardinality m)
 
 abbrev μ-loop : tie.MeasureT-loop
 μ-loop m n₀ i₀ n i = length m - i

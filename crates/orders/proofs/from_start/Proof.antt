@@ -1,7 +1,7 @@
 -- `from_start` meets its contract: the start facts, then what follows them, by tables of the order's own objects.
 use mathlib.Core.Path.{_∙_}
 use Rattle.answer.specs.Turns.{part-stays, part-then}
-use Rattle.tables.specs.Tables.{ForKinds, ForTabled, Follows}
+use Rattle.tables.specs.Tables.{ForRightByKind, ForRightByPlace, RightFrom}
 use Rattle.orders.proofs.Tests.{objects-fit, own-kinds}
 use borrow.Author.Needs.{needs}
 use Rattle.orders.proofs.from_start.Statement.{statement}
@@ -12,7 +12,7 @@ kinds-of-requires : tie.Need-kinds-of-requires
 kinds-of-requires c κs = objects-fit _ _ (c .objects-of .ensures) (c .before .before .before .pre .0)
 
 returns : tie.Need-returns
-unfolding ForTabled Follows fromStart
+unfolding ForRightByPlace RightFrom fromStart
 returns c =
     let d = c .before .before in
     let t = d .before .before in
@@ -21,7 +21,7 @@ returns c =
     part-stays _ _ _ _ (d .start .ensures _ _ (t .table-of .ensures _ right)) (c .before .is-refused .ensures) (c .if1 .taken)
 
 returns-2 : tie.Need-returns-2
-unfolding ForKinds ForTabled Follows fromStart
+unfolding ForRightByKind ForRightByPlace RightFrom fromStart
 returns-2 c =
     let e = c .before .before .before in
     let d = e .before .before in

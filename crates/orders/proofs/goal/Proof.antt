@@ -8,7 +8,7 @@ use Rattle.terms.specs.Facts.{noFact}
 use Rattle.terms.specs.Told.{factKey}
 use Rattle.limits.specs.Limits.{entrySize, nearCeiling}
 use Rattle.format.specs.Order.{goalCount, goalAt, stepsAt, entries}
-use Rattle.tables.specs.Tables.{ForTabled}
+use Rattle.tables.specs.Tables.{ForRightByPlace}
 use Rattle.format.proofs.Chains.{chain-same, chain-none, chain-refused, chain-good}
 use Rattle.format.proofs.Orders.{goal-chain}
 use Rattle.states.proofs.Cursors.{fact-of}
@@ -22,13 +22,13 @@ Inv-loop o table c₀ c =
     × (c .key ≡ factKey (c .last))
     × (c .at + entrySize * c .left ≤ length o)
     × (c .at + entrySize * c .left ≤ nearCeiling)
-    × ForTabled table (λ sch ob. entries sch ob o (c .left) (c .last) (c .at) ≡ entries sch ob o (goalCount o) noFact (goalAt o))
+    × ForRightByPlace table (λ sch ob. entries sch ob o (c .left) (c .last) (c .at) ≡ entries sch ob o (goalCount o) noFact (goalAt o))
 
 abbrev μ-loop : tie.MeasureT-loop
 μ-loop o table c₀ c = c .left
 
 loop-holds : tie.Need-loop-holds Inv-loop μ-loop
-unfolding ForTabled stepsAt
+unfolding ForRightByPlace stepsAt
 loop-holds c =
     let e = c .new .ensures in
     let a = c .before .goal-at .ensures in
@@ -41,7 +41,7 @@ bad-requires c κs =
     record { whole = omega arith; within = omega arith; near = omega arith; key = i .1 }
 
 returns : tie.Need-returns Inv-loop μ-loop
-unfolding ForTabled
+unfolding ForRightByPlace
 returns c sch ob right =
     let w = c .before .before in
     let l = w .before .before .before .loop in
@@ -54,7 +54,7 @@ next-requires c κs =
     (record { whole = omega arith; within = omega arith; near = omega arith; key = i .1 }, omega arith)
 
 loop-again : tie.Need-loop-again Inv-loop μ-loop
-unfolding ForTabled
+unfolding ForRightByPlace
 loop-again c =
     let b = c .before .before in
     let w = b .before in
@@ -72,7 +72,7 @@ loop-again c =
     )
 
 returns-2 : tie.Need-returns-2 Inv-loop μ-loop
-unfolding ForTabled
+unfolding ForRightByPlace
 returns-2 c sch ob right = chain-none (goal-chain sch ob _) (c .before .before .loop .inv .4 sch ob right) (omega arith)
 
 pub goal-spec : {M : Type 1} → statement M

@@ -1,12 +1,12 @@
 -- `step_bad` meets its contract, by the step read and what is said of it.
-use Rattle.tables.specs.Tables.{ForKinds}
+use Rattle.tables.specs.Tables.{ForRightByKind}
 use Rattle.orders.proofs.Tests.{step-bad-by}
 use borrow.Author.Needs.{needs}
 use Rattle.orders.proofs.step_bad.Statement.{statement}
 use Rattle.orders.proofs.step_bad.Tie as tie
 
 returns : tie.Need-returns
-unfolding ForKinds
+unfolding ForRightByKind
 returns c ob right = step-bad-by _ _ _ _ _ _ _ (c .before .before .read .ensures) (c .before .step-bad .ensures ob right) (c .repeats .ensures)
 
 pub step-bad-spec : {M : Type 1} → statement M

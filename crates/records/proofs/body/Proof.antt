@@ -4,7 +4,7 @@ use native.Mathlib.Omega.{arith}
 use Rattle.answer.specs.Turns.{is-good}
 use Rattle.format.proofs.Records.{objects-end}
 use Rattle.records.proofs.Laws.{body-stays, body-rest}
-use Rattle.tables.specs.Tables.{Follows}
+use Rattle.tables.specs.Tables.{RightFrom}
 use borrow.Author.Needs.{needs}
 use Rattle.records.proofs.body.Statement.{statement}
 use Rattle.records.proofs.body.Tie as tie
@@ -13,7 +13,7 @@ returns : tie.Need-returns
 returns c = body-stays _ _ _ _ _ (c .before .before .before .before .before .pre .3) _ _ (c .before .before .objects .ensures) (c .before .is-refused .ensures) (c .if1 .taken)
 
 trajectory-requires : tie.Need-trajectory-requires
-unfolding Follows
+unfolding RightFrom
 trajectory-requires c κs =
     let g = c .before .before .before .before in
     let k = g .before .before in

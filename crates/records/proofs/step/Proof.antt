@@ -1,34 +1,34 @@
 -- `step` meets its contract, row by row.
 use mathlib.Core.Path.{sym, _∙_}
 use native.Mathlib.Omega.{arith}
-use Rattle.tables.specs.Tables.{ForKinds, ForTabled}
+use Rattle.tables.specs.Tables.{ForRightByKind, ForRightByPlace}
 use Rattle.records.proofs.Parts.{step-nine, step-fits, step-repeats, step-state}
 use borrow.Author.Needs.{needs}
 use Rattle.records.proofs.step.Statement.{statement}
 use Rattle.records.proofs.step.Tie as tie
 
 returns : tie.Need-returns
-unfolding ForKinds
+unfolding ForRightByKind
 returns c =
     let d = c .before in
     sym (step-nine _ _ _ _ _ _ (d .step-refused .ensures _ (d .before .before .pre .0 .kinds)) (c .if1 .taken))
 
 whole-requires : tie.Need-whole-requires
-unfolding ForKinds
+unfolding ForRightByKind
 whole-requires c κs =
     let d = c .before in
     let w = step-fits _ _ _ _ _ _ (d .step-refused .ensures _ (d .before .before .pre .0 .kinds)) (c .if1 .left) in
     (omega arith, omega arith)
 
 returns-2 : tie.Need-returns-2
-unfolding ForKinds
+unfolding ForRightByKind
 returns-2 c =
     let e = c .before .before in
     let d = e .before .before in
     sym (step-repeats _ _ _ _ _ _ _ (d .step-refused .ensures _ (d .before .before .pre .0 .kinds)) (e .before .if1 .left) (e .whole .ensures) _ (c .before .repeats .ensures) (c .if2 .taken))
 
 returns-3 : tie.Need-returns-3
-unfolding ForKinds ForTabled
+unfolding ForRightByKind ForRightByPlace
 returns-3 c =
     let f = c .before in
     let e = f .before .before in

@@ -1,16 +1,16 @@
 -- `step_refused` meets its contract: the step is cut, or read whole.
-use Rattle.tables.specs.Tables.{ForKinds}
+use Rattle.tables.specs.Tables.{ForRightByKind}
 use Rattle.records.proofs.Parts.{step-cut, step-whole}
 use borrow.Author.Needs.{needs}
 use Rattle.records.proofs.step_refused.Statement.{statement}
 use Rattle.records.proofs.step_refused.Tie as tie
 
 returns : tie.Need-returns
-unfolding ForKinds
+unfolding ForRightByKind
 returns c ob right = step-cut _ _ _ _ _ (c .if1 .taken)
 
 returns-2 : tie.Need-returns-2
-unfolding ForKinds
+unfolding ForRightByKind
 returns-2 c ob right = step-whole _ _ _ _ _ _ _ (c .before .before .if1 .left) (c .before .whole .ensures) (c .step-bad .ensures ob right)
 
 pub step-refused-spec : {M : Type 1} → statement M

@@ -4,19 +4,19 @@ use native.Mathlib.Omega.{arith}
 use Rattle.format.proofs.States.{state-within}
 use Rattle.answer.specs.Turns.{is-good}
 use Rattle.records.proofs.Parts.{trajectory-stays, trajectory-steps}
-use Rattle.tables.specs.Tables.{ForTabled}
+use Rattle.tables.specs.Tables.{ForRightByPlace}
 use borrow.Author.Needs.{needs}
 use Rattle.records.proofs.trajectory.Statement.{statement}
 use Rattle.records.proofs.trajectory.Tie as tie
 
 returns : tie.Need-returns
-unfolding ForTabled
+unfolding ForRightByPlace
 returns c =
     let d = c .before .before in
     trajectory-stays _ _ _ _ _ _ _ _ (d .state .ensures _ _ (d .before .before .pre .0 .table)) (c .before .is-refused .ensures) (c .if1 .taken)
 
 steps-requires : tie.Need-steps-requires
-unfolding ForTabled
+unfolding ForRightByPlace
 steps-requires c κs =
     let p = c .before .before .before .before .before .pre in
     let d = c .before .before .before .state .ensures _ _ (p .0 .table) in
@@ -25,7 +25,7 @@ steps-requires c κs =
     (p .0, omega arith)
 
 returns-2 : tie.Need-returns-2
-unfolding ForTabled
+unfolding ForRightByPlace
 returns-2 c =
     let d = c .before .before in
     trajectory-steps _ _ _ _ _ _ _ _ _ _ (d .before .before .state .ensures _ _ (d .before .before .before .before .pre .0 .table)) (d .before .is-refused .ensures) (d .if1 .left) (c .before .value-of .ensures) (c .steps .ensures)

@@ -8,7 +8,7 @@ use Rattle.limits.specs.Limits.{factSize}
 use Rattle.format.specs.States.{facts}
 use Rattle.format.proofs.Chains.{chain-same, chain-none, chain-refused, chain-good}
 use Rattle.format.proofs.States.{facts-chain}
-use Rattle.tables.specs.Tables.{ForTabled}
+use Rattle.tables.specs.Tables.{ForRightByPlace}
 use Rattle.states.proofs.Cursors.{fact-of}
 use borrow.Author.Needs.{needs}
 use Rattle.states.proofs.facts.Statement.{statement}
@@ -19,13 +19,13 @@ Inv-loop number t table end n from c₀ c =
     (c .size ≡ factSize)
     × (c .key ≡ factKey (c .last))
     × (c .at + factSize * c .left ≤ from + factSize * n)
-    × ForTabled table (λ sch ob. facts number sch ob t end (c .left) (c .last) (c .at) ≡ facts number sch ob t end n noFact from)
+    × ForRightByPlace table (λ sch ob. facts number sch ob t end (c .left) (c .last) (c .at) ≡ facts number sch ob t end n noFact from)
 
 abbrev μ-loop : tie.MeasureT-loop
 μ-loop number t table end n from c₀ c = c .left
 
 loop-holds : tie.Need-loop-holds Inv-loop μ-loop
-unfolding ForTabled
+unfolding ForRightByPlace
 loop-holds c =
     let e = c .new .ensures in
     (e .3, e .4, omega arith, λ sch ob right. chain-same (facts-chain _ sch ob _ _) (e .0) (e .1) (e .2))
@@ -36,7 +36,7 @@ refused-requires c κs =
     (omega arith, omega arith, i .0, i .1)
 
 returns : tie.Need-returns Inv-loop μ-loop
-unfolding ForTabled
+unfolding ForRightByPlace
 returns c sch ob right =
     let d = c .before .before in
     chain-refused (facts-chain _ sch ob _ _) (d .before .before .loop .inv .3 sch ob right) (d .if1 .taken) (c .before .refused .ensures .1 sch ob right) (c .if2 .taken)
@@ -48,7 +48,7 @@ next-requires c κs =
     (record { whole = omega arith; within = omega arith; near = omega arith; key = i .1 }, omega arith)
 
 loop-again : tie.Need-loop-again Inv-loop μ-loop
-unfolding ForTabled
+unfolding ForRightByPlace
 loop-again c =
     let d = c .before .before .before in
     let l = d .before .before .loop in
@@ -63,7 +63,7 @@ loop-again c =
     )
 
 returns-2 : tie.Need-returns-2 Inv-loop μ-loop
-unfolding ForTabled
+unfolding ForRightByPlace
 returns-2 c sch ob right = chain-none (facts-chain _ sch ob _ _) (c .before .before .loop .inv .3 sch ob right) (omega arith)
 
 pub facts-spec : {M : Type 1} → statement M

@@ -3,13 +3,13 @@ use mathlib.Core.Path.{sym, _∙_}
 use native.Mathlib.Omega.{arith}
 use Rattle.format.proofs.States.{count-within}
 use Rattle.states.proofs.Laws.{state-refused, state-facts}
-use Rattle.tables.specs.Tables.{ForTabled}
+use Rattle.tables.specs.Tables.{ForRightByPlace}
 use borrow.Author.Needs.{needs}
 use Rattle.states.proofs.state.Statement.{statement}
 use Rattle.states.proofs.state.Tie as tie
 
 returns : tie.Need-returns
-unfolding ForTabled
+unfolding ForRightByPlace
 returns c sch ob right = sym (state-refused _ _ _ _ _ (sym (c .before .count-bad .ensures) ∙ c .if1 .taken))
 
 count-requires : tie.Need-count-requires
@@ -24,7 +24,7 @@ facts-requires c κs =
     (omega arith, omega arith, omega arith)
 
 returns-2 : tie.Need-returns-2
-unfolding ForTabled
+unfolding ForRightByPlace
 returns-2 c sch ob right =
     let d = c .before .before in
     c .facts .ensures sch ob right ∙ sym (state-facts _ _ _ _ _ _ (sym (d .before .count-bad .ensures) ∙ d .if1 .left) (c .before .count .ensures))

@@ -1,14 +1,14 @@
 -- `argument_bad` meets its contract, by what each call says.
 use mathlib.Core.Path.{_∙_}
 use Rattle.terms.specs.Steps.{argumentBad}
-use Rattle.tables.specs.Tables.{ForKinds}
+use Rattle.tables.specs.Tables.{ForRightByKind}
 use Rattle.tables.proofs.Laws.{kinds-bad}
 use borrow.Author.Needs.{needs}
 use Rattle.tables.proofs.argument_bad.Statement.{statement}
 use Rattle.tables.proofs.argument_bad.Tie as tie
 
 returns : tie.Need-returns
-unfolding ForKinds argumentBad
+unfolding ForRightByKind argumentBad
 returns c ob right =
     let d = c .before in
     c .object-bad .ensures ∙ rw (d .before .before .before .before .pre .1, d .before .param-kind .ensures, d .object .ensures) (kinds-bad _ ob _ right _ _ _)

@@ -4,7 +4,7 @@ use mathlib.Core.Path.{_≡_, refl}
 use native.Mathlib.Omega.{arith}
 use Rattle.input.specs.Bytes.{byteAt}
 use Rattle.terms.specs.Schema.{schema, typedObjects}
-use Rattle.tables.proofs.Turns.{KindsTo, kinds-none, kinds-turn}
+use Rattle.tables.proofs.Turns.{RightByKindTo, kinds-none, kinds-turn}
 use Rattle.tables.proofs.Laws.{kinds-right}
 use borrow.Author.Needs.{needs}
 use Rattle.tables.proofs.kinds_of.Statement.{statement}
@@ -12,7 +12,7 @@ use Rattle.tables.proofs.kinds_of.Tie as tie
 
 abbrev Inv-loop : tie.InvT-loop
 Inv-loop book h s objects n kinds₀ x₀ kinds x =
-    (1 ≤ x) × (x ≤ n + 1) × (n ≡ objects .count) × (n < 32) × KindsTo (schema h book) (λ y. byteAt s (objects .at + (y - 1))) x kinds
+    (1 ≤ x) × (x ≤ n + 1) × (n ≡ objects .count) × (n < 32) × RightByKindTo (schema h book) (λ y. byteAt s (objects .at + (y - 1))) x kinds
 
 abbrev μ-loop : tie.MeasureT-loop
 μ-loop book h s objects n kinds₀ x₀ kinds x = n + 1 - x
@@ -21,7 +21,7 @@ loop-holds : tie.Need-loop-holds Inv-loop μ-loop
 loop-holds c = (omega arith, omega arith, refl, c .before .before .before .pre .1, kinds-none _ _ _ (c .no-kinds .ensures))
 
 put-object-requires : tie.Need-put-object-requires Inv-loop μ-loop
-unfolding KindsTo
+unfolding RightByKindTo
 put-object-requires c κs =
     let i = c .before .before .before .before .loop .inv in
     (omega arith, i .4 .0)

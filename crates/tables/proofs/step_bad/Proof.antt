@@ -1,18 +1,18 @@
 -- `step_bad` meets its contract, by what is said of each parameter.
 use Rattle.terms.specs.Schema.{schema}
 use Rattle.terms.specs.Steps.{stepBad}
-use Rattle.tables.specs.Tables.{ForKinds}
+use Rattle.tables.specs.Tables.{ForRightByKind}
 use native.Mathlib.Omega.{arith}
 use borrow.Author.Needs.{needs}
 use Rattle.tables.proofs.step_bad.Statement.{statement}
 use Rattle.tables.proofs.step_bad.Tie as tie
 
 returns : tie.Need-returns
-unfolding ForKinds stepBad schema
+unfolding ForRightByKind stepBad schema
 returns c ob right =
     let d = c .before .before .before in
     rw (
-      d .before .number-bad .ensures,
+      d .before .out-of-range .ensures,
       d .argument-bad .ensures ob right,
       c .before .before .argument-bad2 .ensures ob right,
       c .before .argument-bad3 .ensures ob right,

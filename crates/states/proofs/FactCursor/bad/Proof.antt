@@ -1,13 +1,13 @@
 -- `FactCursor::bad` meets its contract, by what the fact's methods say.
 use native.Mathlib.Omega.{arith}
-use Rattle.tables.specs.Tables.{ForTabled}
+use Rattle.tables.specs.Tables.{ForRightByPlace}
 use Rattle.states.proofs.Cursors.{misplaced-by}
 use borrow.Author.Needs.{needs}
 use Rattle.states.proofs.FactCursor.bad.Statement.{statement}
 use Rattle.states.proofs.FactCursor.bad.Tie as tie
 
 returns : tie.Need-returns
-unfolding ForTabled
+unfolding ForRightByPlace
 returns c sch ob right =
     let d = c .before in
     let f = d .before .fact in

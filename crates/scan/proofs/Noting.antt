@@ -26,8 +26,8 @@ use Rattle.wellformed.proofs.Records.{step-parted}
 use Rattle.observed.specs.Observed.{Observed, observeAll, observedAfter}
 use Rattle.observed.proofs.Records.{observed-none, observed-more}
 use Rattle.notes.specs.Notes.{IsObserved}
-use Rattle.walk.specs.Walk.{Observable, RecordsWalked}
-use Rattle.walk.proofs.Steps.{observedAs, observed-path}
+use Rattle.scan.specs.Scan.{Observable, RecordsScanned}
+use Rattle.scan.proofs.Steps.{observedAs, observed-path}
 
 -- the steps behind a good state, if they are good
 observable-steps : (sch : Schema) (ob : TypedObjects) (s : List ℕ) (end : ℕ) → end ≤ length s → length s ≤ maxLength → sch .moves ≤ maxMoves
@@ -86,8 +86,8 @@ module _ (s : List ℕ) (whole : Observed) where
       record { masks = ap (λ h. h .masks) j; named = ap (λ h. h .named) j }
 
 -- a refusal says nothing of what is observed
-pub refused-walked : (h : Sections) (s : List ℕ) (n from : ℕ) (noting : Bool) (before : Observed) (bytes : List ℕ) (k p named : ℕ)
+pub refused-scanned : (h : Sections) (s : List ℕ) (n from : ℕ) (noting : Bool) (before : Observed) (bytes : List ℕ) (k p named : ℕ)
     → Refused k p ≡ allRecords h s n from
-    → RecordsWalked h s n from noting before bytes (record { answer = Refused k p; named = named })
-refused-walked h s n from noting before bytes k p named e =
+    → RecordsScanned h s n from noting before bytes (record { answer = Refused k p; named = named })
+refused-scanned h s n from noting before bytes k p named e =
     record { says = e; observes = λ y m f. good-refused m k p (sym f) }

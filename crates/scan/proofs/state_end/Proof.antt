@@ -1,8 +1,8 @@
--- `walk::state_end` meets its contract: the sum fits.
+-- `scan::state_end` meets its contract: the sum fits.
 use Rattle.format.specs.Decode.{stateEnd}
 use borrow.Author.Needs.{needs}
-use Rattle.walk.proofs.state_end.Statement.{statement}
-use Rattle.walk.proofs.state_end.Tie as tie
+use Rattle.scan.proofs.state_end.Statement.{statement}
+use Rattle.scan.proofs.state_end.Tie as tie
 
 returns : tie.Need-returns
 unfolding stateEnd

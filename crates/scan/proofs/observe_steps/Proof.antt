@@ -1,4 +1,4 @@
--- `walk::observe_steps` meets its contract: the steps that are left, noted after those before, come to the whole.
+-- `scan::observe_steps` meets its contract: the steps that are left, noted after those before, come to the whole.
 use borrow.Author.Needs.{needs}
 use native.Mathlib.Omega.{arith}
 use mathlib.Core.Path.{_≡_, refl, _∙_}
@@ -6,10 +6,10 @@ use lib.ListN.{length}
 use Rattle.limits.specs.Limits.{observedSize}
 use Rattle.format.specs.Decode.{recordedStepsAt}
 use Rattle.observed.specs.Observed.{observeAll}
-use Rattle.walk.specs.Walk.{Observable}
-use Rattle.walk.proofs.Steps.{observedAs, step-turn, steps-done, observable-at, observable-next}
-use Rattle.walk.proofs.observe_steps.Statement.{statement}
-use Rattle.walk.proofs.observe_steps.Tie as tie
+use Rattle.scan.specs.Scan.{Observable}
+use Rattle.scan.proofs.Steps.{observedAs, step-turn, steps-done, observable-at, observable-next}
+use Rattle.scan.proofs.observe_steps.Statement.{statement}
+use Rattle.scan.proofs.observe_steps.Tie as tie
 
 abbrev Inv-loop : tie.InvT-loop
 Inv-loop s n from observed₀ named left₀ at₀ first₀ observed left at first =

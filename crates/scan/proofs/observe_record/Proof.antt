@@ -1,9 +1,9 @@
--- `walk::observe_record` meets its contract: its steps stand behind its objects. Where nothing is noted, nothing is said.
+-- `scan::observe_record` meets its contract: its steps stand behind its objects. Where nothing is noted, nothing is said.
 use Rattle.truth.specs.Bools.{clash}
-use Rattle.walk.proofs.Noting.{record-ready, record-observed}
+use Rattle.scan.proofs.Noting.{record-ready, record-observed}
 use borrow.Author.Needs.{needs}
-use Rattle.walk.proofs.observe_record.Statement.{statement}
-use Rattle.walk.proofs.observe_record.Tie as tie
+use Rattle.scan.proofs.observe_record.Statement.{statement}
+use Rattle.scan.proofs.observe_record.Tie as tie
 
 observe-steps-requires : tie.Need-observe-steps-requires
 observe-steps-requires c κs =

@@ -12,7 +12,7 @@ use Rattle.format.specs.LookOver.{allRecords}
 use Rattle.format.specs.Decode.{stateEnd, stepsOfRecords}
 use Rattle.observed.specs.Observed.{Observed, observeAll}
 use Rattle.notes.specs.Notes.{IsObserved}
-use Rattle.walk.specs.declared.Walked.{Walked}
+use Rattle.scan.specs.declared.Walked.{Walked}
 
 -- a state and a number of steps behind it lie within a book, each step of a move that there may be
 unfoldable pub Observable : List ℕ → ℕ → ℕ → Type 0
@@ -26,6 +26,6 @@ Observable s (suc n) at =
     × Observable s n (stateEnd s at + stepSize)
 
 -- a number of records walked, each looked over: the answer and, where steps were noted and it is good, what is observed
-pub record RecordsWalked (h : Sections) (s : List ℕ) (n from : ℕ) (noting : Bool) (before : Observed) (bytes : List ℕ) (w : Walked) : Type 0 where
+pub record RecordsScanned (h : Sections) (s : List ℕ) (n from : ℕ) (noting : Bool) (before : Observed) (bytes : List ℕ) (w : Walked) : Type 0 where
   pub says : w .answer ≡ allRecords h s n from
   pub observes : noting ≡ true → (m : ℕ) → w .answer ≡ Good m → IsObserved (observeAll (stepsOfRecords s n from) before) bytes (w .named)

@@ -10,7 +10,7 @@ use Rattle.limits.specs.Limits.{maxLength, maxMoves, stepSize}
 use Rattle.format.specs.Decode.{stateEnd, recordedStepsAt}
 use Rattle.observed.specs.Observed.{Observed, observeAll}
 use Rattle.notes.specs.Notes.{IsObserved, observedStep}
-use Rattle.walk.specs.Walk.{Observable}
+use Rattle.scan.specs.Scan.{Observable}
 
 abbrev pub observedAs : List ℕ → ℕ → Observed
 observedAs masks named = record { masks = masks; named = named }

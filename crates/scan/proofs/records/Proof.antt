@@ -1,4 +1,4 @@
--- `walk::records` meets its contract: the records that are left, noted after those before, come to the whole.
+-- `scan::records` meets its contract: the records that are left, noted after those before, come to the whole.
 use Prim.Native.Nat.{_+_, _*_, _≤_}
 use mathlib.Core.Path.{_≡_, refl, sym, _∙_}
 use mathlib.Core.Bool.{true}
@@ -16,10 +16,10 @@ use Rattle.reader.specs.Reader.{record-by}
 use Rattle.answer.specs.Turns.{turn-none, turn-refused, turn-good}
 use Rattle.records.proofs.Laws.{all-refused, all-left, all-good, total-none, total-more}
 use Rattle.format.proofs.Records.{record-within}
-use Rattle.walk.proofs.Steps.{observedAs}
-use Rattle.walk.proofs.Noting.{record-observable, record-turn, records-done, refused-walked}
-use Rattle.walk.proofs.records.Statement.{statement}
-use Rattle.walk.proofs.records.Tie as tie
+use Rattle.scan.proofs.Steps.{observedAs}
+use Rattle.scan.proofs.Noting.{record-observable, record-turn, records-done, refused-scanned}
+use Rattle.scan.proofs.records.Statement.{statement}
+use Rattle.scan.proofs.records.Tie as tie
 
 abbrev Inv-loop : tie.InvT-loop
 Inv-loop s n from noting observed₀ left₀ at₀ total₀ named₀ observed left at total named =
@@ -41,7 +41,7 @@ returns c =
     let d = c .before .before .before in
     let p = d .before .before .before .before .before .pre in
     let r = record-by _ _ _ refl (p .0) (d .before .before .loop .inv .0) (d .record-from .ensures) in
-    refused-walked _ _ _ _ _ _ _ _ _ _
+    refused-scanned _ _ _ _ _ _ _ _ _ _
     (all-refused _ _ _ _ _ _
     (turn-refused _ _ _ _ _ _ _ (d .before .before .loop .inv .2) (d .before .loop-test .taken) r (c .before .k .given .1)))
 
@@ -73,7 +73,7 @@ loop-again c =
 
 returns-2 : tie.Need-returns-2 Inv-loop μ-loop
 returns-2 c =
-    refused-walked _ _ _ _ _ _ _ _ _ _
+    refused-scanned _ _ _ _ _ _ _ _ _ _
     (all-left _ _ _ _ _ (turn-none _ _ _ _ (c .before .before .loop .inv .2) (omega arith)) (c .if1 .taken))
 
 returns-3 : tie.Need-returns-3 Inv-loop μ-loop

@@ -13,7 +13,7 @@ ghost use Rattle.format.specs.Decode.{stateEnd, recordedStepsAt, stepsOfRecord}
 ghost use Rattle.observed.specs.Observed.{observeAll};
 ghost use Rattle.records.specs.Head.{headOf};
 ghost use Rattle.notes.specs.Notes.{IsObserved};
-ghost use Rattle.walk.specs.Walk.{Observable, RecordsWalked};
+ghost use Rattle.scan.specs.Scan.{Observable, RecordsScanned};
 
 // What a walk over records comes to: its answer, and the offset of the first step that row 11 names, 0 where none is.
 pub struct Walked {
@@ -68,7 +68,7 @@ fn observe_record(
 // noted, nothing need be lent.
 pub fn records(s: &[u8], n: usize, from: usize, noting: bool, observed: &mut [u8]) -> Walked
     requires { ⌜ (length (now s) ≤ maxLength) × (from ≤ maxLength) × (n ≤ maxRecords) × (noting ≡ true → (sectionsOf (now s) .moves .count ≤ maxMoves) × (length (now observed) ≡ observedSize)) ⌝ }
-    ensures { λ r. ⌜ RecordsWalked (sectionsOf (now (s .entry))) (now (s .entry)) n from noting (record { masks = now (observed .entry); named = 0 }) (now (observed .exit)) r ⌝ }
+    ensures { λ r. ⌜ RecordsScanned (sectionsOf (now (s .entry))) (now (s .entry)) n from noting (record { masks = now (observed .entry); named = 0 }) (now (observed .exit)) r ⌝ }
 {
     let mut left = n;
     let mut at = from;
