@@ -149,7 +149,7 @@ fn body(s: &[u8], h: Sections, head: Head, at: usize, end: usize) -> Answer
     requires { ⌜ (at ≤ maxLength) × (end ≤ maxLength) × (end ≤ length (now s)) × (head ≡ headOf (now s) at) × (head .objects ≤ maxObjects) ⌝ }
     ensures { λ r. ⌜ r ≡ body h (now (s .entry)) at end ⌝ }
 {
-    let typedObjects = Objects {
+    let listed = Objects {
         count: head.objects,
         at: at + limits::HEAD_SIZE,
     };
@@ -157,17 +157,17 @@ fn body(s: &[u8], h: Sections, head: Head, at: usize, end: usize) -> Answer
         s,
         h.kinds,
         end,
-        typedObjects.count as usize,
+        listed.count as usize,
         at + limits::HEAD_SIZE,
     );
     if answer::is_refused(first) {
         return first;
     }
-    let kinds = tables::kinds_of(s, h, s, typedObjects);
+    let kinds = tables::kinds_of(s, h, s, listed);
     let table = tables::table_of(s, h, &kinds);
     let scope = Scope {
         h,
-        objects: typedObjects,
+        objects: listed,
         steps: head.steps as usize,
         end,
     };
