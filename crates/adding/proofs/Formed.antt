@@ -29,7 +29,7 @@ module _ (l K M : List ℕ) (k : length K ≡ 2) (m : length M ≡ 2) (h : heade
       let rest : drop 16 (p ++ drop 8 l) ≡ drop 16 l = ap (λ (x : ℕ). drop x (p ++ drop 8 l)) j ∙ drop-append-add p (drop 8 l) 8 ∙ drop-drop 8 8 l in
       rw (k, m, front, rest)
 
--- the new book by two numbers written over the old one with the record behind it
+-- the new book by two numbers written over the old one with the record after it
 module _ (s r : List ℕ) (h : headerSize ≤ length s) where
   abbrev pub counted : List ℕ
   counted = written (s ++ r) 6 (twoBytes (two s 6 + 1))

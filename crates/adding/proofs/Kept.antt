@@ -71,7 +71,7 @@ module _ (s r : List ℕ) (old : ℕ) (was : LookedOver s old) (most : length s 
       (λ i l. sym (same _ (omega (arith, o .relations)) (omega (arith, o .relations, o .moves, o .records, o .within))))
       (λ i l. sym (same _ (omega (arith, o .moves)) (omega (arith, o .records, o .within)))))
 
-  -- the old records are good again, and what is filed in them stays
+  -- the old records are good again, and what is recorded in them stays
   old-part : Copied s (sectionsOf s .records .at) (added s r) (sectionsOf s .records .at) (length s - sectionsOf s .records .at)
   old-part = kept (sectionsOf s .records .at) from (was .sections .offsets .within)
 
@@ -81,7 +81,7 @@ module _ (s r : List ℕ) (old : ℕ) (was : LookedOver s old) (most : length s 
       let w = was .sections .offsets .within in
       records-copied old-part (sectionsOf s) (sectionsOf (added s r)) (sym kinds-kept) schema-kept _ (length s) (length s) (omega arith) (omega arith) (was .records)
 
-  -- the new record comes behind them, and so do its steps
+  -- the new record comes after them, and so do its steps
   pub record-last : walk (recordAt (sectionsOf (added s r)) (added s r)) (sectionsOf (added s r) .records .count) (sectionsOf (added s r) .records .at)
       ≡ recordAt (sectionsOf (added s r)) (added s r) (length s)
   record-last =

@@ -17,7 +17,7 @@ use Rattle.adding.specs.ReadBack.{renewed, oneMore}
 use Rattle.output.proofs.Two.{two-elsewhere, two-there}
 use Rattle.adding.proofs.Formed.{added-written, counted, length-counted, length-added}
 
--- behind the header nothing is renewed
+-- after the header nothing is renewed
 pub not-renewed : (i : ℕ) → headerSize ≤ i → renewed i ≡ false
 unfolding renewed
 not-renewed i h =

@@ -38,7 +38,7 @@ tail-sum : (a : Answer) (end m n : ℕ)
 unfolding _>>=_
 tail-sum a end m n = bind-assoc a _ _ ∙ bind-cong a _ _ (λ last. bind-assoc (refuse (ltb last end) 6 last) _ _)
 
--- Of the rows of the new book only the record count's, and those of the record behind the old book, can be met.
+-- Of the rows of the new book only the record count's, and those of the record after the old book, can be met.
 pub only-the-record : OnlyTheRecord
 only-the-record s r n e most = whole s r n (look-over-good s n e) most
 

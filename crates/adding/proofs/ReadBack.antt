@@ -64,7 +64,7 @@ as-recorded s r long good =
     sym (placed-same (stepsOfRecord (added s r) (length s)))
     ∙ recorded-copied alone (λ p. p) (λ p. length s + p) (λ i. omega arith) (sectionsOf (added s r)) (length s + length r) good (omega arith)
 
--- the record is good to the end of the book, and its steps come behind the old ones
+-- the record is good to the end of the book, and its steps come after the old ones
 module _ (s r : List ℕ) (old new : ℕ) (was : lookOver s ≡ Good old) (is : lookOver (added s r) ≡ Good new) (most : length s + length r ≤ maxLength) where
   record-good : (recordAt (sectionsOf (added s r)) (added s r) (length s) ≡ Good (length s + length r)) × (new ≡ old + stepsIn r 0)
   unfolding lookRecord

@@ -1,4 +1,4 @@
--- Looking over the new book, where the old one is of good form: of its rows only the record count and the record behind the old book can be met.
+-- Looking over the new book, where the old one is of good form: of its rows only the record count and the record after the old book can be met.
 use Prim.Native.Nat.{ℕ, _+_, _≤_}
 use mathlib.Core.Path.{_≡_}
 use mathlib.Core.List.{List}

@@ -49,10 +49,10 @@ pub record ReadBack (s r : List ℕ) (n : ℕ) : Type 0 where
   pub header : sectionsOf (added s r) ≡ oneMore (sectionsOf s) n
   pub kinds : schemaOf (added s r) .kinds ≡ schemaOf s .kinds
   pub schema : SameSchema (schemaOf s) (schemaOf (added s r))
-  -- the record's bytes stand behind them, unchanged, and are one record of good form to their end
+  -- the record's bytes stand after them, unchanged, and are one record of good form to their end
   pub behind : drop (length s) (added s r) ≡ r
   pub whole : recordAt (sectionsOf (added s r)) (added s r) (length s) ≡ Good n
-  -- all steps filed are the old book's, then the record's ..
+  -- all recorded steps are the old book's, then the record's ..
   pub steps : recordedSteps (sectionsOf (added s r)) (added s r) ≡ recordedSteps (sectionsOf s) s ++ stepsOfRecord (added s r) (length s)
   -- .. and these are what the record's bytes say by themselves, with their places in the new book
   pub asRecorded : stepsOfRecord (added s r) (length s) ≡ movedBy (length s) (stepsOfRecord r 0)

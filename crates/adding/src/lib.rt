@@ -14,7 +14,7 @@ const COUNT_AT: usize = 6;
 
 const END_AT: usize = 14;
 
-// The new book: the old one with the record behind it, record count and end renewed.
+// The new book: the old one with the record after it, record count and end renewed.
 fn form(new: &mut [u8], book: &[u8], bytes: &[u8])
     requires { ⌜ (headerSize ≤ length (now book)) × (length (now book) + length (now bytes) ≤ length (now new)) ⌝ }
     ensures { λ _. ⌜ now (new .exit) ≡ written (now (new .entry)) 0 (added (now (book .entry)) (now (bytes .entry))) ⌝ }

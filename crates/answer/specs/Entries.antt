@@ -30,7 +30,7 @@ module _ (item : ℕ → Answer) (bad : ℕ → Bool) (num size : ℕ) (is : Ent
       let g = r .1 in
       (r .0, cc)
 
-  -- a good walk ends behind the last entry
+  -- a good walk ends after the last entry
   pub entries-end : (n at m : ℕ) → walk item n at ≡ Good m → m ≡ at + size * n
   entries-end =
       walk-induction item (λ n at m. m ≡ at + size * n) (λ at. rw mul-zero (omega arith))

@@ -7,7 +7,7 @@ use lib.Dec.{leb, eqb}
 use Rattle.answer.specs.declared.Answer.{Answer}
 use Rattle.answer.specs.declared.Answer.the-variants.{Refused}
 
--- 6 is met at three rows: record head, record's tail (behind 10) and book's tail; it stands at the first of them
+-- 6 is met at three rows: record head, record's tail (after 10) and book's tail; it stands at the first of them
 unfoldable pub table : List ℕ
 table = 1 ∷ 2 ∷ 3 ∷ 4 ∷ 5 ∷ 6 ∷ 7 ∷ 8 ∷ 9 ∷ 10 ∷ 11 ∷ 12 ∷ 13 ∷ 14 ∷ 15 ∷ 16 ∷ 17 ∷ 18 ∷ 19 ∷ 20 ∷ []
 

@@ -27,7 +27,7 @@ module _ (item : ℕ → Answer) where
   walk-good zero at next h e = absurd (omega arith)
   walk-good (suc n) at next h e = rw (e, sub-one)
 
-  -- The first item of a good walk is good, and so is the walk behind it.
+  -- The first item of a good walk is good, and so is the walk after it.
   pub walk-parted : (n at last : ℕ) → walk item (suc n) at ≡ Good last → (next : ℕ) × (item at ≡ Good next) × (walk item n next ≡ Good last)
   unfolding walk
   walk-parted n at last e = parted (item at) last _ e

@@ -1,5 +1,5 @@
 // Which bound facts (lifted atoms) a move has: the test of one number, and all of them as a set of 32 bytes.
-// Uses terms for the kinds in a book, mask for the set; each contract names its definition, of terms or of specs/Atoms.antt.
+// Uses terms for the kinds in a book, mask for the set, limits; each contract names its definition, of terms or of specs/Atoms.antt.
 ghost use mathlib.Core.Path.{_≡_};
 ghost use Prim.Native.Nat.{_≤_, _<_};
 ghost use Rattle.limits.specs.Limits.{maxAtoms};

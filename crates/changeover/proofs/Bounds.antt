@@ -29,7 +29,7 @@ use Rattle.wellformed.proofs.Records.{recorded-somewhere}
 use Rattle.wellformed.proofs.Orders.{length-plan}
 use Rattle.format.proofs.OrderForm.{order-good, order-bounded}
 use Rattle.scan.specs.Scan.{Observable}
-use Rattle.scan.proofs.Noting.{record-observable}
+use Rattle.scan.proofs.Observing.{record-observable}
 use Rattle.adding.proofs.Bounds.{add-bounded}
 use Rattle.changeover.proofs.Laws.{Fits, fits-by}
 

@@ -1,2 +1,3 @@
+-- Bounds of every answer, so that it can be packed.
 mod Laws
 mod Bounds

@@ -1,1 +1,2 @@
+-- What the functions of the checker say.
 pub mod Checker

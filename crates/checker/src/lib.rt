@@ -1,5 +1,6 @@
 // Checking a plan: the book's rows 1 to 12 as in learning, row 13 for the end sheet, the order's rows 14 to 18, then the plan and its goal.
-// Uses learner, orderhead, orders, execution and output; the state is a local mask, so that a refusal leaves the lent sheet untouched.
+// Uses learner, orderhead, orders, execution, output, answer, terms and limits, and the definitions of format and statemask. The state is a
+// local mask, so that a refusal leaves the lent sheet untouched.
 use answer::Answer;
 use terms::Sections;
 ghost use mathlib.Core.Path.{_≡_};

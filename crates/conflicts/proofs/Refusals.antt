@@ -1,4 +1,4 @@
--- Rows 11 and 12: whether something is in a set, found byte by byte, and the two answers. Uses the definitions of held, and `any` of model.
+-- Rows 11 and 12: whether something is in a set, found byte by byte, and the two answers. Uses the definitions of observed, and `any` of model.
 use Prim.Native.Nat.{ℕ, zero, suc, _+_, _≤_, _<_}
 use native.Mathlib.Omega.{arith}
 use native.Mathlib.Numerals.{add-one}

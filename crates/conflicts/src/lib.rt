@@ -1,5 +1,5 @@
 // Rows 11 and 12 from what the learner has observed: the answer for a changed fact that is no bound fact of its step, and the first move with a conflict.
-// Uses rulesheet for the sets that are held, atoms for a move's bound facts, mask for sets, answer; each contract names its definition.
+// Uses rulesheet for the sets that are observed, atoms for a move's bound facts, mask for sets, answer; each contract names its definition.
 ghost use mathlib.Core.Path.{_≡_};
 ghost use Prim.Native.Nat.{_≤_};
 ghost use lib.ListN.{length};

@@ -26,10 +26,10 @@ use Rattle.wellformed.proofs.Formed.{formed}
 use Rattle.demand.specs.Demand2.{valueIn, Bits, Demand2}
 use Rattle.wellformed.proofs.Learnable.{inconsistentIn, learnable-inconsistent}
 use Rattle.demand.proofs.Demand3.{demand3}
-use Rattle.demand.proofs.RecordedStep.{sight-of-recorded, recorded-of-sight}
+use Rattle.demand.proofs.Recorded.{sight-of-recorded, recorded-of-sight}
 
 module _ (s : List ℕ) (b : Bool) (a n : ℕ) where
-  -- ---- what is learned, told of the steps as they are filed
+  -- ---- what is learned, told of the steps as they are recorded
   need-recorded : learnedFrom s .precondition b a n ≡ true
       ↔ ((isAtom (schemaOf s) a n ≡ true) × ((f : RecordedStep) → Mem f (stepsOfBook s) → f .step .action .0 ≡ a → valueIn s f (f .pre) n ≡ b))
   unfolding learnedFrom domain

@@ -87,7 +87,7 @@ module _ (s : List ℕ) (n : ℕ) (good : lookOver s ≡ Good n) where
   judge = exact (domain (schemaOf s)) (transitionsOf s) (formed s n good)
 
   -- ---- 11 or 12
-  -- an answer that begins with learning, and has only later rows behind it
+  -- an answer that begins with learning, and has only later rows after it
   exactly : (a : Answer) (k : ℕ → Answer) → a ≡ (learnable s >>= k) → MetFrom 13 (k n) → Impossible a ↔ NoneFits s
   exactly a k e from = (
     λ h. judge .unfit .0 (is-true _ (λ clean. late (k n) from (rw (e ∙ bind-good (learnable s) k n (learnable-clean s n good clean)) at h))),

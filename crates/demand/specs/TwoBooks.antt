@@ -30,7 +30,7 @@ SameSectionsSameSchema = (s t : List ℕ) (m n : ℕ) → lookOver s ≡ Good m 
 
 -- ---- the same steps of one move
 
--- the same step, states included, wherever each is filed
+-- the same step, states included, wherever each is recorded
 pub record SameStep (f g : RecordedStep) : Type 0 where
   pub step : f .step ≡ g .step
   pub pre : f .pre ≡ g .pre

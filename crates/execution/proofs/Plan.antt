@@ -18,7 +18,7 @@ use Rattle.statemask.proofs.Plan.{execute-stop, execute-go}
 use Rattle.stepping.specs.Stepping.{ruleAt}
 use Rattle.execution.specs.Execution.{Executable, Executes}
 
--- ---- what can be carried
+-- ---- what can be executed
 module _ (l o : List ℕ) (n at : ℕ) (c : Executable l o n at) (some : 0 < n) where
   pub executable-move : (st : Step) → st ≡ stepAt o at → (length l ≡ observedSize) × (1 ≤ st .action .0) × (st .action .0 ≤ maxMoves)
   unfolding stepAt

@@ -1,4 +1,4 @@
--- Names for what the functions pass on: a plan that can be carried and what it comes to.
+-- Names for what the functions pass on: a plan that can be executed and what it comes to.
 use Prim.Native.Nat.{ℕ, _+_, _*_, _≤_, _<_}
 use mathlib.Core.Path.{_≡_}
 use mathlib.Core.List.{List}

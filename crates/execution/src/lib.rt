@@ -1,5 +1,5 @@
 // A plan and its goal over a state of facts as a mask of 512 bytes: the start state, the plan by the rules that come from what is observed, and
-// the goal at the end. Uses input, terms, mask, rulesheet and stepping, and the definitions of statemask; each contract
+// the goal at the end. Uses input, limits, terms, mask, rulesheet and stepping, and the definitions of format and statemask; each contract
 // names its definition.
 ghost use mathlib.Core.Path.{_≡_};
 ghost use Prim.Native.Nat.{_+_, _*_, _≤_, _<_};

@@ -12,7 +12,7 @@ use Rattle.answer.specs.Answer.{_>>=_, refuse}
 use Rattle.answer.specs.Laws.{good-refused, refuse-met, refuse-unmet, passed}
 use Rattle.answer.specs.Refusals.{row-cases}
 
--- `f` answers for a number of entries behind one of which `last` was read; `read` is what is read at an offset
+-- `f` answers for a number of entries after one of which `last` was read; `read` is what is read at an offset
 pub record Chain {A : Type 0} (f : ℕ → A → ℕ → Answer) (bad : A → ℕ → Bool) (read : ℕ → A) (num size : ℕ) : Type 0 where
   pub none : (last : A) (at : ℕ) → f 0 last at ≡ Good at
   pub more : (n : ℕ) (last : A) (at : ℕ) → f (suc n) last at ≡ (refuse (bad last at) num at >>= λ _. f n (read at) (at + size))
@@ -45,7 +45,7 @@ module _ {A : Type 0} {f : ℕ → A → ℕ → Answer} {bad : A → ℕ → Bo
   pub chain-parted : (n : ℕ) (last : A) (at next : ℕ) → f (suc n) last at ≡ Good next → (bad last at ≡ false) × (f n (read at) (at + size) ≡ Good next)
   chain-parted n last at next e = passed (bad last at) num at next _ (sym (chain .more n last at) ∙ e)
 
-  -- good entries end behind the last one
+  -- good entries end after the last one
   pub chain-end : (n : ℕ) (last : A) (at next : ℕ) → f n last at ≡ Good next → next ≡ at + size * n
   chain-end zero last at next e =
       let p : at ≡ next = let q = sym (chain .none last at) ∙ e in cc in

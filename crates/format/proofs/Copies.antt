@@ -1,5 +1,5 @@
 -- What is of good form is so wherever its bytes stand, in a book whose schema says the same: facts, states, steps, a record, records in a
--- row. Each test that passes reads only bytes within the record. The steps filed in it are the same, with their places moved.
+-- row. Each test that passes reads only bytes within the record. The steps recorded in it are the same, with their places moved.
 use Prim.Native.Nat.{ℕ, zero, suc, _+_, _-_, _*_, _≤_}
 use mathlib.Core.Path.{_≡_, refl, sym, ap, _∙_}
 use mathlib.Core.Bool.{false}
@@ -170,7 +170,7 @@ module _ {s t : List ℕ} {at at′ size : ℕ} (c : Copied s at t at′ size) w
         let (m, f, good) = walk-beside (recordAt h s) (recordAt k t) (Facing at at′) (at + size) (λ a next e. omega (arith, record-within h s a next e)) record-beside n at at′ last (record { low = omega arith; level = omega arith }) (omega arith) e in
         good ∙ ap Good (omega arith)
 
-  -- ---- the steps filed in them, by places that are called the same
+  -- ---- the steps recorded in them, by places that are called the same
 
   module _ (f g : ℕ → ℕ) (named : (i : ℕ) → f (at + i) ≡ g (at′ + i)) where
     place-same : (a b : ℕ) → Facing at at′ a b → f a ≡ g b
@@ -231,7 +231,7 @@ module _ {s t : List ℕ} {at at′ size : ℕ} (c : Copied s at t at′ size) w
                 ),
           ))
 
-      -- What is filed in a record of good form, and in records in a row, is filed where their bytes stand, and the count of steps is the same.
+      -- What is recorded in a record of good form, and in records in a row, is recorded where their bytes stand, and the count of steps is the same.
       pub recorded-copied : (next : ℕ) → recordAt h s at ≡ Good next → next ≤ at + size → placedBy f (stepsOfRecord s at) ≡ placedBy g (stepsOfRecord t at′)
       recorded-copied next e l = record-recorded at at′ next (record { low = omega arith; level = omega arith }) l e
 
@@ -239,7 +239,7 @@ module _ {s t : List ℕ} {at at′ size : ℕ} (c : Copied s at t at′ size) w
           → (stepTotal t n at′ ≡ stepTotal s n at) × (placedBy f (stepsOfRecords s n at) ≡ placedBy g (stepsOfRecords t n at′))
       all-recorded-copied n last e l = records-recorded n at last e .1 l at′ (record { low = omega arith; level = omega arith })
 
--- one record behind records in a row: its steps come last
+-- one record after records in a row: its steps come last
 module _ (h : Sections) (s : List ℕ) where
   pub recorded-last : (n at last : ℕ) → walk (recordAt h s) n at ≡ Good last
       → (stepTotal s (suc n) at ≡ stepTotal s n at + stepsIn s last) × (stepsOfRecords s (suc n) at ≡ stepsOfRecords s n at ++ stepsOfRecord s last)

@@ -19,7 +19,7 @@ pub record Copied (s : List ℕ) (at : ℕ) (t : List ℕ) (at′ size : ℕ) : 
   pub within : at′ + size ≤ length t
   pub bytes : (i : ℕ) → i < size → byteAt t (at′ + i) ≡ byteAt s (at + i)
 
--- what stands in two books, behind whatever bytes and before whatever bytes
+-- what stands in two books, after whatever bytes and before whatever bytes
 pub part-copied : (r x y x′ y′ : List ℕ) → Copied (x ++ (r ++ y)) (length x) (x′ ++ (r ++ y′)) (length x′) (length r)
 unfolding byteAt
 part-copied r x y x′ y′ =
@@ -28,7 +28,7 @@ part-copied r x y x′ y′ =
       bytes = λ i l. rw (getD-append-add x′ (r ++ y′) i 0, getD-append-add x (r ++ y) i 0, List·getD-append r y′ 0 i l, List·getD-append r y 0 i l);
     }
 
--- offset b lies as far behind `at′` as offset a behind `at`
+-- offset b lies as far after `at′` as offset a after `at`
 pub record Facing (at at′ a b : ℕ) : Type 0 where
   pub low : at ≤ a
   pub level : a + at′ ≡ b + at

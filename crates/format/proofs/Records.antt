@@ -54,7 +54,7 @@ module _ (kinds : ℕ) (s : List ℕ) (end : ℕ) where
   objects-end n at next e = omega (arith, entries-end _ _ 7 1 object-entry n at next e)
 
 module _ (sch : Schema) (ob : TypedObjects) (s : List ℕ) (end : ℕ) where
-  -- a good step suits, has no object twice, and the state behind it is good
+  -- a good step suits, has no object twice, and the state after it is good
   pub step-good : (at next : ℕ)
       → step sch ob s end at ≡ Good next
       → (stepBad sch ob (stepAt s at) ≡ false) × (repeats (stepAt s at) ≡ false) × (state sch ob s end (at + stepSize) ≡ Good next)
@@ -71,14 +71,14 @@ module _ (sch : Schema) (ob : TypedObjects) (s : List ℕ) (end : ℕ) where
   pub step-within : (at next : ℕ) → step sch ob s end at ≡ Good next → next ≤ end
   step-within at next e = state-within sch ob s end _ _ (step-good at next e .2)
 
-  -- the first step behind a good state stands where the state's bytes end
+  -- the first step after a good state stands where the state's bytes end
   pub trajectory-parted : (n at next last : ℕ) → state sch ob s end at ≡ Good next → walk (step sch ob s end) (suc n) next ≡ Good last
       → (after : ℕ) × (step sch ob s end (stateEnd s at) ≡ Good after) × (walk (step sch ob s end) n after ≡ Good last)
   trajectory-parted n at next last e w =
       let (after, good, rest) = walk-parted (step sch ob s end) n next last w in
       (after, subst (λ (x : ℕ). step sch ob s end x ≡ Good after) (state-ends sch ob s end at next e .0) good, rest)
 
--- a good record: its start state ends at `after`, its steps at `last`, behind which it has no bytes
+-- a good record: its start state ends at `after`, its steps at `last`, after which it has no bytes
 pub record RecordGood (h : Sections) (s : List ℕ) (at next : ℕ) : Type 0 where
   pub after : ℕ
   pub last : ℕ

@@ -20,7 +20,7 @@ use Rattle.format.specs.Decode.{stateEnd}
 use Rattle.format.proofs.Chains.{Chain, chain-end}
 
 module _ (sch : Schema) (ob : TypedObjects) (s : List ℕ) (end : ℕ) where
-  -- a fact that is not refused ends within, suits, and comes behind the one before it
+  -- a fact that is not refused ends within, suits, and comes after the one before it
   pub fact-good : (last : Fact) (at : ℕ)
       → factRefused sch ob s end last at ≡ false
       → (at + factSize ≤ end) × (factBad sch ob (factAt s at) ≡ false) × (precedes last (factAt s at) ≡ true)
@@ -59,7 +59,7 @@ module _ (sch : Schema) (ob : TypedObjects) (s : List ℕ) (end : ℕ) where
       let b = facts-bounded 8 sch ob s end (omega arith) (two s at) noFact (at + countSize) (count-within s end at (p .0) .0) in
       rw (p .1) at b
 
-  -- and behind its last fact
+  -- and after its last fact
   pub state-end : (at next : ℕ) → state sch ob s end at ≡ Good next → next ≡ at + countSize + factSize * two s at
   unfolding state
   state-end at next e = chain-end (facts-chain 8 sch ob s end) _ _ _ _ (passed _ _ _ _ _ e .1)

@@ -21,7 +21,7 @@ stateAt s at = factsAt s (two s at) (at + countSize)
 unfoldable pub stateEnd : List ℕ → ℕ → ℕ
 stateEnd s at = at + countSize + factSize * two s at
 
--- a step as filed, with the facts that hold before and after it (a transition), and its offset
+-- a step as recorded, with the facts that hold before and after it (a transition), and its offset
 pub record RecordedStep : Type 0 where
   pub place : ℕ
   pub step : Step
@@ -33,7 +33,7 @@ unfoldable pub recordedStep : List ℕ → ℕ → ℕ → RecordedStep
 recordedStep s pre at =
     record { place = at; step = stepAt s at; pre = stateAt s pre; post = stateAt s (at + stepSize) }
 
--- a number of steps behind the state at an offset
+-- a number of steps after the state at an offset
 unfoldable pub recordedStepsAt : List ℕ → ℕ → ℕ → List RecordedStep
 recordedStepsAt s zero at = []
 recordedStepsAt s (suc n) at =

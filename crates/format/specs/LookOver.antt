@@ -12,12 +12,12 @@ use Rattle.terms.specs.Sections.{sectionsOf}
 use Rattle.format.specs.Header.{sections}
 use Rattle.format.specs.Records.{stepsIn, lengthIn, recordAt}
 
--- the sum of the step counts filed in a number of records from an offset
+-- the sum of the step counts recorded in a number of records from an offset
 unfoldable pub stepTotal : List ℕ → ℕ → ℕ → ℕ
 stepTotal s zero at = 0
 stepTotal s (suc n) at = stepsIn s at + stepTotal s n (at + lengthIn s at)
 
--- a number of records from an offset, and no bytes behind them
+-- a number of records from an offset, and no bytes after them
 unfoldable pub allRecords : Sections → List ℕ → ℕ → ℕ → Answer
 allRecords h s n from = do
   last ← walk (recordAt h s) n from

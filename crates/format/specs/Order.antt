@@ -66,7 +66,7 @@ orderObject kinds o at = do
   _ ← refuse (outOfRange kinds (byteAt o at)) 15 at
   Good (at + 1)
 
--- row 17: a byte 1 or 0, then a fact behind the one of the entry before
+-- row 17: a byte 1 or 0, then a fact after the one of the entry before
 unfoldable pub entryBad : Schema → TypedObjects → List ℕ → Fact → ℕ → Bool
 entryBad sch ob o last at = ltb 1 (byteAt o at) || factBad sch ob (factAt o (at + 1)) || not (precedes last (factAt o (at + 1)))
 

@@ -55,13 +55,13 @@ step sch ob s end at = do
 unfoldable pub objectsOf : List ℕ → ℕ → Objects
 objectsOf s at = record { count = objectsIn s at; at = at + headSize }
 
--- the part of a record behind its objects: a state, then steps each with the state after it
+-- the part of a record after its objects: a state, then steps each with the state after it
 unfoldable pub trajectory : Schema → TypedObjects → List ℕ → ℕ → ℕ → ℕ → Answer
 trajectory sch ob s end n at = do
   next ← state sch ob s end at
   walk (step sch ob s end) n next
 
--- the record at an offset, behind what its trajectory answers: no bytes are left
+-- the record at an offset, after what its trajectory answers: no bytes are left
 unfoldable pub closed : ℕ → ℕ → Answer → Answer
 closed at end a = do
   last ← a

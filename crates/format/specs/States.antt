@@ -19,7 +19,7 @@ cut end at size = ltb end (at + size)
 unfoldable pub countBad : List ℕ → ℕ → ℕ → Bool
 countBad s end at = cut end at countSize || ltb maxFacts (two s at)
 
--- the fact is cut, wrong, or not behind the one before it
+-- the fact is cut, wrong, or not after the one before it
 unfoldable pub factRefused : Schema → TypedObjects → List ℕ → ℕ → Fact → ℕ → Bool
 factRefused sch ob s end last at = cut end at factSize || factBad sch ob (factAt s at) || not (precedes last (factAt s at))
 

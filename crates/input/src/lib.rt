@@ -1,4 +1,4 @@
-// Bytes and two-byte numbers of an input. Reading is total: past the end a byte is 0. Uses no other crate.
+// Bytes and two-byte numbers of an input. Reading is total: past the end a byte is 0. Uses the ceilings of limits, in a contract alone.
 ghost use mathlib.Core.Path.{_≡_};
 ghost use Prim.Native.Nat.{_≤_};
 ghost use Rattle.limits.specs.Limits.{farCeiling};

@@ -49,7 +49,7 @@ unfolding copies
 length-copies zero r = sym (mul-zero (length r))
 length-copies (suc n) r = length-append r (copies n r) ∙ rw (length-copies n r, mul-suc) (omega arith)
 
--- a record that is good behind x, and a book t whose schema says the same
+-- a record that is good after x, and a book t whose schema says the same
 module _ (h k : Sections) (x r t : List ℕ) (kinds : h .kinds ≡ k .kinds) (same : SameSchema (schema h (x ++ (r ++ []))) (schema k t)) (good : recordAt h (x ++ (r ++ [])) (length x) ≡ Good (length x + length r)) where
   -- copies of it to the end of t are good, and each has its steps
   copies-good : (n : ℕ) (front : List ℕ) → t ≡ front ++ copies n r

@@ -11,7 +11,7 @@ use Rattle.terms.specs.Sections.{sectionsOf}
 use Rattle.limits.specs.Limits.{maxLength, headerSize}
 use Rattle.format.specs.LookOver.{lookOver}
 
--- the old book with the record's bytes behind it, record count (bytes 6 and 7) and end (14 and 15) renewed
+-- the old book with the record's bytes after it, record count (bytes 6 and 7) and end (14 and 15) renewed
 unfoldable pub added : List ℕ → List ℕ → List ℕ
 added s r =
     take 6 s

@@ -31,7 +31,7 @@ transition sch f = record { step = groundAction sch (f .step); pre = holding (f 
 unfoldable pub goalEntry : GoalEntry → GoalLiteral
 goalEntry e = record { wanted = e .wanted; fact = factNumber (e .fact) }
 
--- what a book says: its schema, and its steps as filed and as transitions
+-- what a book says: its schema, and its steps as recorded and as transitions
 unfoldable pub schemaOf : List ℕ → Schema
 schemaOf s = schema (sectionsOf s) s
 

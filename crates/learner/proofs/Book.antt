@@ -67,9 +67,9 @@ module _ (s : List ℕ) (h : Sections) (own : h ≡ sectionsOf s) where
   all-observed first bytes w m e r f = rw (e, own) at (r .observes refl m f)
 
   -- the records by the header that was read
-  pub scanned-own : (n from : ℕ) (noting : Bool) (before : Observed) (bytes : List ℕ) (w : Walked)
-      → RecordsScanned (sectionsOf s) s n from noting before bytes w → RecordsScanned h s n from noting before bytes w
-  scanned-own n from noting before bytes w e = rw own e
+  pub scanned-own : (n from : ℕ) (observing : Bool) (before : Observed) (bytes : List ℕ) (w : Walked)
+      → RecordsScanned (sectionsOf s) s n from observing before bytes w → RecordsScanned h s n from observing before bytes w
+  scanned-own n from observing before bytes w e = rw own e
 
   -- rows 6 to 10
   pub at-records : (first bytes : List ℕ) (w : Walked) (a : Answer) (b : Bool)
@@ -90,7 +90,7 @@ module _ (s : List ℕ) (h : Sections) (own : h ≡ sectionsOf s) where
   unfolding schemaOf schema
   moves-own = rw own
 
--- rows 11 and 12 from what is observed, behind rows 1 to 10
+-- rows 11 and 12 from what is observed, after rows 1 to 10
 module _ (s bytes : List ℕ) (w : Walked) (form : FormObserved s bytes w) (b : Bool) (told : b ≡ isRefused (w .answer)) where
   pub at-form : b ≡ true → BookObserved s bytes (w .answer)
   unfolding learnable
@@ -140,7 +140,7 @@ module _ (s bytes : List ℕ) (w : Walked) (form : FormObserved s bytes w) (b : 
         pub at-end : b₃ ≡ false → BookObserved s bytes (w .answer)
         at-end t = record { says = good ∙ part-follows _ (λ _. Good total) d b₃ _ row12 told₃ t refl ∙ behind; observes = λ m f. observes .masks }
 
--- learning, by what noting the book returned
+-- learning, by what observing the book returned
 pub learn-refused : (s old : List ℕ) (a : Answer) (b : Bool) → a ≡ learnable s → b ≡ isRefused a → b ≡ true → LearnOutcome s old old a
 unfolding learn learnBytes kept isRefused
 learn-refused s old a b e q r =

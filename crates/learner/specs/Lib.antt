@@ -1,1 +1,2 @@
+-- What the functions of the learner say.
 pub mod Learner

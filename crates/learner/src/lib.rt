@@ -1,5 +1,6 @@
-// Learning: the records of a book walked once, each looked over and noted; then rows 11 to 13 and the rule sheet from what is observed.
-// Uses sections and walk for the rows of the form, rulesheet and conflicts for what comes of what is observed.
+// Learning: the records of a book walked once, each looked over and observed; then rows 11 to 13 and the rule sheet from what is observed.
+// Uses sections and scan for the rows of the form, notes for what is observed before any record, rulesheet and conflicts for what comes of what is
+// observed, answer, limits and terms, and the definitions of jobs and observed.
 use answer::Answer;
 use scan::Walked;
 use terms::Sections;
@@ -9,7 +10,7 @@ ghost use Rattle.limits.specs.Limits.{observedSize};
 ghost use Rattle.learner.specs.Learner.{FormObserved, BookObserved, LearnOutcome};
 ghost use Rattle.terms.specs.Sections.{sectionsOf};
 
-// Rows 1 to 10: the book looked over and noted in one walk.
+// Rows 1 to 10: the book looked over and observed in one walk.
 fn observe_form(s: &[u8], h: Sections, observed: &mut [u8]) -> Walked
     requires { ⌜ (h ≡ sectionsOf (now s)) × (length (now observed) ≡ observedSize) ⌝ }
     ensures { λ r. ⌜ FormObserved (now (s .entry)) (now (observed .exit)) r ⌝ }

@@ -1,4 +1,4 @@
--- Bytes put behind the first ones of a line.
+-- Bytes put after the first ones of a line.
 use Prim.Native.Nat.{ℕ, _+_, _≤_}
 use native.Mathlib.Omega.{arith}
 use mathlib.Core.Path.{_≡_, sym, ap, _∙_}

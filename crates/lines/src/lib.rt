@@ -1,5 +1,5 @@
 // Lines of text: put together in a buffer that the caller lends, to be written at once. `at` is the length of the text so far.
-// Uses output to copy bytes, io to spell numbers, terms and mask to read a book's schema and a rule sheet; the lines are those of jobs' Listing.
+// Uses output to copy bytes, io to spell numbers, terms, mask, limits and jobs to read a book's schema and a rule sheet; the lines are those of jobs' Listing.
 ghost use mathlib.Core.Path.{_≡_};
 ghost use mathlib.Core.Bool.{true, false};
 ghost use mathlib.Core.List.{_++_};
@@ -17,7 +17,7 @@ use terms::Sections;
 
 // ---- pieces of a line
 
-// Puts bytes behind the first `at` of a line, and answers its new length.
+// Puts bytes after the first `at` of a line, and answers its new length.
 pub fn put(line: &mut [u8], at: usize, bytes: &[u8]) -> usize
     requires { ⌜ at + length (now bytes) ≤ length (now line) ⌝ }
     ensures { λ r. ⌜ (r ≡ at + length (now (bytes .entry))) × Counts r (now (line .exit)) ⌝ }

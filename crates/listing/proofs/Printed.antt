@@ -31,7 +31,7 @@ learned-by s h old new r steps own l e =
     let f = form-good s (p .0) (p .1) in
     record { own = own; few-moves = rw own (moves-few s (f .0) (f .1)); few-relations = rw own (relations-few s (f .0) (f .1)); bytes = l .bytes ∙ ap (λ a. kept a (ruleSheet s) old) good }
 
--- the first line, and the lines of the moves behind it
+-- the first line, and the lines of the moves after it
 pub listing-by : (s : List ℕ) (h : Sections) (sheet : List ℕ) → SheetOf s h sheet
     → (text next : List ℕ) (steps : ℕ)
     → text ≡ countsLine (h .moves .count) (h .records .count) steps

@@ -1,4 +1,4 @@
--- The lines of numbers one after another, and a loop that puts each behind what is there.
+-- The lines of numbers one after another, and a loop that puts each after what is there.
 use Prim.Native.Nat.{ℕ, suc, _-_}
 use native.Mathlib.Nat.{sub-zero}
 use mathlib.Core.Path.{_≡_, refl, sym, ap, _∙_}
@@ -20,7 +20,7 @@ atoms-each sch M a = record { none = λ n. refl; more = λ left n. refl }
 unfoldable pub Split : List ℕ → List ℕ → List ℕ → Type 0
 Split text rest whole = text ++ rest ≡ whole
 
--- a loop that puts the text of each number behind what is there: its first turn, any turn, and its end
+-- a loop that puts the text of each number after what is there: its first turn, any turn, and its end
 module _ (item : ℕ → List ℕ) (lines : ℕ → ℕ → List ℕ) (each : Each item lines) where
   pub first : (text : List ℕ) (left n : ℕ) → Split text (lines (left - 0) n) (text ++ lines left n)
   unfolding Split

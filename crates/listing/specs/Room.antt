@@ -16,6 +16,6 @@ moveLinesSize = 5120
 abbrev pub allLinesSize : ℕ
 allLinesSize = 163840
 
--- the first line, the moves' lines, and room behind them
+-- the first line, the moves' lines, and room after them
 abbrev pub listingRoom : ℕ
 listingRoom = 164096

@@ -1,6 +1,6 @@
 // What the program `rules` prints of a book, put into a buffer that the caller lends: the first line and, by move and then number, the
 // line of every bound fact; or the refused line. The whole is proved to be jobs' rulesPrinted.
-// Uses learner for the sheet, atoms for what is a bound fact, lines for each line.
+// Uses learner for the sheet, atoms for what is a bound fact, lines for each line, answer, terms and limits.
 ghost use mathlib.Core.Path.{_≡_};
 ghost use mathlib.Core.List.{_++_};
 ghost use Prim.Native.Nat.{_+_, _*_, _≤_, _<_};

@@ -1,6 +1,6 @@
 // Looking over a book: rows 1 to 10 of the refusal table, for any bytes; the count of all steps is good.
-// Uses answer, limits, terms, sections, records, the reader of one record and walk, and the definitions of format. The records are walked once, and
-// nothing is noted.
+// Uses answer, limits, terms, sections, records, the reader of one record, scan, and the definitions of format. The records are walked once, and
+// nothing is observed.
 use answer::Answer;
 use records::Head;
 use terms::Sections;

@@ -1,4 +1,4 @@
--- From a fact to its bound fact by a table of shares: the table of a binding, and a fact's mark. Uses the definitions of held.
+-- From a fact to its bound fact by a table of digits: the table of a binding, and a fact's mark. Uses the definitions of observed.
 use Prim.Native.Nat.{ℕ, _+_, _-_, _*_, _<_, _≤_}
 use mathlib.Core.Path.{_≡_, refl, sym, ap, _∙_}
 use mathlib.Core.Bool.{Bool, true, false, cond, _&&_, _||_, not}

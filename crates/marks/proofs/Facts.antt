@@ -1,5 +1,5 @@
 -- The facts of a state in the bytes: the next one, and all of them marked in a set. For `Cursor` and `mark_rest` of src/lib.rt.
--- Uses the definitions of format and held, Unbound for row 11.
+-- Uses the definitions of format and observed, Unbound for row 11.
 use Prim.Native.Nat.{ℕ, zero, suc, _+_, _-_, _<_, _≤_}
 use mathlib.Core.Path.{_≡_, refl, sym, ap, _∙_}
 use mathlib.Core.Bool.{Bool, false, _||_, or-assoc, or-false}

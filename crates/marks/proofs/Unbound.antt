@@ -1,4 +1,4 @@
--- Row 11 of two lists of facts, one fact at a time. Uses the definitions of held.
+-- Row 11 of two lists of facts, one fact at a time. Uses the definitions of observed.
 use mathlib.Core.Path.{_≡_, refl}
 use mathlib.Core.Bool.{Bool, true, false, cond, _||_, not}
 use mathlib.Core.List.{List, [], _∷_}

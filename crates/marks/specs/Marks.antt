@@ -1,5 +1,5 @@
 -- A step's bound facts and row 11, in the parts that the functions compute: a table of a binding, the facts of a state that are yet to come,
--- and two states walked together. `StepMarked` is for callers. Uses the definitions of held and format.
+-- and two states walked together. `StepMarked` is for callers. Uses the definitions of observed and format.
 use Prim.Native.Nat.{ℕ, _+_, _-_, _*_, _<_, _≤_}
 use mathlib.Core.Path.{_≡_}
 use mathlib.Core.Bool.{Bool, cond, _||_}
@@ -28,7 +28,7 @@ pairOf b f = 4 * digit b (f .first) + digit b (f .second)
 unfoldable pub noDigits : List ℕ
 noDigits = replicate 256 atomsPerRelation
 
--- a table of the shares, by the number of the object
+-- a table of the digits, by the number of the object
 pub record Inverts (b : Binding) (t : List ℕ) : Type 0 where
   pub long : length t ≡ 256
   pub gives : (x : ℕ) → x < 256 → getD t x 0 ≡ digit b (record { 0 = x })
@@ -44,7 +44,7 @@ pub record Ahead (s : List ℕ) (c : Cursor) : Type 0 where
   pub within : c .at + factSize * c .left ≤ length s
   pub near : c .at + factSize * c .left ≤ farCeiling
 
--- behind the next fact
+-- after the next fact
 unfoldable pub next : Cursor → Cursor
 next c = record { at = c .at + factSize; left = c .left - 1 }
 

@@ -1,5 +1,5 @@
 // Which bound facts (lifted atoms) of a step hold before and after it, and row 11: whether any other fact changed.
-// Uses terms for facts and bindings, mask for the sets; the contracts cite held and format, and specs/Marks.antt for the parts.
+// Uses terms for facts and bindings, mask for the sets, input, limits; the contracts cite observed and format, and specs/Marks.antt for the parts.
 ghost use mathlib.Core.Path.{_≡_};
 ghost use Prim.Native.Nat.{_+_, _*_, _≤_, _<_};
 ghost use mathlib.Core.List.{[]};

@@ -1,4 +1,4 @@
--- Running under a stricter model: what it carries, the other carries alike; where the other stops, it has stopped before or there.
+-- Running under a stricter model: what it executes, the other executes alike; where the other stops, it has stopped before or there.
 -- Nothing here mentions transitions.
 use Prim.Native.Nat.{ℕ, suc, _+_, _≤_, _<_}
 use native.Mathlib.Omega.{arith}

@@ -1,4 +1,4 @@
--- Whether two truth values are the same, as a test. Other laws of truth values: answer/specs/Bools.
+-- Whether two truth values are the same, as a test. Other laws of truth values: truth/specs/Bools.
 use mathlib.Core.Path.{_≡_, refl, sym}
 use mathlib.Core.Bool.{Bool, true, false, not}
 use Rattle.model.specs.Quantify.{same}

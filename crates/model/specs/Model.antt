@@ -31,7 +31,7 @@ inapplicable D M s st = below (D .atoms) (λ n. M .precondition (not (st (s .gro
 unfoldable pub next : Domain → Model → GroundAction → State → State
 next D M s st f = image D (M .effect true (s .action)) s f || (st f && not (image D (M .effect false (s .action)) s f))
 
--- the model carries the transition: the step is applicable and yields the state after it
+-- the model fits the transition: the step is applicable and yields the state after it
 pub record Fits (D : Domain) (M : Model) (t : Transition) : Type 0 where
   pub goes : inapplicable D M (t .step) (t .pre) ≡ false
   pub yields : (f : ℕ) → t .post f ≡ next D M (t .step) (t .pre) f

@@ -1,4 +1,4 @@
--- Sets in the bytes of what is observed: a part that was lent and came back, and a step's six sets. Uses the definitions of held, and the kit's for
+-- Sets in the bytes of what is observed: a part that was lent and came back, and a step's six sets. Uses the definitions of observed, and the kit's for
 -- a part of a slice.
 use Prim.Native.Nat.{ℕ, _+_, _-_, _*_}
 use mathlib.Core.Path.{_≡_, sym}

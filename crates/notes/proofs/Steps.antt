@@ -1,4 +1,4 @@
--- What is observed after a step, from the step's bound facts and row 11 of it. Uses the definitions of held, and what marks says of a step.
+-- What is observed after a step, from the step's bound facts and row 11 of it. Uses the definitions of observed, and what marks says of a step.
 use Prim.Native.Nat.{ℕ, _+_}
 use mathlib.Core.Path.{_≡_, _∙_}
 use mathlib.Core.Bool.{Bool}

@@ -1,4 +1,4 @@
--- What is observed after a step, in the parts that the functions compute. `IsObserved` and `observedStep` are for callers. Uses the definitions of held and format.
+-- What is observed after a step, in the parts that the functions compute. `IsObserved` and `observedStep` are for callers. Uses the definitions of observed and format.
 use Prim.Native.Nat.{ℕ, _/_, _%_}
 use mathlib.Core.Path.{_≡_}
 use mathlib.Core.Bool.{cond, _||_}

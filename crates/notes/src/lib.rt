@@ -1,5 +1,5 @@
 // What the learner has observed after a step: six sets of bound facts (lifted atoms) for each move, and the first step that row 11 names.
-// Uses marks for the bound facts of a step, mask for the sets; the contracts cite held and format, and specs/Notes.antt for the parts.
+// Uses marks for the bound facts of a step, mask for the sets, terms, limits, and the numbers of the sets from observed; the contracts cite observed and format, and specs/Notes.antt for the parts.
 ghost use mathlib.Core.Path.{_≡_};
 ghost use Prim.Native.Nat.{_+_, _≤_};
 ghost use lib.ListN.{length};

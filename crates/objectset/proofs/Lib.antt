@@ -1,1 +1,2 @@
+-- Laws of sets of objects and of tables.
 pub mod Laws

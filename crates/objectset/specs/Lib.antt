@@ -1,1 +1,2 @@
+-- Sets of objects as numbers, and tables of them.
 pub mod Sets

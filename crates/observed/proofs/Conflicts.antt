@@ -24,7 +24,7 @@ use Rattle.jobs.specs.Learn.{conflictAnswer, conflictingMove}
 use Rattle.observed.specs.Observed.{alwaysAfter, everAfter, added, deleted}
 use Rattle.observed.specs.Rules.{observedSet, conflictObserved, conflictAmong, inUse, conflictSet}
 use Rattle.observed.specs.Seen.{inSet, Seen}
-use Rattle.observed.proofs.BookObserved.{length-observedSet}
+use Rattle.observed.proofs.Noted.{length-observedSet}
 use Rattle.observed.proofs.Sheet.{atoms-in}
 
 -- ---- a byte that is not 0 is a bit that is set

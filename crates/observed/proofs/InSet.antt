@@ -11,7 +11,7 @@ use Rattle.model.specs.Learned.{saw, before, after, turned}
 use Rattle.model.proofs.Truth.{same-true, same-false}
 use Rattle.model.proofs.Row.{saw-append}
 use Rattle.observed.specs.Seen.{inSet}
-use Rattle.observed.proofs.BookObserved.{changed}
+use Rattle.observed.proofs.Noted.{changed}
 
 -- the sight that set k is about, and whether the set has what was seen or what was not
 looks : ℕ → Bool → Bool → Bool

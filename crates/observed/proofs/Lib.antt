@@ -2,7 +2,7 @@
 pub mod Facts
 pub mod Params
 pub mod Parts
-pub mod BookObserved
+pub mod Noted
 pub mod InSet
 pub mod Observe
 pub mod Sheet

@@ -27,7 +27,7 @@ use Rattle.observed.specs.Rules.{observedSet}
 use Rattle.observed.specs.Faithful.{Faithful}
 use Rattle.observed.specs.Seen.{inSet, Seen}
 use Rattle.observed.proofs.Parts.{part-byte}
-use Rattle.observed.proofs.BookObserved.{length-noted, bytes-noted, noted-own, noted-other}
+use Rattle.observed.proofs.Noted.{length-noted, bytes-noted, noted-own, noted-other}
 use Rattle.observed.proofs.InSet.{shown-own, shown-other}
 
 -- ---- the bound facts of a step are a mask of 32 bytes

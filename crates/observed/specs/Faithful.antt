@@ -1,4 +1,4 @@
--- What learning asks of one step as filed: that the bound facts found from the facts are those that the step's grounding means. Good form gives it.
+-- What learning asks of one step as recorded: that the bound facts found from the facts are those that the step's grounding means. Good form gives it.
 use Prim.Native.Nat.{ℕ, _≤_, _<_}
 use mathlib.Core.Path.{_≡_}
 use mathlib.Core.Bool.{true}

@@ -19,14 +19,14 @@ use Rattle.wellformed.proofs.Headers.{relations-few, moves-few}
 use Rattle.observedright.proofs.States.{state-found}
 use Rattle.observedright.proofs.UnboundEffects.{unbound-changed-right}
 
--- ---- a step stands behind a state, so not at 0
+-- ---- a step stands after a state, so not at 0
 steps-placed : (s : List ℕ) (n at : ℕ) {f : RecordedStep} → Mem f (recordedStepsAt s n at) → 1 ≤ f .place
 unfolding recordedStepsAt recordedStep stateEnd
 steps-placed s (suc n) at here = omega arith
 steps-placed s (suc n) at (there m) = steps-placed s n (stateEnd s at + stepSize) m
 
 module _ (s : List ℕ) (n : ℕ) (good : lookOver s ≡ Good n) where
-  -- Every step that is filed in a book of good form is faithful.
+  -- Every step that is recorded in a book of good form is faithful.
   pub recorded-faithful : (f : RecordedStep) → Mem f (stepsOfBook s) → Faithful (schemaOf s) f
   unfolding stepsOfRecord
   recorded-faithful f m =

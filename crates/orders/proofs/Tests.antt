@@ -62,7 +62,7 @@ walk-same item n m a b p q = rw (p, q)
 pub object-bad-by : (kinds : ℕ) (o : List ℕ) (at kind : ℕ) (b : Bool) → kind ≡ byteAt o at → b ≡ outOfRange kinds kind → b ≡ outOfRange kinds (byteAt o at)
 object-bad-by kinds o at kind b p q = rw (← p) q
 
--- the objects stand behind the header, and are few enough for a table
+-- the objects stand after the header, and are few enough for a table
 pub objects-fit : (o : List ℕ) (objects : Objects) → objects ≡ orderObjects o → objectCount o ≤ maxObjects → (objects .at ≤ nearCeiling) × (objects .count < 32)
 unfolding orderObjects
 objects-fit o objects e l = rw e (omega arith, omega arith)

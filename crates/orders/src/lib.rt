@@ -1,5 +1,5 @@
-// Rows 15 to 18 of the refusal table behind row 14: the objects, the start facts, the goal entries and the plan steps of an order.
-// Uses answer, input, terms, tables, states, orderhead and the definitions of format. `book` has the schema, by its header `h`; `o` is the order.
+// Rows 15 to 18 of the refusal table after row 14: the objects, the start facts, the goal entries and the plan steps of an order.
+// Uses answer, input, limits, terms, tables, states, orderhead and the definitions of format. `book` has the schema, by its header `h`; `o` is the order.
 // What suits is told by two tables of the order's objects, made once.
 use answer::Answer;
 use states::FactCursor;
@@ -106,7 +106,7 @@ fn from_goal(book: &[u8], h: Sections, kinds: &[u32; 256], table: &[u32; 512], o
     plan(book, h, kinds, o)
 }
 
-// Rows 16 to 18: the sections behind the objects, by the tables of these. Goal entries are looked at behind good start facts.
+// Rows 16 to 18: the sections after the objects, by the tables of these. Goal entries are looked at after good start facts.
 fn from_start(book: &[u8], h: Sections, o: &[u8]) -> Answer
     requires { ⌜ (objectCount (now o) ≤ maxObjects) × (startCount (now o) ≤ maxFacts) × (stepsAt (now o) ≤ length (now o)) ⌝ }
     ensures { λ r. ⌜ r ≡ fromStart (schema h (now (book .entry))) (typedObjects (orderObjects (now (o .entry))) (now (o .entry))) (now (o .entry)) ⌝ }

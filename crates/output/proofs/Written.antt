@@ -66,7 +66,7 @@ behind : (s r q : List ℕ) → written (s ++ q) (length s) r ≡ s ++ r ++ drop
 unfolding written
 behind s r q = rw (take-append-seam, drop-append-add)
 
--- behind what was written from the front on
+-- after what was written from the front on
 pub behind-written : (d s r : List ℕ) → written (written d 0 s) (length s) r ≡ s ++ r ++ drop (length s + length r) d
 behind-written d s r = rw (front-written d s, behind s r (drop (length s) d), drop-drop)
 

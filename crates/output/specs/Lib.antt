@@ -1,1 +1,2 @@
+-- Bytes written over a list.
 pub mod Written

@@ -1,1 +1,2 @@
+-- What the reader of records answers.
 pub mod Reader

@@ -1,5 +1,5 @@
 // A book as the records' walk holds it: its bytes, and the offset of the record that comes next.
-// Uses answer, terms, records, and the definitions of format. The borrow checker covers no function over a struct that holds a
+// Uses answer, limits, terms, records, and the definitions of format. The borrow checker covers no function over a struct that holds a
 // reference, so those here are thin, and each is a proof by hand; the work is `record_of`'s. Other crates call `record_from`.
 use answer::Answer;
 use terms::Sections;

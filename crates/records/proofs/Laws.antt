@@ -31,7 +31,7 @@ module _ (h : Sections) (s : List ℕ) (at end : ℕ) (head : Head) (read : head
   unfolding body headOf
   body-stays a b p q r = part-stays _ _ a b (rw read at p) q r
 
-  -- behind good objects
+  -- after good objects
   pub body-rest : (v : ℕ) (a : Answer) (b : Bool) (t : Answer)
       → a ≡ walk (object (h .kinds) s end) (head .objects) (at + headSize)
       → b ≡ isRefused a

@@ -47,7 +47,7 @@ module _ (sch : Schema) (ob : TypedObjects) (s : List ℕ) (end : ℕ) where
   unfolding step
   step-nine at b p e = refuse-met _ _ _ _ (sym p ∙ e)
 
-  -- what stands behind row 9
+  -- what stands after row 9
   module _ (at : ℕ) (st : Step) (b : Bool) (told : b ≡ stepRefused sch ob s end at) (right : b ≡ false) (read : st ≡ stepAt s at) where
     behind-nine : step sch ob s end at ≡ (refuse (repeats st) 10 at >>= λ _. state sch ob s end (at + stepSize))
     unfolding step

@@ -1,4 +1,4 @@
--- A move's row of the sheet, and the sheet, row after row. Uses the sets of held, mask's lengths, and output's laws.
+-- A move's row of the sheet, and the sheet, row after row. Uses the sets of observed, mask's lengths, and output's laws.
 use Prim.Native.Nat.{ℕ, zero, suc, _+_, _-_, _*_, _≤_}
 use native.Mathlib.Omega.{arith}
 use mathlib.Core.Path.{_≡_, refl, sym, _∙_, ap, ap₂}

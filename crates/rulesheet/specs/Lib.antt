@@ -1,2 +1,2 @@
--- What the contracts cite besides the definitions of held: rules in memory.
+-- What the contracts cite besides the definitions of observed: rules in memory.
 pub mod Sheet

@@ -1,4 +1,4 @@
--- Rules in memory: a move's four sets as an array, and as the 128 bytes of its row. Uses the sets of held.
+-- Rules in memory: a move's four sets as an array, and as the 128 bytes of its row. Uses the sets of observed.
 use Prim.Native.Nat.{ℕ, _≤_}
 use mathlib.Core.Path.{_≡_}
 use mathlib.Core.Bool.{true, false}

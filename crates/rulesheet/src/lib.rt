@@ -1,6 +1,7 @@
 // The rules of a move from what the learner has observed, and the rule sheet: each move's four sets, by value and as the bytes of its row.
-// Uses atoms for the bound facts of a move, mask for the sets, output for the bytes; each contract names its definition,
-// of held or of specs/Sheet.antt.
+// Uses atoms for the bound facts of a move, mask for the sets, output for the bytes, terms, limits, and the numbers of the sets from
+// jobs and observed; each contract names its definition,
+// of observed or of specs/Sheet.antt.
 ghost use mathlib.Core.Path.{_≡_};
 ghost use Prim.Native.Nat.{_+_, _*_, _≤_, _<_};
 ghost use lib.ListN.{length};

@@ -1,2 +1,3 @@
+-- Steps and records observed one by one, for the proofs of the functions.
 pub mod Steps
-pub mod Noting
+pub mod Observing

@@ -1,4 +1,4 @@
--- The steps of a record noted one by one: what is observed with the steps still left is what is observed after all.
+-- The steps of a record observed one by one: what is observed with the steps still left is what is observed after all.
 use Prim.Native.Nat.{ℕ, zero, suc, _+_, _-_, _≤_, _<_}
 use mathlib.Core.Path.{_≡_, ap}
 use mathlib.Core.List.{List}

@@ -1,1 +1,2 @@
+-- What the walk over records comes to.
 pub mod Scan

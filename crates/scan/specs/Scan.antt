@@ -1,4 +1,4 @@
--- What the walk over the records of a book comes to, and when the steps of a record can be noted.
+-- What the walk over the records of a book comes to, and when the steps of a record can be observed.
 use Prim.Native.Nat.{ℕ, zero, suc, _+_, _≤_}
 use mathlib.Core.Path.{_≡_}
 use mathlib.Core.Bool.{Bool, true}
@@ -14,7 +14,7 @@ use Rattle.observed.specs.Observed.{Observed, observeAll}
 use Rattle.notes.specs.Notes.{IsObserved}
 use Rattle.scan.specs.declared.Walked.{Walked}
 
--- a state and a number of steps behind it lie within a book, each step of a move that there may be
+-- a state and a number of steps after it lie within a book, each step of a move that there may be
 unfoldable pub Observable : List ℕ → ℕ → ℕ → Type 0
 Observable s zero at = (at ≤ maxLength) × (stateEnd s at ≤ length s)
 Observable s (suc n) at =
@@ -25,7 +25,7 @@ Observable s (suc n) at =
     × (stepAt s (stateEnd s at) .action .0 ≤ maxMoves)
     × Observable s n (stateEnd s at + stepSize)
 
--- a number of records walked, each looked over: the answer and, where steps were noted and it is good, what is observed
-pub record RecordsScanned (h : Sections) (s : List ℕ) (n from : ℕ) (noting : Bool) (before : Observed) (bytes : List ℕ) (w : Walked) : Type 0 where
+-- a number of records walked, each looked over: the answer and, where steps were observed and it is good, what is observed
+pub record RecordsScanned (h : Sections) (s : List ℕ) (n from : ℕ) (observing : Bool) (before : Observed) (bytes : List ℕ) (w : Walked) : Type 0 where
   pub says : w .answer ≡ allRecords h s n from
-  pub observes : noting ≡ true → (m : ℕ) → w .answer ≡ Good m → IsObserved (observeAll (stepsOfRecords s n from) before) bytes (w .named)
+  pub observes : observing ≡ true → (m : ℕ) → w .answer ≡ Good m → IsObserved (observeAll (stepsOfRecords s n from) before) bytes (w .named)

@@ -1,5 +1,5 @@
-// The walk over the records of a book, in file order: each looked over to its end, rows 6 to 10, and its steps noted where they are asked for.
-// Uses the reader of records for the rows, notes for one step, and the definitions of format and held. Looking over and learning both walk here.
+// The walk over the records of a book, in file order: each looked over to its end, rows 6 to 10, and its steps observed where that is asked for.
+// Uses the reader of records for the rows, notes for one step, records for a head, answer, input, limits, and the definitions of format and observed. Looking over and learning both walk here.
 use answer::Answer;
 use records::Head;
 ghost use mathlib.Core.Path.{_≡_};
@@ -28,7 +28,7 @@ fn state_end(s: &[u8], at: usize) -> usize
     at + limits::COUNT_SIZE + limits::FACT_SIZE * input::two_at(s, at) as usize
 }
 
-// The steps behind the state at an offset, each noted.
+// The steps after the state at an offset, each observed.
 fn observe_steps(s: &[u8], n: usize, from: usize, observed: &mut [u8], named: usize) -> usize
     requires { ⌜ (length (now observed) ≡ observedSize) × Observable (now s) n from ⌝ }
     ensures { λ r. ⌜ IsObserved (observeAll (recordedStepsAt (now (s .entry)) n from) (record { masks = now (observed .entry); named = named })) (now (observed .exit)) r ⌝ }
@@ -45,30 +45,30 @@ fn observe_steps(s: &[u8], n: usize, from: usize, observed: &mut [u8], named: us
     first
 }
 
-// The record at an offset, whose form is good: each of its steps is noted, where steps are.
+// The record at an offset, whose form is good: each of its steps is observed, where steps are.
 fn observe_record(
     s: &[u8],
     at: usize,
     head: Head,
-    noting: bool,
+    observing: bool,
     observed: &mut [u8],
     named: usize,
 ) -> usize
-    requires { ⌜ (at ≤ maxLength) × (head ≡ headOf (now s) at) × (noting ≡ true → (length (now observed) ≡ observedSize) × Observable (now s) (stepsIn (now s) at) (at + headSize + objectsIn (now s) at)) ⌝ }
-    ensures { λ r. ⌜ (noting ≡ true → IsObserved (observeAll (stepsOfRecord (now (s .entry)) at) (record { masks = now (observed .entry); named = named })) (now (observed .exit)) r) ⌝ }
+    requires { ⌜ (at ≤ maxLength) × (head ≡ headOf (now s) at) × (observing ≡ true → (length (now observed) ≡ observedSize) × Observable (now s) (stepsIn (now s) at) (at + headSize + objectsIn (now s) at)) ⌝ }
+    ensures { λ r. ⌜ (observing ≡ true → IsObserved (observeAll (stepsOfRecord (now (s .entry)) at) (record { masks = now (observed .entry); named = named })) (now (observed .exit)) r) ⌝ }
 {
-    if noting {
+    if observing {
         let steps = at + limits::HEAD_SIZE + head.objects as usize;
         return observe_steps(s, head.steps as usize, steps, observed, named);
     }
     named
 }
 
-// A number of records, which end the book: each looked over, then noted, before the next. The count of all steps is good. Where nothing is
-// noted, nothing need be lent.
-pub fn records(s: &[u8], n: usize, from: usize, noting: bool, observed: &mut [u8]) -> Walked
-    requires { ⌜ (length (now s) ≤ maxLength) × (from ≤ maxLength) × (n ≤ maxRecords) × (noting ≡ true → (sectionsOf (now s) .moves .count ≤ maxMoves) × (length (now observed) ≡ observedSize)) ⌝ }
-    ensures { λ r. ⌜ RecordsScanned (sectionsOf (now (s .entry))) (now (s .entry)) n from noting (record { masks = now (observed .entry); named = 0 }) (now (observed .exit)) r ⌝ }
+// A number of records, which end the book: each looked over, then observed, before the next. The count of all steps is good. Where nothing is
+// observed, nothing need be lent.
+pub fn records(s: &[u8], n: usize, from: usize, observing: bool, observed: &mut [u8]) -> Walked
+    requires { ⌜ (length (now s) ≤ maxLength) × (from ≤ maxLength) × (n ≤ maxRecords) × (observing ≡ true → (sectionsOf (now s) .moves .count ≤ maxMoves) × (length (now observed) ≡ observedSize)) ⌝ }
+    ensures { λ r. ⌜ RecordsScanned (sectionsOf (now (s .entry))) (now (s .entry)) n from observing (record { masks = now (observed .entry); named = 0 }) (now (observed .exit)) r ⌝ }
 {
     let mut left = n;
     let mut at = from;
@@ -84,7 +84,7 @@ pub fn records(s: &[u8], n: usize, from: usize, noting: bool, observed: &mut [u8
             }
             Answer::Good(next) => {
                 let head = Head::read(s, at);
-                named = observe_record(s, at, head, noting, observed, named);
+                named = observe_record(s, at, head, observing, observed, named);
                 total += head.steps as usize;
                 at = next;
             }

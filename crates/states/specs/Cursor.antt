@@ -22,6 +22,6 @@ pub record Ahead (s : List ℕ) (c : FactCursor) : Type 0 where
 unfoldable pub factOf : List ℕ → FactCursor → Fact
 factOf s c = factAt s (c .at + (c .size - factSize))
 
--- it is wrong, or not behind the one before it
+-- it is wrong, or not after the one before it
 unfoldable pub misplaced : Schema → TypedObjects → List ℕ → FactCursor → Bool
 misplaced sch ob s c = factBad sch ob (factOf s c) || not (precedes (c .last) (factOf s c))

@@ -1,1 +1,2 @@
+-- What the cursor over facts tells.
 pub mod Cursor

@@ -46,7 +46,7 @@ impl FactCursor {
         Fact::whole(t, self.at + (self.size - limits::FACT_SIZE))
     }
 
-    // The fact at the cursor is wrong, or not behind the one before it.
+    // The fact at the cursor is wrong, or not after the one before it.
     pub fn bad(self, t: &[u8], table: &[u32; 512]) -> bool
         requires { ⌜ Ahead (now t) self ⌝ }
         ensures { λ r. ⌜ ForRightByPlace (now (table .entry)) (λ sch ob. r ≡ misplaced sch ob (now (t .entry)) self) ⌝ }
@@ -70,7 +70,7 @@ impl FactCursor {
     }
 }
 
-// The fact at the cursor is cut, wrong, or not behind the one before it.
+// The fact at the cursor is cut, wrong, or not after the one before it.
 fn refused(c: FactCursor, t: &[u8], table: &[u32; 512], end: usize) -> bool
     requires { ⌜ (end ≤ length (now t)) × (c .at + factSize ≤ farCeiling) × (c .size ≡ factSize) × (c .key ≡ factKey (c .last)) ⌝ }
     ensures { λ r. ⌜ (r ≡ false → c .at + factSize ≤ end) × ForRightByPlace (now (table .entry)) (λ sch ob. r ≡ factRefused sch ob (now (t .entry)) end (c .last) (c .at)) ⌝ }

@@ -1,5 +1,5 @@
 // One step over a state of facts as a mask of 512 bytes: the fact that a bound fact is, whether the step is inapplicable, and the state after it.
-// Uses input, terms and mask, and the definitions of statemask; each contract names its definition.
+// Uses input, limits, terms, mask, the numbers of a move's sets from jobs, and the definitions of statemask; each contract names its definition.
 ghost use mathlib.Core.Path.{_≡_};
 ghost use Prim.Native.Nat.{_/_, _≤_, _<_};
 ghost use lib.Dec.{eqb};

@@ -79,7 +79,7 @@ module _ (sch : Schema) (ob : TypedObjects) (ks : List ℕ) (right : RightByKind
       rw (i .1 r k .0, i .1 r k .1, b)
       (either (outOfRange (sch .relations) r) _ _ _ _ _ _ (place-set-in (f .relation) 1 (f .first)) (place-set-in (f .relation) 2 (f .second)))
 
--- a walk over the relations goes on, and ends behind the last of them that is a byte
+-- a walk over the relations goes on, and ends after the last of them that is a byte
 pub goes-on : (count n : ℕ) → (leb n count && ltb n 256) ≡ true → (n ≤ count) × (n < 256)
 goes-on count n g = let (l, k) = and-out _ _ g in (leb-true n count l, ltb-true n 256 k)
 

@@ -1,1 +1,2 @@
+-- Tables of what suits, and when they are right.
 pub mod Tables

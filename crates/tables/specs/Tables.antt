@@ -1,4 +1,4 @@
--- Two tables of sets of objects: by kind, and by relation and place. When a table is right for a hall and a schema.
+-- Two tables of sets of objects: by kind, and by relation and place. When a table is right for typed objects and a schema.
 use Prim.Native.Nat.{ℕ, _<_}
 use mathlib.Core.Path.{_≡_}
 use mathlib.Core.Bool.{Bool, cond, _&&_, _||_, not}
@@ -17,7 +17,7 @@ use Rattle.terms.specs.Told.{suits}
 unfoldable pub Joined : Schema → ℕ → ℕ → List ℕ → List ℕ → Type 0
 Joined sch kind x old new = (length new ≡ length old) × ((k y : ℕ) → member (entry new k) y ≡ (member (entry old k) y || eqb x y && kindSuits sch k kind))
 
--- the table by kind is right for a schema and a hall: at each kind, the objects whose kind suits it
+-- the table by kind is right for a schema and typed objects: at each kind, the objects whose kind suits it
 unfoldable pub RightByKind : Schema → TypedObjects → List ℕ → Type 0
 RightByKind sch ob ks = (k : ℕ) (x : Object) → member (entry ks k) (x .0) ≡ (not (outOfRange (ob .count) (x .0)) && kindSuits sch k (ob .kind x))
 
@@ -29,18 +29,18 @@ kindsBad ks used named x = used && not (member (entry ks named) (x .0)) || not u
 unfoldable pub placeSet : Schema → List ℕ → Relation → ℕ → ℕ
 placeSet sch ks r i = cond (leb i (sch .places r)) (entry ks (sch .placeKind r i)) 1
 
--- the table by relation is right for a schema and a hall: it tells which facts are wrong
+-- the table by relation is right for a schema and typed objects: it tells which facts are wrong
 unfoldable pub RightByPlace : Schema → TypedObjects → List ℕ → Type 0
 RightByPlace sch ob t = (f : Fact) → f .relation .0 < 256 → not (suits t f) ≡ factBad sch ob f
 
--- and follows from the table by kind, for every hall that one is right for
+-- and follows from the table by kind, for all typed objects that one is right for
 unfoldable pub RightFrom : Schema → List ℕ → List ℕ → Type 0
 RightFrom sch ks t = (ob : TypedObjects) → RightByKind sch ob ks → RightByPlace sch ob t
 
--- what holds for every schema and hall that the table by relation is right for
+-- what holds for every schema and all typed objects that the table by relation is right for
 unfoldable pub ForRightByPlace : List ℕ → (Schema → TypedObjects → Type 0) → Type 0
 ForRightByPlace t P = (sch : Schema) (ob : TypedObjects) → RightByPlace sch ob t → P sch ob
 
--- what holds for every hall that the table by kind is right for, under a schema
+-- what holds for all typed objects that the table by kind is right for, under a schema
 unfoldable pub ForRightByKind : Schema → List ℕ → (TypedObjects → Type 0) → Type 0
 ForRightByKind sch ks P = (ob : TypedObjects) → RightByKind sch ob ks → P ob

@@ -1,5 +1,5 @@
-// Tables of what suits, made once for a record or an order: each fact and each step is then tested by a few reads. Uses input, terms and
-// objectset, whose sets stand in the tables.
+// Tables of what suits, made once for a record or an order: each fact and each step is then tested by a few reads. Uses input, terms,
+// limits, and objectset, whose sets stand in the tables.
 use terms::Object;
 use terms::Objects;
 use terms::Param;

@@ -59,7 +59,7 @@ same-by-bytes h k s t relations moves bytes bytes′ =
         let y : b + j + i ≡ b + (j + i) = omega arith in
         rw (x, y) (f (j + i) l)
 
--- two halls have as many objects, of the same kinds
+-- as many objects, of the same kinds
 pub record SameObjects (H K : TypedObjects) : Type 0 where
   pub count : H .count ≡ K .count
   pub kind : (x : Object) → 1 ≤ x .0 → x .0 ≤ H .count → H .kind x ≡ K .kind x

@@ -1,5 +1,5 @@
 // The words of the formats as values: typed numbers, sections, facts and steps, each read from bytes, and the tests that need no table.
-// Uses input, and objectset for the tables that tell whether a fact suits; crate `tables` makes these. Every test is one Bool definition of specs/.
+// Uses input, limits, and objectset for the tables that tell whether a fact suits; crate `tables` makes these. Every test is one Bool definition of specs/.
 ghost use mathlib.Core.Path.{_≡_};
 ghost use Prim.Native.Nat.{_+_, _-_, _≤_, _<_};
 ghost use lib.ListN.{length};
@@ -211,7 +211,7 @@ impl Fact {
         self.relation.0 as u32 * 65536 + self.first.0 as u32 * 256 + self.second.0 as u32
     }
 
-    // Order, byte by byte: it stands behind `last`, whose key is told, so that a loop over facts makes each key once.
+    // Order, byte by byte: it stands after `last`, whose key is told, so that a loop over facts makes each key once.
     pub fn follows(self, last: Fact, key: u32) -> bool
         requires { ⌜ key ≡ factKey last ⌝ }
         ensures { λ r. ⌜ r ≡ precedes last self ⌝ }

@@ -36,7 +36,7 @@ pub and-out : (b c : Bool) → (b && c) ≡ true → (b ≡ true) × (c ≡ true
 and-out true c e = (refl, e)
 and-out false c e = clash false e refl
 
--- a test behind a guard counts only where the guard holds
+-- a test after a guard counts only where the guard holds
 pub guarded : (b c d : Bool) → (b ≡ true → c ≡ d) → (b && c) ≡ (b && d)
 guarded true c d h = h refl
 guarded false c d h = refl

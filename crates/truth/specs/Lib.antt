@@ -1,1 +1,2 @@
+-- Laws of truth values.
 pub mod Bools

@@ -1,4 +1,4 @@
--- Theorems about good form, from bytes up to the hypotheses of `model`. To cite: filed-right (Records), formed (Formed), order-right and grounded (Orders),
+-- Theorems about good form, from bytes up to the hypotheses of `model`. To cite: recorded-right (Records), formed (Formed), order-right and grounded (Orders),
 -- fact-of-atom and atom-of-fact (Inverse).
 pub mod Lists
 pub mod States

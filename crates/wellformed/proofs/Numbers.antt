@@ -1,4 +1,4 @@
--- The numbers of facts: a right fact's is counted by the domain, and two right facts of one hall with one number are one fact.
+-- The numbers of facts: a right fact's is counted by the domain, and two right facts over the same objects with one number are one fact.
 use Prim.Native.Nat.{ℕ, _+_, _-_, _*_, _≤_, _<_}
 use mathlib.Core.Path.{_≡_, refl, sym, _∙_}
 use mathlib.Core.Bool.{Bool, true, false, _||_}
@@ -51,7 +51,7 @@ module _ (sch : Schema) (ob : TypedObjects) (few : ob .count ≤ maxObjects) whe
   place-same true named x y e h q = omega (arith, used-out sch ob named x true e refl, used-out sch ob named y true h refl)
   place-same false named x y e h q = unused-out sch ob named x false e refl ∙ sym (unused-out sch ob named y false h refl)
 
-  -- Two right facts of one hall with equal numbers are equal.
+  -- Two right facts over the same objects with equal numbers are equal.
   pub number-injective : (f g : Fact) → factBad sch ob f ≡ false → factBad sch ob g ≡ false → factNumber f ≡ factNumber g → f ≡ g
   unfolding factNumber
   number-injective f g e h q =

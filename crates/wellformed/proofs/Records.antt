@@ -1,4 +1,4 @@
--- Records of good form, up to the whole book: every step that is filed is right.
+-- Records of good form, up to the whole book: every recorded step is right.
 use Prim.Native.Nat.{ℕ, suc, _+_, _≤_}
 use mathlib.Core.Path.{_≡_, subst}
 use mathlib.Core.Logic.{_⊎_, inl, inr}
@@ -24,7 +24,7 @@ use Rattle.wellformed.specs.Right.{RightStep, Right, RightSomewhere}
 use Rattle.wellformed.proofs.States.{state-right}
 
 module _ (sch : Schema) (ob : TypedObjects) (s : List ℕ) (end : ℕ) where
-  -- a step of good form is right, and so is the state behind it
+  -- a step of good form is right, and so is the state after it
   pub step-parted : (at next : ℕ) → step sch ob s end at ≡ Good next → RightStep sch ob (stepAt s at) × (state sch ob s end (at + stepSize) ≡ Good next)
   step-parted at next e =
       let (suits, different, rest) = step-good sch ob s end at next e in
@@ -43,7 +43,7 @@ module _ (sch : Schema) (ob : TypedObjects) (s : List ℕ) (end : ℕ) where
       trajectory-right n (stateEnd s at + stepSize) after last (step-parted (stateEnd s at) after good .1) rest f m
 
 module _ (h : Sections) (s : List ℕ) where
-  -- A record of good form ends where its length says, has at most 16 objects, and every step filed in it is right over them.
+  -- A record of good form ends where its length says, has at most 16 objects, and every step recorded in it is right over them.
   pub record-right : (at next : ℕ) → recordAt h s at ≡ Good next
       → (next ≡ at + lengthIn s at) × (typedObjects (objectsOf s at) s .count ≤ maxObjects) × ((f : RecordedStep) → Mem f (stepsOfRecord s at) → Right (schema h s) (typedObjects (objectsOf s at) s) f)
   unfolding stepsOfRecord typedObjects objectsOf
@@ -54,7 +54,7 @@ module _ (h : Sections) (s : List ℕ) where
         trajectory-right (schema h s) (typedObjects (objectsOf s at) s) s (at + lengthIn s at) (stepsIn s at) (at + headSize + objectsIn s at) (g .after) (g .last) (g .start) (g .steps),
       )
 
-  -- A step that is filed in good records is filed in one of them.
+  -- A step that is recorded in good records is recorded in one of them.
   records-recorded : (n at last : ℕ) → walk (recordAt h s) n at ≡ Good last → {f : RecordedStep} → Mem f (stepsOfRecords s n at)
       → (from next : ℕ) × (recordAt h s from ≡ Good next) × Mem f (stepsOfRecord s from)
   unfolding stepsOfRecords
@@ -71,14 +71,14 @@ module _ (h : Sections) (s : List ℕ) where
       go next good (inr k) deeper = deeper k
 
 module _ (s : List ℕ) (n : ℕ) (e : lookOver s ≡ Good n) where
-  -- Every step that is filed in a book of good form is filed in a good record,
+  -- Every step that is recorded in a book of good form is recorded in a good record,
   pub recorded-somewhere : {f : RecordedStep} → Mem f (stepsOfBook s) → (from next : ℕ) × (recordAt (sectionsOf s) s from ≡ Good next) × Mem f (stepsOfRecord s from)
   unfolding stepsOfBook recordedSteps
   recorded-somewhere m =
       let h : Sections = sectionsOf s in
       records-recorded h s (h .records .count) (h .records .at) (length s) (look-over-good s n e .records) m
 
-  -- and is right, over a hall of at most 16 objects.
+  -- and is right, over typed objects, at most 16 of them.
   pub recorded-right : (f : RecordedStep) → Mem f (stepsOfBook s) → RightSomewhere (schemaOf s) f
   unfolding schemaOf
   recorded-right f m =

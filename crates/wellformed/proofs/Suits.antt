@@ -1,5 +1,5 @@
 -- What the tests on objects, facts and steps say in plain numbers: both ways for an object, one way for a step.
--- Uses no bytes: schema, hall and step are any.
+-- Uses no bytes: schema, typed objects and step are any.
 use Prim.Native.Nat.{ℕ, zero, suc, _≤_, _<_}
 use mathlib.Core.Path.{_≡_, refl, sym}
 use mathlib.Core.Logic.{_⊎_, inl, inr}

@@ -20,7 +20,7 @@ use Rattle.wellformed.proofs.Holding.{holding-in, holding-out}
 pub holds-in : (sch : Schema) (b : Binding) (fs : List Fact) (n : ℕ) → Mem (factOf sch b n) fs → holding fs (ground sch b n) ≡ true
 holds-in sch b fs n m = rw (ground-number sch b n) at (holding-in fs m)
 
--- the other way round for a right step and a right state of one hall
+-- the other way round for a right step and a right state over the same objects
 pub holds-out : (sch : Schema) (ob : TypedObjects) → ob .count ≤ maxObjects → (st : Step) → RightStep sch ob st → (fs : List Fact) → RightState sch ob fs
     → (n : ℕ) → isAtom sch (st .action .0) n ≡ true → holding fs (ground sch (st .binding) n) ≡ true → Mem (factOf sch (st .binding) n) fs
 holds-out sch ob few st right fs state n atom e =

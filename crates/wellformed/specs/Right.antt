@@ -14,7 +14,7 @@ use Rattle.format.specs.Decode.{RecordedStep}
 use Rattle.format.specs.Order.{GoalEntry, orderObjects, startFacts, goal, plan}
 use Rattle.model.specs.Quantify.{Mem}
 
--- each fact of the list precedes the next, and the first one comes behind `last`
+-- each fact of the list precedes the next, and the first one comes after `last`
 abbrev pub Increasing : Fact → List Fact → Type 0
 Increasing last [] = Unit {0}
 Increasing last (f ∷ fs) = (precedes last f ≡ true) × Increasing f fs
@@ -36,7 +36,7 @@ pub record Right (sch : Schema) (ob : TypedObjects) (f : RecordedStep) : Type 0 
   pub pre : RightState sch ob (f .pre)
   pub post : RightState sch ob (f .post)
 
--- the same over some hall of at most 16 objects: that of the record in which the step is filed
+-- the same over some typed objects, at most 16: those of the record that has the step
 abbrev pub RightSomewhere : Schema → RecordedStep → Type 0
 RightSomewhere sch f = (ob : TypedObjects) × (ob .count ≤ maxObjects) × Right sch ob f
 

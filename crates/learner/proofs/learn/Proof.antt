@@ -1,4 +1,4 @@
--- `learner::learn` meets its contract: rows 1 to 12 by what was noted, row 13, then the sheet from what is observed.
+-- `learner::learn` meets its contract: rows 1 to 12 by what was observed, row 13, then the sheet from what is observed.
 use Prim.Native.Nat.{_*_}
 use mathlib.Core.Path.{sym, ap, _∙_}
 use Rattle.answer.specs.Turns.{is-good}

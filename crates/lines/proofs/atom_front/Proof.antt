@@ -1,4 +1,4 @@
--- `lines::atom_front` meets its contract: each number stands behind the ones before it.
+-- `lines::atom_front` meets its contract: each number stands after the ones before it.
 use native.Mathlib.Omega.{arith}
 use lib.ListN.{take}
 use denote.Ref.{now}

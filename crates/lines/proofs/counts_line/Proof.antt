@@ -1,4 +1,4 @@
--- `lines::counts_line` meets its contract: each piece stands behind the ones before it.
+-- `lines::counts_line` meets its contract: each piece stands after the ones before it.
 use native.Mathlib.Omega.{arith}
 use Rattle.jobs.specs.Listing.{countsLine}
 use borrow.Author.Needs.{needs}

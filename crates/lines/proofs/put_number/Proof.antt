@@ -1,4 +1,4 @@
--- `lines::put_number` meets its contract: a space stands behind the digits.
+-- `lines::put_number` meets its contract: a space stands after the digits.
 use Prim.Native.Nat.{_≤_}
 use native.Mathlib.Omega.{arith}
 use lib.ListN.{length}

@@ -1,4 +1,4 @@
--- `lines::refused_line` meets its contract: each piece stands behind the ones before it.
+-- `lines::refused_line` meets its contract: each piece stands after the ones before it.
 use Rattle.jobs.specs.Listing.{refusedLine}
 use borrow.Author.Needs.{needs}
 use Rattle.lines.proofs.refused_line.Statement.{statement}

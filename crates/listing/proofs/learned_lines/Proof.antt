@@ -1,4 +1,4 @@
--- `listing::learned_lines` meets its contract: the first line, and the moves' lines behind it.
+-- `listing::learned_lines` meets its contract: the first line, and the moves' lines after it.
 use borrow.Author.Needs.{needs}
 use Rattle.listing.proofs.Printed.{listing-by}
 use Rattle.listing.proofs.learned_lines.Statement.{statement}

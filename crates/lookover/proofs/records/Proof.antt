@@ -1,4 +1,4 @@
--- `records` meets its contract: the walk's answer, with nothing noted.
+-- `records` meets its contract: the walk's answer, with nothing observed.
 use mathlib.Core.Path.{refl}
 use borrow.Author.Needs.{needs}
 use Rattle.truth.specs.Bools.{clash}

@@ -1,4 +1,4 @@
--- `plan::passes_line` meets its contract: each piece stands behind the ones before it.
+-- `plan::passes_line` meets its contract: each piece stands after the ones before it.
 use Rattle.jobs.specs.Listing.{planLine}
 use borrow.Author.Needs.{needs}
 use Rattle.plan.proofs.passes_line.Statement.{statement}

@@ -1,4 +1,4 @@
--- `rulesheet::within_observed` meets its contract: the set that is held in place of the one that is read.
+-- `rulesheet::within_observed` meets its contract: the set that is observed in place of the one that is read.
 use borrow.Author.Needs.{needs}
 use Rattle.rulesheet.proofs.within_observed.Statement.{statement}
 use Rattle.rulesheet.proofs.within_observed.Tie as tie

@@ -1,6 +1,6 @@
--- `scan::observe_record` meets its contract: its steps stand behind its objects. Where nothing is noted, nothing is said.
+-- `scan::observe_record` meets its contract: its steps stand after its objects. Where nothing is observed, nothing is said.
 use Rattle.truth.specs.Bools.{clash}
-use Rattle.scan.proofs.Noting.{record-ready, record-observed}
+use Rattle.scan.proofs.Observing.{record-ready, record-observed}
 use borrow.Author.Needs.{needs}
 use Rattle.scan.proofs.observe_record.Statement.{statement}
 use Rattle.scan.proofs.observe_record.Tie as tie

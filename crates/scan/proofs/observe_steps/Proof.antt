@@ -1,4 +1,4 @@
--- `scan::observe_steps` meets its contract: the steps that are left, noted after those before, come to the whole.
+-- `scan::observe_steps` meets its contract: the steps that are left, observed after those before, come to the whole.
 use borrow.Author.Needs.{needs}
 use native.Mathlib.Omega.{arith}
 use mathlib.Core.Path.{_≡_, refl, _∙_}

@@ -1,4 +1,4 @@
--- `scan::records` meets its contract: the records that are left, noted after those before, come to the whole.
+-- `scan::records` meets its contract: the records that are left, observed after those before, come to the whole.
 use Prim.Native.Nat.{_+_, _*_, _≤_}
 use mathlib.Core.Path.{_≡_, refl, sym, _∙_}
 use mathlib.Core.Bool.{true}
@@ -17,21 +17,21 @@ use Rattle.answer.specs.Turns.{turn-none, turn-refused, turn-good}
 use Rattle.records.proofs.Laws.{all-refused, all-left, all-good, total-none, total-more}
 use Rattle.format.proofs.Records.{record-within}
 use Rattle.scan.proofs.Steps.{observedAs}
-use Rattle.scan.proofs.Noting.{record-observable, record-turn, records-done, refused-scanned}
+use Rattle.scan.proofs.Observing.{record-observable, record-turn, records-done, refused-scanned}
 use Rattle.scan.proofs.records.Statement.{statement}
 use Rattle.scan.proofs.records.Tie as tie
 
 abbrev Inv-loop : tie.InvT-loop
-Inv-loop s n from noting observed₀ left₀ at₀ total₀ named₀ observed left at total named =
+Inv-loop s n from observing observed₀ left₀ at₀ total₀ named₀ observed left at total named =
     (at ≤ maxLength)
     × (total + 255 * left ≤ 255 * n)
     × (walk (recordAt (sectionsOf s) s) left at ≡ walk (recordAt (sectionsOf s) s) n from)
     × (total + stepTotal s left at ≡ stepTotal s n from)
     × (length observed ≡ length observed₀)
-    × (noting ≡ true → observeAll (stepsOfRecords s left at) (observedAs observed named) ≡ observeAll (stepsOfRecords s n from) (observedAs observed₀ 0))
+    × (observing ≡ true → observeAll (stepsOfRecords s left at) (observedAs observed named) ≡ observeAll (stepsOfRecords s n from) (observedAs observed₀ 0))
 
 abbrev μ-loop : tie.MeasureT-loop
-μ-loop s n from noting observed₀ left₀ at₀ total₀ named₀ observed left at total named = left
+μ-loop s n from observing observed₀ left₀ at₀ total₀ named₀ observed left at total named = left
 
 loop-holds : tie.Need-loop-holds Inv-loop μ-loop
 loop-holds c = let p = c .before .before .pre in (p .1, omega arith, refl, omega arith, refl, λ y. refl)

@@ -25,7 +25,7 @@ returns-3 c =
     let two = sym (d .before .counts-bad .ensures) ∙ d .if2 .left in
     row-three _ _ one two (sym (c .before .offsets-bad .ensures) ∙ c .if3 .taken)
 
--- behind the third test, none of rows 1 to 3 is met
+-- after the third test, none of rows 1 to 3 is met
 unmet : (e : tie.Else3)
     → let a = e .before .before .before .before .before .before .before .args in
     (lengthBad (now (a .s)) ≡ false) × (countsBad (a .h) ≡ false) × (offsetsBad (a .h) (length (now (a .s))) ≡ false)

@@ -1,4 +1,4 @@
--- What was seen of a bound fact, told of the steps as they are filed.
+-- What was seen of a bound fact, told of the steps as they are recorded.
 use Prim.Native.Nat.{ℕ}
 use mathlib.Core.Path.{_≡_, sym, subst}
 use mathlib.Core.Bool.{Bool}

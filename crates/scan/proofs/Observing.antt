@@ -1,4 +1,4 @@
--- A record of good form can be noted, and records noted one by one are all noted.
+-- A record of good form can be observed, and records observed one by one are all observed.
 use Prim.Native.Nat.{ℕ, zero, suc, _+_, _-_, _≤_, _<_}
 use mathlib.Core.Path.{_≡_, sym, ap, _∙_}
 use mathlib.Core.Bool.{Bool}
@@ -29,7 +29,7 @@ use Rattle.notes.specs.Notes.{IsObserved}
 use Rattle.scan.specs.Scan.{Observable, RecordsScanned}
 use Rattle.scan.proofs.Steps.{observedAs, observed-path}
 
--- the steps behind a good state, if they are good
+-- the steps after a good state, if they are good
 observable-steps : (sch : Schema) (ob : TypedObjects) (s : List ℕ) (end : ℕ) → end ≤ length s → length s ≤ maxLength → sch .moves ≤ maxMoves
     → (n at mid last : ℕ) → at ≤ maxLength → state sch ob s end at ≡ Good mid → walk (step sch ob s end) n mid ≡ Good last → Observable s n at
 unfolding Observable
@@ -86,8 +86,8 @@ module _ (s : List ℕ) (whole : Observed) where
       record { masks = ap (λ h. h .masks) j; named = ap (λ h. h .named) j }
 
 -- a refusal says nothing of what is observed
-pub refused-scanned : (h : Sections) (s : List ℕ) (n from : ℕ) (noting : Bool) (before : Observed) (bytes : List ℕ) (k p named : ℕ)
+pub refused-scanned : (h : Sections) (s : List ℕ) (n from : ℕ) (observing : Bool) (before : Observed) (bytes : List ℕ) (k p named : ℕ)
     → Refused k p ≡ allRecords h s n from
-    → RecordsScanned h s n from noting before bytes (record { answer = Refused k p; named = named })
-refused-scanned h s n from noting before bytes k p named e =
+    → RecordsScanned h s n from observing before bytes (record { answer = Refused k p; named = named })
+refused-scanned h s n from observing before bytes k p named e =
     record { says = e; observes = λ y m f. good-refused m k p (sym f) }
