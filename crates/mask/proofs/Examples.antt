@@ -44,6 +44,6 @@ unfolding maskOf
 multiples-of-three = refl
 
 -- 0, 3, .., 4095
-size-of-multiples : cardinality (maskOf 512 (λ n. eqb (n % 3) 0)) ≡ 1366
+cardinality-of-multiples : cardinality (maskOf 512 (λ n. eqb (n % 3) 0)) ≡ 1366
 unfolding maskOf cardinality ones
-size-of-multiples = refl
+cardinality-of-multiples = refl

@@ -91,10 +91,10 @@ byte-difference a b i {x} {y} e e′ h h′ =
     and-not x y h h′ ∙ ap₂ without e e′ ∙ sym (byte-bytewise without a b i (λ o. without-none (getD b i 0)))
 
 -- ---- the count of the bytes from i on
-pub size-turn : (m : List ℕ) (i : ℕ) → i < length m → cardinality (drop i m) ≡ ones (getD m i 0) + cardinality (drop (i + 1) m)
+pub cardinality-turn : (m : List ℕ) (i : ℕ) → i < length m → cardinality (drop i m) ≡ ones (getD m i 0) + cardinality (drop (i + 1) m)
 unfolding cardinality
-size-turn m i h = ap cardinality (drop-cons m i 0 h) ∙ ap (λ (k : ℕ). ones (getD m i 0) + cardinality (drop k m)) (sym (add-one i))
+cardinality-turn m i h = ap cardinality (drop-cons m i 0 h) ∙ ap (λ (k : ℕ). ones (getD m i 0) + cardinality (drop k m)) (sym (add-one i))
 
-pub size-all : (m : List ℕ) (i : ℕ) → length m ≤ i → cardinality (drop i m) ≡ 0
+pub cardinality-all : (m : List ℕ) (i : ℕ) → length m ≤ i → cardinality (drop i m) ≡ 0
 unfolding cardinality
-size-all m i h = ap cardinality (drop-of-length-le m h)
+cardinality-all m i h = ap cardinality (drop-of-length-le m h)

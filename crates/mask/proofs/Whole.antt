@@ -206,7 +206,7 @@ cardinality-count (x ∷ m) h =
     ap₂ (λ (a b : ℕ). a + b) low up ∙ sym (count-split 8 (8 * length m) (testBit (x ∷ m)))
     ∙ ap (λ (n : ℕ). countBelow n (testBit (x ∷ m))) e
 
-pub size-maskOf : (len : ℕ) (p : ℕ → Bool) → cardinality (maskOf len p) ≡ countBelow (8 * len) p
-size-maskOf len p =
+pub cardinality-maskOf : (len : ℕ) (p : ℕ → Bool) → cardinality (maskOf len p) ≡ countBelow (8 * len) p
+cardinality-maskOf len p =
     cardinality-count (maskOf len p) (bytes-maskOf len p) ∙ ap (λ (k : ℕ). countBelow (8 * k) (testBit (maskOf len p))) (length-maskOf len p)
     ∙ count-same (8 * len) (testBit (maskOf len p)) p (test-maskOf len p)

@@ -1,5 +1,4 @@
 -- When a check is exact: its verdict is the judge's, whichever models he holds. The row is the check's own test that there is none.
-use Prim.Native.Nat.{ℕ}
 use mathlib.Core.Path.{_≡_}
 use mathlib.Core.Logic.{_↔_}
 use mathlib.Core.Bool.{Bool, true}

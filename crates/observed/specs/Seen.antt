@@ -12,7 +12,7 @@ use Rattle.model.specs.Domain.{Transition}
 use Rattle.model.specs.Learned.{before, after, turned}
 use Rattle.observed.specs.Rules.{observedSet}
 
--- whether bound fact n is in set k of the move, the sets in their order: alwaysBefore, everBefore, alwaysAfter, everAfter, added, deleted (Held.antt)
+-- whether bound fact n is in set k of the move, the sets in their order: alwaysBefore, everBefore, alwaysAfter, everAfter, added, deleted (Observed.antt)
 unfoldable pub inSet : List Transition → ℕ → ℕ → ℕ → Bool
 inSet ts zero a n = not (before ts false a n)
 inSet ts (suc zero) a n = before ts true a n

@@ -1,7 +1,7 @@
 -- Schemas that say the same: kinds suit alike, they have the same bound facts and ground them alike, and a fact or a step that is right
 -- for the one is right for the other. Books whose relations and moves have the same bytes have such schemas.
 use Prim.Native.Nat.{ℕ, _+_, _-_, _*_, _≤_, _<_}
-use mathlib.Core.Path.{_≡_, refl, sym, _∙_}
+use mathlib.Core.Path.{_≡_, sym, _∙_}
 use mathlib.Core.Bool.{Bool, true, false}
 use mathlib.Core.List.{List}
 use native.Mathlib.Omega.{arith}

@@ -1,6 +1,5 @@
 -- `records` meets its contract: the walk's answer, with nothing observed.
 use mathlib.Core.Path.{refl}
-use borrow.Author.Needs.{needs}
 use Rattle.truth.specs.Bools.{clash}
 use Rattle.lookover.proofs.records.Statement.{statement}
 use Rattle.lookover.proofs.records.Tie as tie

@@ -5,7 +5,7 @@ use native.Mathlib.Omega.{arith}
 use lib.Count.{ones-le}
 use lib.ListN.{length, drop}
 use Rattle.mask.specs.Sets.{cardinality}
-use Rattle.mask.proofs.Turns.{size-turn, size-all}
+use Rattle.mask.proofs.Turns.{cardinality-turn, cardinality-all}
 use Rattle.mask.proofs.count.Statement.{statement}
 use Rattle.mask.proofs.count.Tie as tie
 
@@ -27,11 +27,11 @@ loop-again c =
     omega (
       arith,
       ones-le 8 _ (c .shared-slice-known .given (l .loop .i) .fits),
-      size-turn (l .before .args .m .now) (l .loop .i) (c .before .loop-test .taken),
+      cardinality-turn (l .before .args .m .now) (l .loop .i) (c .before .loop-test .taken),
     )
 
 returns : tie.Need-returns Inv-loop μ-loop
-returns c = omega (arith, size-all (c .before .before .args .m .now) (c .before .loop .i) (c .loop-test .left))
+returns c = omega (arith, cardinality-all (c .before .before .args .m .now) (c .before .loop .i) (c .loop-test .left))
 
 pub count-spec : {M : Type 1} → statement M
 count-spec =

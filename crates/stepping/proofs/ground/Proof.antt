@@ -1,5 +1,4 @@
 -- `stepping::ground` meets its contract: the fact's number from its relation and the objects in its two places.
-use native.Mathlib.Omega.{arith}
 use borrow.Author.Needs.{needs}
 use Rattle.terms.specs.Steps.{ground}
 use Rattle.terms.proofs.Atoms.{first-range, second-range}
