@@ -26,11 +26,11 @@ pub fn last_record(s: &[u8], at: usize) -> Answer
     requires { ⌜ (length (now s) ≤ maxLength) × (at ≤ maxLength) ⌝ }
     ensures { λ r. ⌜ r ≡ allRecords (sectionsOf (now (s .entry))) (now (s .entry)) 1 at ⌝ }
 {
-    let a = reader::record_from(s, at);
-    if answer::is_refused(a) {
-        return a;
+    let record = reader::record_from(s, at);
+    if answer::is_refused(record) {
+        return record;
     }
-    let next = answer::value_of(a);
+    let next = answer::value_of(record);
     if next < s.len() {
         return Answer::Refused(6, next);
     }
