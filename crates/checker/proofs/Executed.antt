@@ -131,6 +131,7 @@ module _ (s : List ℕ) (n m : ℕ) (good : lookOver s ≡ Good n) (learns : lea
         record {
           size = size;
           end = omega (arith, g .size, g .most);
+          within = omega (arith, g .size);
           moves = λ i h. moves-known (orderTyped o) (right .few) (plan o) (right .steps) (stepAt o (stepsAt o + stepSize * i)) (mem-plan o (stepCount o) (stepsAt o) i h);
         }
 

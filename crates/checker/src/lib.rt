@@ -4,10 +4,11 @@
 use answer::Answer;
 use terms::Sections;
 ghost use mathlib.Core.Path.{_≡_};
+ghost use Prim.Native.Nat.{_≤_};
 ghost use lib.ListN.{length};
 ghost use Rattle.limits.specs.Limits.{endSheetSize};
 ghost use Rattle.terms.specs.Schema.{schema};
-ghost use Rattle.format.specs.Order.{stepCount, stepsAt, startFacts, goal, plan};
+ghost use Rattle.format.specs.Order.{goalAt, stepCount, stepsAt, startFacts, goal, plan};
 ghost use Rattle.statemask.specs.Statemask.{startMask, execute};
 ghost use Rattle.execution.specs.Execution.{Executable};
 ghost use Rattle.checker.specs.Checker.{PlanExecuted, RunOutcome, Ready, OrderOutcome, CheckOutcome};
@@ -50,6 +51,7 @@ fn write_end(end: &mut [u8], state: [u8; limits::STATE_SIZE])
 
 // The state of the start facts.
 fn start_of(o: &[u8]) -> [u8; limits::STATE_SIZE]
+    requires { ⌜ goalAt (now o) ≤ length (now o) ⌝ }
     ensures { λ r. ⌜ r ≡ startMask (startFacts (now (o .entry))) ⌝ }
 {
     execution::start_mask(

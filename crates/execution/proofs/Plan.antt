@@ -32,6 +32,7 @@ module _ (l o : List ℕ) (n at : ℕ) (c : Executable l o n at) (some : 0 < n) 
       record {
         size = c .size;
         end = let h = c .end in omega arith;
+        within = let h = c .within in omega arith;
         moves = λ i h.
             let on : at + stepSize * suc i ≡ at + stepSize + stepSize * i = omega arith in
             let l : suc i < n = omega arith in

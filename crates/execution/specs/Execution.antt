@@ -13,6 +13,7 @@ use Rattle.statemask.specs.Statemask.{execute}
 pub record Executable (l o : List ℕ) (steps at : ℕ) : Type 0 where
   pub size : length l ≡ observedSize
   pub end : at + stepSize * steps ≤ farCeiling
+  pub within : at + stepSize * steps ≤ length o
   pub moves : (i : ℕ) → i < steps → (1 ≤ byteAt o (at + stepSize * i)) × (byteAt o (at + stepSize * i) ≤ maxMoves)
 
 -- the number and the mask that a plan comes to from a mask

@@ -3,6 +3,7 @@
 // names its definition.
 ghost use mathlib.Core.Path.{_≡_};
 ghost use Prim.Native.Nat.{_+_, _*_, _≤_, _<_};
+ghost use lib.ListN.{length};
 ghost use Rattle.limits.specs.Limits.{factSize, entrySize, farCeiling};
 ghost use Rattle.terms.specs.Schema.{schema};
 ghost use Rattle.terms.specs.Facts.{factNumber};
@@ -24,7 +25,7 @@ fn fact_number(f: Fact) -> usize
 
 // The state in which a list of facts holds, and no other.
 pub fn start_mask(o: &[u8], n: usize, from: usize) -> [u8; limits::STATE_SIZE]
-    requires { ⌜ from + factSize * n ≤ farCeiling ⌝ }
+    requires { ⌜ (from + factSize * n ≤ farCeiling) × (from + factSize * n ≤ length (now o)) ⌝ }
     ensures { λ r. ⌜ r ≡ startMask (factsAt (now (o .entry)) n from) ⌝ }
 {
     let mut state = mask::empty512();
@@ -74,7 +75,7 @@ pub fn execute(
 // ---- the goal
 
 fn misses(o: &[u8], at: usize, state: &[u8; limits::STATE_SIZE]) -> bool
-    requires { ⌜ at + entrySize ≤ farCeiling ⌝ }
+    requires { ⌜ (at + entrySize ≤ farCeiling) × (at + entrySize ≤ length (now o)) ⌝ }
     ensures { λ r. ⌜ r ≡ misses (now (state .entry)) (entryAt (now (o .entry)) at) ⌝ }
 {
     let wanted = input::byte_at(o, at) == 1;
@@ -84,7 +85,7 @@ fn misses(o: &[u8], at: usize, state: &[u8; limits::STATE_SIZE]) -> bool
 
 // Row 20: the number, from 1, of the first goal entry that the state misses, 0 where it misses none.
 pub fn missed(o: &[u8], n: usize, from: usize, state: &[u8; limits::STATE_SIZE]) -> usize
-    requires { ⌜ from + entrySize * n ≤ farCeiling ⌝ }
+    requires { ⌜ (from + entrySize * n ≤ farCeiling) × (from + entrySize * n ≤ length (now o)) ⌝ }
     ensures { λ r. ⌜ r ≡ missed (now (state .entry)) (goalFrom (now (o .entry)) n from) ⌝ }
 {
     let mut left = n;

@@ -103,7 +103,7 @@ impl Cursor {
         requires { ⌜ (0 < self .left) × Ahead (now s) self ⌝ }
         ensures { λ r. ⌜ Comes (now (s .entry)) self r ⌝ }
     {
-        Fact::whole(s, self.at)
+        Fact::read(s, self.at)
     }
 
     // Past the next fact `f`, which is marked.

@@ -6,13 +6,13 @@ use states::FactCursor;
 use terms::Sections;
 use terms::Step;
 ghost use mathlib.Core.Path.{_≡_};
-ghost use Prim.Native.Nat.{_≤_};
+ghost use Prim.Native.Nat.{_+_, _*_, _≤_};
 ghost use lib.ListN.{length};
 ghost use Rattle.answer.specs.Walk.{walk};
 ghost use Rattle.terms.specs.Schema.{schema, typedObjects};
 ghost use Rattle.terms.specs.Facts.{noFact};
 ghost use Rattle.terms.specs.Steps.{repeats};
-ghost use Rattle.limits.specs.Limits.{headerSize, maxObjects, maxFacts, farCeiling};
+ghost use Rattle.limits.specs.Limits.{headerSize, maxObjects, maxFacts, stepSize, farCeiling};
 ghost use Rattle.format.specs.States.{facts};
 ghost use Rattle.format.specs.Order.{objectCount, startCount, goalCount, stepCount, startAt, goalAt, stepsAt, orderObjects};
 ghost use Rattle.format.specs.Order.{orderObject, entries, planStepBad, planStep, fromGoal, fromStart, orderForm};
@@ -71,7 +71,7 @@ fn goal(o: &[u8], table: &[u32; 512]) -> Answer
 
 // Row 18, of the step at an offset.
 fn step_bad(book: &[u8], h: Sections, kinds: &[u32; 256], o: &[u8], at: usize) -> bool
-    requires { ⌜ at ≤ farCeiling ⌝ }
+    requires { ⌜ (at ≤ farCeiling) × (at + stepSize ≤ length (now o)) ⌝ }
     ensures { λ r. ⌜ ForRightByKind (schema h (now (book .entry))) (now (kinds .entry)) (λ ob. r ≡ planStepBad (schema h (now (book .entry))) ob (now (o .entry)) at) ⌝ }
 {
     let step = Step::read(o, at);
@@ -80,6 +80,7 @@ fn step_bad(book: &[u8], h: Sections, kinds: &[u32; 256], o: &[u8], at: usize) -
 
 // Row 18 of each plan step.
 fn plan(book: &[u8], h: Sections, kinds: &[u32; 256], o: &[u8]) -> Answer
+    requires { ⌜ stepsAt (now o) + stepSize * stepCount (now o) ≤ length (now o) ⌝ }
     ensures { λ r. ⌜ ForRightByKind (schema h (now (book .entry))) (now (kinds .entry)) (λ ob. r ≡ walk (planStep (schema h (now (book .entry))) ob (now (o .entry))) (stepCount (now (o .entry))) (stepsAt (now (o .entry)))) ⌝ }
 {
     let mut left = orderhead::step_count(o);
@@ -96,7 +97,7 @@ fn plan(book: &[u8], h: Sections, kinds: &[u32; 256], o: &[u8]) -> Answer
 
 // Rows 17 and 18.
 fn from_goal(book: &[u8], h: Sections, kinds: &[u32; 256], table: &[u32; 512], o: &[u8]) -> Answer
-    requires { ⌜ RightFrom (schema h (now book)) (now kinds) (now table) × (stepsAt (now o) ≤ length (now o)) ⌝ }
+    requires { ⌜ RightFrom (schema h (now book)) (now kinds) (now table) × (stepsAt (now o) + stepSize * stepCount (now o) ≤ length (now o)) ⌝ }
     ensures { λ r. ⌜ ForRightByKind (schema h (now (book .entry))) (now (kinds .entry)) (λ ob. r ≡ fromGoal (schema h (now (book .entry))) ob (now (o .entry))) ⌝ }
 {
     let wanted = goal(o, table);
@@ -108,7 +109,7 @@ fn from_goal(book: &[u8], h: Sections, kinds: &[u32; 256], table: &[u32; 512], o
 
 // Rows 16 to 18: the sections after the objects, by the tables of these. Goal entries are looked at after good start facts.
 fn from_start(book: &[u8], h: Sections, o: &[u8]) -> Answer
-    requires { ⌜ (objectCount (now o) ≤ maxObjects) × (startCount (now o) ≤ maxFacts) × (stepsAt (now o) ≤ length (now o)) ⌝ }
+    requires { ⌜ (objectCount (now o) ≤ maxObjects) × (startCount (now o) ≤ maxFacts) × (stepsAt (now o) + stepSize * stepCount (now o) ≤ length (now o)) ⌝ }
     ensures { λ r. ⌜ r ≡ fromStart (schema h (now (book .entry))) (typedObjects (orderObjects (now (o .entry))) (now (o .entry))) (now (o .entry)) ⌝ }
 {
     let kinds = tables::kinds_of(book, h, o, orderhead::objects_of(o));

@@ -73,7 +73,7 @@ fn step_refused(book: &[u8], h: Sections, kinds: &[u32; 256], end: usize, at: us
     if end < at + limits::STEP_SIZE {
         return true;
     }
-    tables::step_bad(book, h, kinds, Step::whole(book, at))
+    tables::step_bad(book, h, kinds, Step::read(book, at))
 }
 
 // What a trajectory is read within: the book's header, the record's objects, its number of steps, and where it ends.
@@ -92,7 +92,7 @@ fn step(book: &[u8], c: Scope, kinds: &[u32; 256], table: &[u32; 512], at: usize
     if step_refused(book, c.h, kinds, c.end, at) {
         return Answer::Refused(9, at);
     }
-    let st = Step::whole(book, at);
+    let st = Step::read(book, at);
     if st.repeats() {
         return Answer::Refused(10, at);
     }

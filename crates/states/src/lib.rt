@@ -43,7 +43,7 @@ impl FactCursor {
         requires { ⌜ Ahead (now t) self ⌝ }
         ensures { λ r. ⌜ r ≡ factOf (now (t .entry)) self ⌝ }
     {
-        Fact::whole(t, self.at + (self.size - limits::FACT_SIZE))
+        Fact::read(t, self.at + (self.size - limits::FACT_SIZE))
     }
 
     // The fact at the cursor is wrong, or not after the one before it.

@@ -160,8 +160,8 @@ pub fn kind_suits(book: &[u8], h: Sections, named: u8, kind: u8) -> bool
 }
 
 impl Fact {
-    // A fact that is not cut: no byte is tested, which counts in a loop over facts.
-    pub fn whole(s: &[u8], at: usize) -> Fact
+    // A fact whose bytes are there: none is tested, which counts in a loop over facts.
+    pub fn read(s: &[u8], at: usize) -> Fact
         requires { ⌜ (at ≤ farCeiling) × (at + factSize ≤ length (now s)) ⌝ }
         ensures { λ r. ⌜ r ≡ factAt (now (s .entry)) at ⌝ }
     {
@@ -169,18 +169,6 @@ impl Fact {
             relation: Relation(s[at]),
             first: Object(s[at + 1]),
             second: Object(s[at + 2]),
-        }
-    }
-
-    // Any fact, cut or not.
-    pub fn read(s: &[u8], at: usize) -> Fact
-        requires { ⌜ at ≤ farCeiling ⌝ }
-        ensures { λ r. ⌜ r ≡ factAt (now (s .entry)) at ⌝ }
-    {
-        Fact {
-            relation: Relation(input::byte_at(s, at)),
-            first: Object(input::byte_at(s, at + 1)),
-            second: Object(input::byte_at(s, at + 2)),
         }
     }
 
@@ -232,8 +220,8 @@ impl Binding {
 }
 
 impl Step {
-    // A step that is not cut.
-    pub fn whole(s: &[u8], at: usize) -> Step
+    // A step whose bytes are there.
+    pub fn read(s: &[u8], at: usize) -> Step
         requires { ⌜ (at ≤ farCeiling) × (at + stepSize ≤ length (now s)) ⌝ }
         ensures { λ r. ⌜ r ≡ stepAt (now (s .entry)) at ⌝ }
     {
@@ -245,24 +233,6 @@ impl Step {
                     Object(s[at + 2]),
                     Object(s[at + 3]),
                     Object(s[at + 4]),
-                ],
-            },
-        }
-    }
-
-    // Any step, cut or not.
-    pub fn read(s: &[u8], at: usize) -> Step
-        requires { ⌜ at ≤ farCeiling ⌝ }
-        ensures { λ r. ⌜ r ≡ stepAt (now (s .entry)) at ⌝ }
-    {
-        Step {
-            action: Move(input::byte_at(s, at)),
-            binding: Binding {
-                objects: [
-                    Object(input::byte_at(s, at + 1)),
-                    Object(input::byte_at(s, at + 2)),
-                    Object(input::byte_at(s, at + 3)),
-                    Object(input::byte_at(s, at + 4)),
                 ],
             },
         }

@@ -1,10 +1,12 @@
 -- `checker::execute_plan` meets its contract: rows 19 and 20, by what the plan and the goal came to.
+use Rattle.format.specs.Order.{stepsAt}
 use Rattle.checker.proofs.Out.{out-stop, out-miss, out-pass}
 use borrow.Author.Needs.{needs}
 use Rattle.checker.proofs.execute_plan.Statement.{statement}
 use Rattle.checker.proofs.execute_plan.Tie as tie
 
 pub execute-plan-spec : {M : Type 1} → statement M
+unfolding stepsAt
 execute-plan-spec =
     tie.close
     (tie.spec (λ c κs. search needs) (λ c. search needs) (λ c κs. search needs)

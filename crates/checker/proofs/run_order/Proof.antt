@@ -1,10 +1,12 @@
 -- `checker::run_order` meets its contract: the plan from the start facts on, and the sheet of a pass.
+use Rattle.format.specs.Order.{stepsAt}
 use Rattle.checker.proofs.Rows.{at-plan, at-end}
 use borrow.Author.Needs.{needs}
 use Rattle.checker.proofs.run_order.Statement.{statement}
 use Rattle.checker.proofs.run_order.Tie as tie
 
 pub run-order-spec : {M : Type 1} → statement M
+unfolding stepsAt
 run-order-spec =
     tie.close
     (tie.spec (λ c κs. search needs) (λ c κs. search needs) (λ c κs. search needs)

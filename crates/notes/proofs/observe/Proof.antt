@@ -3,6 +3,7 @@ use mathlib.Core.Path.{ap}
 use native.Mathlib.Omega.{arith}
 use borrow.Author.Needs.{needs}
 use Rattle.terms.specs.declared.Step.{Step}
+use Rattle.format.specs.Decode.{stateEnd}
 use Rattle.notes.proofs.Steps.{observed-by}
 use Rattle.notes.proofs.observe.Statement.{statement}
 use Rattle.notes.proofs.observe.Tie as tie
@@ -22,6 +23,7 @@ returns c =
     observed-by _ _ _ _ _ _ _ _ _ _ _ (r .read .ensures) (m .mark-step .ensures) (n .note .ensures) (c .first-named .ensures)
 
 pub observe-spec : {M : Type 1} → statement M
+unfolding stateEnd
 observe-spec =
     tie.close
     (tie.spec

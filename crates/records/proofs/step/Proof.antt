@@ -13,9 +13,9 @@ returns c =
     let d = c .before in
     sym (step-nine _ _ _ _ _ _ (d .step-refused .ensures _ (d .before .before .pre .0 .kinds)) (c .if1 .taken))
 
-whole-requires : tie.Need-whole-requires
+read-requires : tie.Need-read-requires
 unfolding ForRightByKind
-whole-requires c κs =
+read-requires c κs =
     let d = c .before in
     let w = step-fits _ _ _ _ _ _ (d .step-refused .ensures _ (d .before .before .pre .0 .kinds)) (c .if1 .left) in
     (omega arith, omega arith)
@@ -25,7 +25,7 @@ unfolding ForRightByKind
 returns-2 c =
     let e = c .before .before in
     let d = e .before .before in
-    sym (step-repeats _ _ _ _ _ _ _ (d .step-refused .ensures _ (d .before .before .pre .0 .kinds)) (e .before .if1 .left) (e .whole .ensures) _ (c .before .repeats .ensures) (c .if2 .taken))
+    sym (step-repeats _ _ _ _ _ _ _ (d .step-refused .ensures _ (d .before .before .pre .0 .kinds)) (e .before .if1 .left) (e .read .ensures) _ (c .before .repeats .ensures) (c .if2 .taken))
 
 returns-3 : tie.Need-returns-3
 unfolding ForRightByKind ForRightByPlace
@@ -35,9 +35,9 @@ returns-3 c =
     let d = e .before .before in
     let p = d .before .before .pre in
     c .state .ensures _ _ (p .0 .table)
-    ∙ sym (step-state _ _ _ _ _ _ _ (d .step-refused .ensures _ (p .0 .kinds)) (e .before .if1 .left) (e .whole .ensures) _ (f .before .repeats .ensures) (f .if2 .left))
+    ∙ sym (step-state _ _ _ _ _ _ _ (d .step-refused .ensures _ (p .0 .kinds)) (e .before .if1 .left) (e .read .ensures) _ (f .before .repeats .ensures) (f .if2 .left))
 
 pub step-spec : {M : Type 1} → statement M
 step-spec =
     tie.close
-    (tie.spec (λ c κs. search needs) returns whole-requires (λ c κs. search needs) returns-2 (λ c. search needs) (λ c κs. search needs) returns-3)
+    (tie.spec (λ c κs. search needs) returns read-requires (λ c κs. search needs) returns-2 (λ c. search needs) (λ c κs. search needs) returns-3)

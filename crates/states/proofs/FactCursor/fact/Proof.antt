@@ -6,4 +6,4 @@ use Rattle.states.proofs.FactCursor.fact.Tie as tie
 
 pub fact-spec : {M : Type 1} → statement M
 unfolding factOf
-fact-spec = tie.close (tie.spec (λ c. omega arith) (λ c. omega arith) (λ c κs. (omega arith, omega arith)) (λ c. c .whole .ensures))
+fact-spec = tie.close (tie.spec (λ c. omega arith) (λ c. omega arith) (λ c κs. (omega arith, omega arith)) (λ c. c .read .ensures))

@@ -1,12 +1,13 @@
--- `terms::Fact::read` meets its contract: field by field.
+-- `terms::Fact::read` meets its contract: its three bytes are there.
+use mathlib.Core.Path.{refl}
 use borrow.Author.Needs.{needs}
+use Rattle.input.specs.Bytes.{byteAt}
 use Rattle.terms.specs.Facts.{factAt}
 use Rattle.terms.proofs.Fact.read.Statement.{statement}
 use Rattle.terms.proofs.Fact.read.Tie as tie
 
-returns : tie.Need-returns
-unfolding factAt
-returns c = cc
-
 pub read-spec : {M : Type 1} → statement M
-read-spec = tie.close (tie.spec (λ c κs. search needs) (λ c. search needs) (λ c κs. search needs) (λ c. search needs) (λ c κs. search needs) returns)
+unfolding factAt byteAt
+read-spec =
+    tie.close
+    (tie.spec (λ c. search needs) (λ c. search needs) (λ c. search needs) (λ c. search needs) (λ c. search needs) (λ c. refl))
