@@ -16,7 +16,7 @@ pub record Executable (l o : List ℕ) (steps at : ℕ) : Type 0 where
   pub within : at + stepSize * steps ≤ length o
   pub moves : (i : ℕ) → i < steps → (1 ≤ byteAt o (at + stepSize * i)) × (byteAt o (at + stepSize * i) ≤ maxMoves)
 
--- the number and the mask that a plan comes to from a mask
-pub record Executes (sch : Schema) (l : List ℕ) (plan : List Step) (old : List ℕ) (number : ℕ) (new : List ℕ) : Type 0 where
-  pub stop : number ≡ execute sch l plan old 1 .stop
+-- the step where a plan stops, 0 for none, and the mask that it comes to from a mask
+pub record Executes (sch : Schema) (l : List ℕ) (plan : List Step) (old : List ℕ) (stopped : ℕ) (new : List ℕ) : Type 0 where
+  pub stop : stopped ≡ execute sch l plan old 1 .stop
   pub mask : new ≡ execute sch l plan old 1 .mask

@@ -4,9 +4,6 @@ use Rattle.answer.specs.Answer.{packed}
 use Rattle.answer.proofs.pack.Statement.{statement}
 use Rattle.answer.proofs.pack.Tie as tie
 
-returns : tie.Need-returns
-unfolding packed
-returns c = search needs
-
 pub pack-spec : {M : Type 1} → statement M
-pack-spec = tie.close (tie.spec (λ c κs. search needs) (λ c. search needs) (λ c κs. search needs) (λ c. search needs) returns)
+unfolding packed
+pack-spec = tie.close (tie.spec (λ c κs. search needs) (λ c. search needs) (λ c κs. search needs) (λ c. search needs) (λ c. search needs))

@@ -4,12 +4,9 @@ use Rattle.terms.specs.Facts.{factNumber}
 use Rattle.execution.proofs.fact_number.Statement.{statement}
 use Rattle.execution.proofs.fact_number.Tie as tie
 
-returns : tie.Need-returns
-unfolding factNumber
-returns c = search needs
-
 pub fact-number-spec : {M : Type 1} → statement M
+unfolding factNumber
 fact-number-spec =
     tie.close
     (tie.spec (λ c κs. search needs) (λ c. search needs) (λ c κs. search needs) (λ c. search needs) (λ c. search needs) (λ c κs. search needs)
-    (λ c. search needs) returns)
+    (λ c. search needs) (λ c. search needs))

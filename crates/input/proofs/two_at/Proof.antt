@@ -4,12 +4,9 @@ use Rattle.input.specs.Bytes.{two}
 use Rattle.input.proofs.two_at.Statement.{statement}
 use Rattle.input.proofs.two_at.Tie as tie
 
-returns : tie.Need-returns
-unfolding two
-returns c = search needs
-
 pub two-at-spec : {M : Type 1} → statement M
+unfolding two
 two-at-spec =
     tie.close
     (tie.spec (λ c κs. search needs) (λ c. search needs) (λ c. search needs) (λ c. search needs) (λ c κs. search needs) (λ c. search needs)
-    (λ c. search needs) returns)
+    (λ c. search needs) (λ c. search needs))

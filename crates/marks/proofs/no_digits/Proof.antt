@@ -4,9 +4,6 @@ use Rattle.marks.specs.Marks.{noDigits}
 use Rattle.marks.proofs.no_digits.Statement.{statement}
 use Rattle.marks.proofs.no_digits.Tie as tie
 
-returns : tie.Need-returns
-unfolding noDigits
-returns c = refl
-
 pub no-digits-spec : {M : Type 1} → statement M
-no-digits-spec = tie.close (tie.spec returns)
+unfolding noDigits
+no-digits-spec = tie.close (tie.spec (λ c. refl))

@@ -4,9 +4,6 @@ use Rattle.observed.specs.Inverse.{sameFact}
 use Rattle.marks.proofs.same_fact.Statement.{statement}
 use Rattle.marks.proofs.same_fact.Tie as tie
 
-returns : tie.Need-returns
-unfolding sameFact
-returns c = search needs
-
 pub same-fact-spec : {M : Type 1} → statement M
-same-fact-spec = tie.close (tie.spec returns)
+unfolding sameFact
+same-fact-spec = tie.close (tie.spec (λ c. search needs))

@@ -6,9 +6,6 @@ use borrow.Author.Needs.{needs}
 use Rattle.objectset.proofs.member.Statement.{statement}
 use Rattle.objectset.proofs.member.Tie as tie
 
-returns : tie.Need-returns
-unfolding member bitOf
-returns c = refl
-
 pub member-spec : {M : Type 1} → statement M
-member-spec = tie.close (tie.spec (λ c. search needs) (λ c. search needs) returns)
+unfolding member bitOf
+member-spec = tie.close (tie.spec (λ c. search needs) (λ c. search needs) (λ c. refl))

@@ -4,9 +4,6 @@ use borrow.Author.Needs.{needs}
 use Rattle.orderhead.proofs.goal_at.Statement.{statement}
 use Rattle.orderhead.proofs.goal_at.Tie as tie
 
-returns : tie.Need-returns
-unfolding goalAt
-returns c = search needs
-
 pub goal-at-spec : {M : Type 1} → statement M
-goal-at-spec = tie.close (tie.spec (λ c κs. search needs) (λ c κs. search needs) (λ c. search needs) (λ c. search needs) (λ c. search needs) returns)
+unfolding goalAt
+goal-at-spec = tie.close (tie.spec (λ c κs. search needs) (λ c κs. search needs) (λ c. search needs) (λ c. search needs) (λ c. search needs) (λ c. search needs))

@@ -4,9 +4,6 @@ use borrow.Author.Needs.{needs}
 use Rattle.orderhead.proofs.goal_count.Statement.{statement}
 use Rattle.orderhead.proofs.goal_count.Tie as tie
 
-returns : tie.Need-returns
-unfolding goalCount
-returns c = search needs
-
 pub goal-count-spec : {M : Type 1} → statement M
-goal-count-spec = tie.close (tie.spec (λ c κs. search needs) returns)
+unfolding goalCount
+goal-count-spec = tie.close (tie.spec (λ c κs. search needs) (λ c. search needs))

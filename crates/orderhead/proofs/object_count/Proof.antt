@@ -4,9 +4,6 @@ use borrow.Author.Needs.{needs}
 use Rattle.orderhead.proofs.object_count.Statement.{statement}
 use Rattle.orderhead.proofs.object_count.Tie as tie
 
-returns : tie.Need-returns
-unfolding objectCount
-returns c = search needs
-
 pub object-count-spec : {M : Type 1} → statement M
-object-count-spec = tie.close (tie.spec (λ c κs. search needs) returns)
+unfolding objectCount
+object-count-spec = tie.close (tie.spec (λ c κs. search needs) (λ c. search needs))

@@ -4,9 +4,6 @@ use borrow.Author.Needs.{needs}
 use Rattle.orderhead.proofs.start_at.Statement.{statement}
 use Rattle.orderhead.proofs.start_at.Tie as tie
 
-returns : tie.Need-returns
-unfolding startAt
-returns c = search needs
-
 pub start-at-spec : {M : Type 1} → statement M
-start-at-spec = tie.close (tie.spec (λ c κs. search needs) (λ c. search needs) (λ c. search needs) returns)
+unfolding startAt
+start-at-spec = tie.close (tie.spec (λ c κs. search needs) (λ c. search needs) (λ c. search needs) (λ c. search needs))

@@ -4,9 +4,6 @@ use borrow.Author.Needs.{needs}
 use Rattle.orderhead.proofs.start_count.Statement.{statement}
 use Rattle.orderhead.proofs.start_count.Tie as tie
 
-returns : tie.Need-returns
-unfolding startCount
-returns c = search needs
-
 pub start-count-spec : {M : Type 1} → statement M
-start-count-spec = tie.close (tie.spec (λ c κs. search needs) returns)
+unfolding startCount
+start-count-spec = tie.close (tie.spec (λ c κs. search needs) (λ c. search needs))

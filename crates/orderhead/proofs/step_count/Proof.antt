@@ -4,9 +4,6 @@ use borrow.Author.Needs.{needs}
 use Rattle.orderhead.proofs.step_count.Statement.{statement}
 use Rattle.orderhead.proofs.step_count.Tie as tie
 
-returns : tie.Need-returns
-unfolding stepCount
-returns c = search needs
-
 pub step-count-spec : {M : Type 1} → statement M
-step-count-spec = tie.close (tie.spec (λ c κs. search needs) returns)
+unfolding stepCount
+step-count-spec = tie.close (tie.spec (λ c κs. search needs) (λ c. search needs))

@@ -4,9 +4,6 @@ use borrow.Author.Needs.{needs}
 use Rattle.orderhead.proofs.steps_at.Statement.{statement}
 use Rattle.orderhead.proofs.steps_at.Tie as tie
 
-returns : tie.Need-returns
-unfolding stepsAt
-returns c = search needs
-
 pub steps-at-spec : {M : Type 1} → statement M
-steps-at-spec = tie.close (tie.spec (λ c κs. search needs) (λ c κs. search needs) (λ c. search needs) (λ c. search needs) (λ c. search needs) returns)
+unfolding stepsAt
+steps-at-spec = tie.close (tie.spec (λ c κs. search needs) (λ c κs. search needs) (λ c. search needs) (λ c. search needs) (λ c. search needs) (λ c. search needs))

@@ -4,10 +4,7 @@ use borrow.Author.Needs.{needs}
 use Rattle.scan.proofs.state_end.Statement.{statement}
 use Rattle.scan.proofs.state_end.Tie as tie
 
-returns : tie.Need-returns
-unfolding stateEnd
-returns c = search needs
-
 pub state-end-spec : {M : Type 1} → statement M
+unfolding stateEnd
 state-end-spec =
-    tie.close (tie.spec (λ c. search needs) (λ c κs. search needs) (λ c. search needs) (λ c. search needs) (λ c. search needs) returns)
+    tie.close (tie.spec (λ c. search needs) (λ c κs. search needs) (λ c. search needs) (λ c. search needs) (λ c. search needs) (λ c. search needs))

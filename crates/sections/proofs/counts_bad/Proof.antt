@@ -4,9 +4,6 @@ use Rattle.format.specs.Header.{countsBad}
 use Rattle.sections.proofs.counts_bad.Statement.{statement}
 use Rattle.sections.proofs.counts_bad.Tie as tie
 
-returns : tie.Need-returns
-unfolding countsBad
-returns c = refl
-
 pub counts-bad-spec : {M : Type 1} → statement M
-counts-bad-spec = tie.close (tie.spec returns)
+unfolding countsBad
+counts-bad-spec = tie.close (tie.spec (λ c. refl))

@@ -4,9 +4,6 @@ use Rattle.format.specs.Header.{kindBad}
 use Rattle.sections.proofs.kind_bad.Statement.{statement}
 use Rattle.sections.proofs.kind_bad.Tie as tie
 
-returns : tie.Need-returns
-unfolding kindBad
-returns c = cc
-
 pub kind-bad-spec : {M : Type 1} → statement M
-kind-bad-spec = tie.close (tie.spec (λ c κs. search needs) (λ c κs. search needs) returns)
+unfolding kindBad
+kind-bad-spec = tie.close (tie.spec (λ c κs. search needs) (λ c κs. search needs) (λ c. cc))

@@ -5,12 +5,9 @@ use borrow.Author.Needs.{needs}
 use Rattle.sections.proofs.offsets_bad.Statement.{statement}
 use Rattle.sections.proofs.offsets_bad.Tie as tie
 
-returns : tie.Need-returns
-unfolding offsetsBad
-returns c = refl
-
 pub offsets-bad-spec : {M : Type 1} → statement M
+unfolding offsetsBad
 offsets-bad-spec =
     tie.close
     (tie.spec (λ c. search needs) (λ c. search needs) (λ c. search needs) (λ c. search needs) (λ c. search needs) (λ c. search needs)
-    (λ c. search needs) (λ c. search needs) (λ c. search needs) (λ c. search needs) returns)
+    (λ c. search needs) (λ c. search needs) (λ c. search needs) (λ c. search needs) (λ c. refl))

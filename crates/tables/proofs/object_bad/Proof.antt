@@ -4,9 +4,6 @@ use borrow.Author.Needs.{needs}
 use Rattle.tables.proofs.object_bad.Statement.{statement}
 use Rattle.tables.proofs.object_bad.Tie as tie
 
-returns : tie.Need-returns
-unfolding kindsBad
-returns c = cc
-
 pub object-bad-spec : {M : Type 1} → statement M
-object-bad-spec = tie.close (tie.spec (λ c κs. search needs) (λ c κs. search needs) returns)
+unfolding kindsBad
+object-bad-spec = tie.close (tie.spec (λ c κs. search needs) (λ c κs. search needs) (λ c. cc))

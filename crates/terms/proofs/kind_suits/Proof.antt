@@ -4,9 +4,6 @@ use Rattle.terms.specs.Schema.{kindSuits}
 use Rattle.terms.proofs.kind_suits.Statement.{statement}
 use Rattle.terms.proofs.kind_suits.Tie as tie
 
-returns : tie.Need-returns
-unfolding kindSuits
-returns c = search needs
-
 pub kind-suits-spec : {M : Type 1} → statement M
-kind-suits-spec = tie.close (tie.spec returns)
+unfolding kindSuits
+kind-suits-spec = tie.close (tie.spec (λ c. search needs))

@@ -4,9 +4,6 @@ use Rattle.terms.specs.Steps.{objectOf}
 use Rattle.terms.proofs.Binding.object.Statement.{statement}
 use Rattle.terms.proofs.Binding.object.Tie as tie
 
-returns : tie.Need-returns
-unfolding objectOf
-returns c = cc
-
 pub object-spec : {M : Type 1} → statement M
-object-spec = tie.close (tie.spec (λ c κs. search needs) (λ c. search needs) returns)
+unfolding objectOf
+object-spec = tie.close (tie.spec (λ c κs. search needs) (λ c. search needs) (λ c. cc))

@@ -4,9 +4,6 @@ use Rattle.terms.specs.Facts.{noFact}
 use Rattle.terms.proofs.Fact.none.Statement.{statement}
 use Rattle.terms.proofs.Fact.none.Tie as tie
 
-returns : tie.Need-returns
-unfolding noFact
-returns c = search needs
-
 pub none-spec : {M : Type 1} → statement M
-none-spec = tie.close (tie.spec returns)
+unfolding noFact
+none-spec = tie.close (tie.spec (λ c. search needs))

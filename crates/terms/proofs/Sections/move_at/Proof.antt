@@ -4,9 +4,6 @@ use Rattle.terms.specs.Schema.{moveAt}
 use Rattle.terms.proofs.Sections.move_at.Statement.{statement}
 use Rattle.terms.proofs.Sections.move_at.Tie as tie
 
-returns : tie.Need-returns
-unfolding moveAt
-returns c = search needs
-
 pub move-at-spec : {M : Type 1} → statement M
-move-at-spec = tie.close (tie.spec (λ c. search needs) (λ c κs. search needs) (λ c. search needs) (λ c. search needs) returns)
+unfolding moveAt
+move-at-spec = tie.close (tie.spec (λ c. search needs) (λ c κs. search needs) (λ c. search needs) (λ c. search needs) (λ c. search needs))

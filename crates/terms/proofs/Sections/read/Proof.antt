@@ -4,12 +4,9 @@ use Rattle.terms.specs.Sections.{sectionsOf}
 use Rattle.terms.proofs.Sections.read.Statement.{statement}
 use Rattle.terms.proofs.Sections.read.Tie as tie
 
-returns : tie.Need-returns
-unfolding sectionsOf
-returns c = cc
-
 pub read-spec : {M : Type 1} → statement M
+unfolding sectionsOf
 read-spec =
     tie.close
     (tie.spec (λ c κs. search needs) (λ c κs. search needs) (λ c κs. search needs) (λ c κs. search needs) (λ c κs. search needs)
-    (λ c κs. search needs) (λ c κs. search needs) (λ c κs. search needs) returns)
+    (λ c κs. search needs) (λ c κs. search needs) (λ c κs. search needs) (λ c. cc))

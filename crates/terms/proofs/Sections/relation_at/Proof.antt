@@ -4,9 +4,6 @@ use Rattle.terms.specs.Schema.{relationAt}
 use Rattle.terms.proofs.Sections.relation_at.Statement.{statement}
 use Rattle.terms.proofs.Sections.relation_at.Tie as tie
 
-returns : tie.Need-returns
-unfolding relationAt
-returns c = search needs
-
 pub relation-at-spec : {M : Type 1} → statement M
-relation-at-spec = tie.close (tie.spec (λ c. search needs) (λ c κs. search needs) (λ c. search needs) (λ c. search needs) returns)
+unfolding relationAt
+relation-at-spec = tie.close (tie.spec (λ c. search needs) (λ c κs. search needs) (λ c. search needs) (λ c. search needs) (λ c. search needs))

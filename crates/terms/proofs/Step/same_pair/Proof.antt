@@ -4,9 +4,6 @@ use Rattle.terms.specs.Steps.{samePair}
 use Rattle.terms.proofs.Step.same_pair.Statement.{statement}
 use Rattle.terms.proofs.Step.same_pair.Tie as tie
 
-returns : tie.Need-returns
-unfolding samePair
-returns c = cc
-
 pub same-pair-spec : {M : Type 1} → statement M
-same-pair-spec = tie.close (tie.spec (λ c κs. search needs) (λ c κs. search needs) returns)
+unfolding samePair
+same-pair-spec = tie.close (tie.spec (λ c κs. search needs) (λ c κs. search needs) (λ c. cc))
