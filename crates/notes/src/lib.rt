@@ -39,44 +39,20 @@ fn widen_by_change(observed: &mut [u8], at: usize, from: [u8; 32], to: [u8; 32])
     mask::unite_difference(&mut observed[at..end], &to, &from);
 }
 
+const SET: usize = limits::SET_SIZE;
+
 // One step of a move, by its bound facts before and after it, in the move's six sets.
 fn note(observed: &mut [u8], a: Move, before: [u8; 32], after: [u8; 32])
     requires { ⌜ (1 ≤ a .0) × (a .0 ≤ maxMoves) × (length (now observed) ≡ observedSize) ⌝ }
     ensures { λ _. ⌜ now (observed .exit) ≡ noted (a .0) before after (now (observed .entry)) ⌝ }
 {
     let at = limits::OBSERVED_PER_MOVE * (a.0 as usize - 1);
-    narrow(
-        observed,
-        at + limits::SET_SIZE * observed::ALWAYS_BEFORE,
-        before,
-    );
-    widen(
-        observed,
-        at + limits::SET_SIZE * observed::EVER_BEFORE,
-        before,
-    );
-    narrow(
-        observed,
-        at + limits::SET_SIZE * observed::ALWAYS_AFTER,
-        after,
-    );
-    widen(
-        observed,
-        at + limits::SET_SIZE * observed::EVER_AFTER,
-        after,
-    );
-    widen_by_change(
-        observed,
-        at + limits::SET_SIZE * observed::ADDED,
-        before,
-        after,
-    );
-    widen_by_change(
-        observed,
-        at + limits::SET_SIZE * observed::DELETED,
-        after,
-        before,
-    );
+    narrow(observed, at + SET * observed::ALWAYS_BEFORE, before);
+    widen(observed, at + SET * observed::EVER_BEFORE, before);
+    narrow(observed, at + SET * observed::ALWAYS_AFTER, after);
+    widen(observed, at + SET * observed::EVER_AFTER, after);
+    widen_by_change(observed, at + SET * observed::ADDED, before, after);
+    widen_by_change(observed, at + SET * observed::DELETED, after, before);
 }
 
 // The offset of the first step that row 11 names, 0 for none: `named` of the steps before, and the step at `at` if it is `unbound`.
