@@ -1,13 +1,11 @@
 // The program that checks a plan: the files `book` and `order` of the folder that it runs in.
-// Uses checker for the answer and lines for the text. What it prints is proved to be jobs' planPrinted of what it read.
+// Uses checker for the answer, lines for the text, which is proved to be jobs' planPrinted of what was read, and printing to write it.
 ghost use mathlib.Core.Path.{_≡_};
 ghost use lib.ListN.{take};
 ghost use Rattle.io.specs.Counts.{Counts};
 ghost use Rattle.answer.specs.declared.Answer.the-variants.{Good};
 ghost use Rattle.jobs.specs.Listing.{planLine, planPrinted};
 use answer::Answer;
-
-const STDOUT: i32 = 1;
 
 // A file that can't be read counts as empty.
 fn load(path: &[u8], bytes: &mut [u8]) -> usize
@@ -50,11 +48,16 @@ fn plan_line(book: &[u8], order: &[u8], line: &mut [u8; 128]) -> usize
 fn print_plan(book: &[u8], order: &[u8]) {
     let mut line = [0u8; 128];
     let size = plan_line(book, order, &mut line);
-    io::write_all(STDOUT, &line[..size]);
+    printing::print(&line[..size], b"plan: standard output");
 }
 
 // One byte more than a book may have is read of each file, and no further.
 fn main() {
+    if printing::refuse_arguments(
+        b"usage: plan\nChecks the plan of the files `book` and `order` in this folder. Takes no arguments.\n",
+    ) {
+        return;
+    }
     let mut book = [0u8; limits::MAX_LENGTH + 1];
     let mut order = [0u8; limits::MAX_LENGTH + 1];
     let b = load(b"book", &mut book);
