@@ -1,14 +1,34 @@
 /*
  * Hall changeovers: looking over a book of records, learning its rule sheet,
- * checking the plan of an order, adding a record. Link with libchangeover.a;
- * no other library and no initialisation is needed. The calls keep no state,
- * allocate nothing and may be made from any number of threads at once. Of the
- * stack, changeover_add uses at most 64 KiB, each other call at most 16 KiB.
+ * checking the plan of an order, adding a record. The calls keep no state,
+ * allocate nothing, need no initialisation and may be made from any number of
+ * threads at once.
+ *
+ * Platform: x86-64, System V calling convention, ELF. Link with libchangeover
+ * (archive or shared library); of other libraries it needs memcpy and memset
+ * and nothing else.
+ *
+ * Stack. A thread with a stack of 72 KiB can make every call, one of 24 KiB
+ * every call but changeover_add. Besides what a call uses, these figures have
+ * room for what the C library takes of the same stack: for the thread itself,
+ * and for the dynamic linker, which with lazy binding looks memcpy and memset
+ * up when they are first called (some 3 KiB).
  *
  * Lent memory. Each pointer is lent for the time of the call with its length
- * in bytes; nothing outside is read or written. Inputs are only read. An
- * output must not overlap an input. Where a length is 0 the pointer may be
- * NULL. Any bytes whatever may be given: every call returns.
+ * in bytes; nothing outside is read or written. Inputs are only read; two
+ * inputs may overlap or be the same bytes. An output must not overlap an
+ * input. Where a length is 0 the pointer may be NULL. Any bytes whatever may be
+ * given: every call returns.
+ *
+ * Words. A fact is a relation with an object in each of its places; a state is
+ * the set of facts that hold. A step is a move with an object for each of its
+ * parameters. A bound fact of a move is a relation with one of the move's
+ * parameters in each place, of the place's kind; the step's objects, put in for
+ * the parameters, make a fact of it. A fact or a step is right if there is such
+ * a relation or move, each place or parameter has an object that there is, of
+ * the kind that it asks for, and the bytes of unused ones are 0; else it is
+ * wrong. MEANING.md says all of this at length, FORMAT.md has the bytes of books,
+ * orders and sheets; they are in share/doc/changeover, in the sources in docs.
  *
  * The answer packs three numbers:
  *   bits 48 to 63   number: 0 success, else the refusal below
@@ -49,8 +69,6 @@
  *   18   plan step wrong, as 9 or 10                       offset in the order
  *   19   a learned need is unmet in the plan               step number from 1
  *   20   a goal entry is false at the end                  entry number from 1
- *
- * The bytes of books, orders and sheets: docs/FORMAT.md.
  */
 #ifndef CHANGEOVER_H
 #define CHANGEOVER_H
@@ -58,11 +76,29 @@
 #include <stddef.h>
 #include <stdint.h>
 
+/*
+ * The version of this interface. Another patch changes nothing that a caller
+ * sees but faults mended. Another minor version adds: calls, functions, numbers
+ * of refusals (so a switch over them wants a default), and forms of books that
+ * were refused before; what compiled compiles, and what was not refused has the
+ * same answer. Another major version may change the parameters of a call, the
+ * bytes of orders and sheets and what the bits of an answer mean; the shared
+ * library's soname has its number.
+ */
+#define CHANGEOVER_VERSION_MAJOR 1
+#define CHANGEOVER_VERSION_MINOR 0
+#define CHANGEOVER_VERSION_PATCH 0
+#define CHANGEOVER_VERSION_STRING "1.0.0"
+/* One number that grows with the version, for #if. */
+#define CHANGEOVER_VERSION                                                    \
+    (CHANGEOVER_VERSION_MAJOR * 1000000 + CHANGEOVER_VERSION_MINOR * 1000 +   \
+     CHANGEOVER_VERSION_PATCH)
+
 #ifdef __cplusplus
 extern "C" {
 #endif
 
-/* The table's numbers by name. */
+/* The table's numbers by name; a switch over them is warned of one left out. */
 enum changeover_numbers {
     CHANGEOVER_SUCCESS = 0,
     CHANGEOVER_BOOK_LENGTH = 1,
@@ -97,6 +133,9 @@ enum changeover_lengths {
     CHANGEOVER_SHEET_MAX = 4096,
     CHANGEOVER_END_LEN = 512
 };
+
+/* Bytes of stack for a thread that makes any call but adding, and for one that adds. */
+enum changeover_stack { CHANGEOVER_STACK = 24 * 1024, CHANGEOVER_STACK_ADD = 72 * 1024 };
 
 /* The four sets of a move's 128 bytes in a rule sheet, in their order. */
 enum changeover_set {
@@ -143,9 +182,9 @@ uint64_t changeover_check(const uint8_t *book, size_t book_len, const uint8_t *o
 uint64_t changeover_add(const uint8_t *book, size_t book_len, const uint8_t *record,
                         size_t record_len, uint8_t *out, size_t out_len);
 
-static inline unsigned changeover_number(uint64_t answer)
+static inline enum changeover_numbers changeover_number(uint64_t answer)
 {
-    return (unsigned)(answer >> 48);
+    return (enum changeover_numbers)(answer >> 48);
 }
 
 static inline uint32_t changeover_place(uint64_t answer)
@@ -157,6 +196,56 @@ static inline uint32_t changeover_place(uint64_t answer)
 static inline int changeover_ok(uint64_t answer)
 {
     return changeover_number(answer) == CHANGEOVER_SUCCESS;
+}
+
+/* What a number means, in words without a place; for messages. */
+static inline const char *changeover_words(enum changeover_numbers number)
+{
+    switch (number) {
+    case CHANGEOVER_SUCCESS:
+        return "success";
+    case CHANGEOVER_BOOK_LENGTH:
+        return "book length under 16 or over 60,000";
+    case CHANGEOVER_HEADER_COUNT:
+        return "book header: count over its limit";
+    case CHANGEOVER_HEADER_OFFSET:
+        return "book header: offset wrong, or records past the end";
+    case CHANGEOVER_RELATION:
+        return "relation: count, kind or unused byte wrong";
+    case CHANGEOVER_MOVE:
+        return "move: count, kind or unused byte wrong";
+    case CHANGEOVER_RECORD:
+        return "record: head cut, over a limit or of wrong length, or bytes left over";
+    case CHANGEOVER_OBJECT:
+        return "object cut, or of no such kind";
+    case CHANGEOVER_STATE:
+        return "state: count cut or over 256, or fact cut, wrong or out of order";
+    case CHANGEOVER_STEP:
+        return "step cut, of no such move, or with an object wrong in number or kind";
+    case CHANGEOVER_OBJECT_TWICE:
+        return "step with an object twice";
+    case CHANGEOVER_UNBOUND_CHANGE:
+        return "a changed fact is no bound fact of its step";
+    case CHANGEOVER_CONFLICT:
+        return "a bound fact was changed to one value, and after another step has the other";
+    case CHANGEOVER_OUTPUT_LENGTH:
+        return "lent output of wrong length";
+    case CHANGEOVER_ORDER_HEADER:
+        return "order header: length, count or offset wrong";
+    case CHANGEOVER_ORDER_OBJECT:
+        return "order object of no such kind";
+    case CHANGEOVER_START_FACT:
+        return "start fact wrong or out of order";
+    case CHANGEOVER_GOAL_ENTRY:
+        return "goal entry: first byte over 1, or fact wrong or out of order";
+    case CHANGEOVER_PLAN_STEP:
+        return "plan step wrong, or with an object twice";
+    case CHANGEOVER_NEED_UNMET:
+        return "a learned need is unmet in the plan";
+    case CHANGEOVER_GOAL_MISSED:
+        return "a goal entry is false at the end";
+    }
+    return "no such number";
 }
 
 /*

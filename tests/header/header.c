@@ -27,6 +27,33 @@ static void test_answers(void)
     expect(changeover_ok(4096), "success is ok whatever its place");
 }
 
+static void test_version(void)
+{
+    char parts[32];
+
+    snprintf(parts, sizeof parts, "%d.%d.%d", CHANGEOVER_VERSION_MAJOR, CHANGEOVER_VERSION_MINOR,
+             CHANGEOVER_VERSION_PATCH);
+    expect(strcmp(parts, CHANGEOVER_VERSION_STRING) == 0, "version as text");
+#if CHANGEOVER_VERSION < 1000000 || CHANGEOVER_VERSION >= 2000000
+    expect(0, "version as a number");
+#endif
+}
+
+/* Every number has words of its own, and no other number has any. */
+static void test_words(void)
+{
+    const char *none = changeover_words((enum changeover_numbers)(CHANGEOVER_GOAL_MISSED + 1));
+
+    expect(strcmp(none, "no such number") == 0, "a number beyond the last");
+    for (int one = CHANGEOVER_SUCCESS; one <= CHANGEOVER_GOAL_MISSED; one++) {
+        const char *words = changeover_words((enum changeover_numbers)one);
+        expect(strcmp(words, none) != 0, "a number without words");
+        for (int other = CHANGEOVER_SUCCESS; other < one; other++)
+            expect(strcmp(words, changeover_words((enum changeover_numbers)other)) != 0,
+                   "two numbers with the same words");
+    }
+}
+
 static void test_sheet_len(void)
 {
     uint8_t book[16] = {0};
@@ -85,11 +112,29 @@ static void test_calls(void)
            "no record");
 }
 
+/* Two inputs may overlap: a book as its own order, and its own record added again. */
+static void test_overlap(void)
+{
+    static const uint8_t bare[16] = {0, 0, 0, 0, 0, 0, 0, 0, 0, 16, 0, 16, 0, 16, 0, 16};
+    static const uint8_t book[22] = {0, 0, 0, 0, 0, 0, 0, 1, 0, 16, 0, 16, 0, 16, 0, 22, 0, 0, 0, 6};
+    uint8_t end[CHANGEOVER_END_LEN], out[28];
+
+    expect(changeover_check(bare, sizeof bare, bare, sizeof bare, end, sizeof end) == 0,
+           "a book as its own order");
+    expect(changeover_add(book, sizeof book, book + 16, 6, out, sizeof out) == 28,
+           "a record of the book added again");
+    expect(memcmp(out + 16, book + 16, 6) == 0 && memcmp(out + 22, book + 16, 6) == 0,
+           "both records");
+}
+
 int main(void)
 {
     test_answers();
+    test_version();
+    test_words();
     test_sheet_len();
     test_sets();
     test_calls();
+    test_overlap();
     return failed;
 }
