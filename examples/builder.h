@@ -1,0 +1,235 @@
+/*
+ * Builds the bytes of books, records and orders (docs/FORMAT.md) in memory that
+ * the caller lends. Counts, offsets and lengths are set here, and facts may be
+ * given in any order. After builder_begin the parts come in the order of their
+ * bytes:
+ *   book    book_begin, relations, moves, records, book_end
+ *   record  record_begin, a state, then a step and a state in turn, record_end
+ *   order   order_begin, order_start, order_goal, steps, order_end
+ * A record is made in a book, or alone for changeover_add.
+ *
+ * What does not fit is remembered, nothing is written any more, and the length
+ * at the end is 0; so only that has to be tested, and the calls of the library
+ * refuse a length of 0. All other faults, such as a fact given twice, are left
+ * to them.
+ */
+#ifndef BUILDER_H
+#define BUILDER_H
+
+#include <stddef.h>
+#include <stdint.h>
+#include <string.h>
+
+/* Objects are 0 where unused. */
+struct fact {
+    uint8_t relation, first, second;
+};
+
+struct goal_entry {
+    uint8_t holds; /* 1: the fact shall hold at the end, 0: it shall not */
+    struct fact fact;
+};
+
+struct builder {
+    uint8_t *out;
+    size_t capacity, length;
+    int overflow; /* the capacity was reached, or a count was too great for its bytes */
+    size_t kinds, relations, moves, records; /* counts of a book */
+    size_t objects, start, goal, steps;      /* of an order; objects and steps also of a record */
+    size_t record;                           /* where the record begins */
+};
+
+static inline void builder_begin(struct builder *b, uint8_t *out, size_t capacity)
+{
+    memset(b, 0, sizeof *b);
+    b->out = out;
+    b->capacity = capacity;
+}
+
+/* Room for further bytes, NULL if there is not enough. */
+static inline uint8_t *builder_room(struct builder *b, size_t count)
+{
+    if (b->overflow || count > b->capacity - b->length) {
+        b->overflow = 1;
+        return NULL;
+    }
+    b->length += count;
+    return b->out + b->length - count;
+}
+
+static inline void builder_put(struct builder *b, const uint8_t *bytes, size_t count)
+{
+    uint8_t *room = builder_room(b, count);
+
+    if (room != NULL && count != 0)
+        memcpy(room, bytes, count);
+}
+
+/* Puts an entry before the greater ones of its list; they compare by their last three bytes. */
+static inline void builder_put_sorted(struct builder *b, size_t list, const uint8_t *entry,
+                                      size_t size)
+{
+    uint8_t *room = builder_room(b, size);
+
+    if (room == NULL)
+        return;
+    while (room != b->out + list && memcmp(room - 3, entry + size - 3, 3) > 0) {
+        memcpy(room, room - size, size);
+        room -= size;
+    }
+    memcpy(room, entry, size);
+}
+
+static inline void builder_put_facts(struct builder *b, const struct fact *facts, size_t count)
+{
+    size_t list = b->length;
+
+    for (size_t i = 0; i < count; i++) {
+        const uint8_t entry[3] = {facts[i].relation, facts[i].first, facts[i].second};
+        builder_put_sorted(b, list, entry, sizeof entry);
+    }
+}
+
+/* Sets a number of one byte or two, high byte first, in room that was had before. */
+static inline void builder_set(struct builder *b, size_t at, size_t value, size_t width)
+{
+    if (value >> 8 * width != 0)
+        b->overflow = 1;
+    if (b->overflow)
+        return;
+    if (width == 2)
+        b->out[at++] = (uint8_t)(value >> 8);
+    b->out[at] = (uint8_t)(value & 0xff);
+}
+
+/* Sets the header, which books and orders have alike: four counts, four offsets. */
+static inline size_t builder_end(struct builder *b, const size_t header[8])
+{
+    for (size_t i = 0; i < 8; i++)
+        builder_set(b, 2 * i, header[i], 2);
+    return b->overflow ? 0 : b->length;
+}
+
+/* A relation or a move: how many kinds it has, the kinds, a zero byte. */
+static inline void builder_put_kinds(struct builder *b, const uint8_t *kinds, size_t most)
+{
+    const uint8_t zero = 0;
+    uint8_t count = 0;
+
+    for (size_t i = 0; i < most; i++)
+        count = (uint8_t)(count + (kinds[i] != 0));
+    builder_put(b, &count, 1);
+    builder_put(b, kinds, most);
+    builder_put(b, &zero, 1);
+}
+
+/* A step of a record or of an order; objects are 0 where unused. */
+static inline void builder_step(struct builder *b, uint8_t move, uint8_t first, uint8_t second,
+                                uint8_t third, uint8_t fourth)
+{
+    const uint8_t step[5] = {move, first, second, third, fourth};
+
+    builder_put(b, step, sizeof step);
+    b->steps++;
+}
+
+static inline void book_begin(struct builder *b, size_t kinds)
+{
+    builder_room(b, 16); /* book_end fills it */
+    b->kinds = kinds;
+}
+
+/* Kinds are 0 where unused. */
+static inline void book_relation(struct builder *b, const uint8_t kinds[2])
+{
+    builder_put_kinds(b, kinds, 2);
+    b->relations++;
+}
+
+static inline void book_move(struct builder *b, const uint8_t kinds[4])
+{
+    builder_put_kinds(b, kinds, 4);
+    b->moves++;
+}
+
+/* The length of the book, 0 if it did not fit. */
+static inline size_t book_end(struct builder *b)
+{
+    size_t moves_at = 16 + 4 * b->relations;
+    size_t records_at = moves_at + 6 * b->moves;
+    const size_t header[8] = {b->kinds, b->relations, b->moves,   b->records,
+                              16,       moves_at,     records_at, b->length};
+
+    return builder_end(b, header);
+}
+
+/* The objects of a record are given by their kinds; object 1 is the first of them. */
+static inline void record_begin(struct builder *b, const uint8_t *kinds, size_t count)
+{
+    b->record = b->length;
+    b->objects = count;
+    b->steps = 0;
+    builder_room(b, 4); /* record_end fills it */
+    builder_put(b, kinds, count);
+}
+
+static inline void record_state(struct builder *b, const struct fact *facts, size_t count)
+{
+    size_t at = b->length;
+
+    builder_room(b, 2);
+    builder_set(b, at, count, 2);
+    builder_put_facts(b, facts, count);
+}
+
+/* The length of the record, 0 if it did not fit. */
+static inline size_t record_end(struct builder *b)
+{
+    size_t length = b->length - b->record;
+
+    builder_set(b, b->record, b->objects, 1);
+    builder_set(b, b->record + 1, b->steps, 1);
+    builder_set(b, b->record + 2, length, 2);
+    b->records++;
+    return b->overflow ? 0 : length;
+}
+
+static inline void order_begin(struct builder *b, const uint8_t *kinds, size_t count)
+{
+    builder_room(b, 16); /* order_end fills it */
+    b->objects = count;
+    builder_put(b, kinds, count);
+}
+
+static inline void order_start(struct builder *b, const struct fact *facts, size_t count)
+{
+    b->start = count;
+    builder_put_facts(b, facts, count);
+}
+
+/* Row 20 counts the entries as they are sorted here, not as they were given. */
+static inline void order_goal(struct builder *b, const struct goal_entry *entries, size_t count)
+{
+    size_t list = b->length;
+
+    b->goal = count;
+    for (size_t i = 0; i < count; i++) {
+        const struct fact *fact = &entries[i].fact;
+        const uint8_t entry[4] = {entries[i].holds, fact->relation, fact->first, fact->second};
+        builder_put_sorted(b, list, entry, sizeof entry);
+    }
+}
+
+/* The length of the order, 0 if it did not fit. */
+static inline size_t order_end(struct builder *b)
+{
+    size_t start_at = 16 + b->objects;
+    size_t goal_at = start_at + 3 * b->start;
+    size_t steps_at = goal_at + 4 * b->goal;
+    const size_t header[8] = {b->objects, b->start, b->goal, b->steps,
+                              16,         start_at, goal_at, steps_at};
+
+    return builder_end(b, header);
+}
+
+#endif
