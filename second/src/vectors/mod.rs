@@ -5,48 +5,15 @@
 //! fault was put (`aimed`), and never from this implementation.
 
 mod aimed;
-mod bytes;
+pub mod file;
 mod hall;
 mod paper;
 mod rows;
-mod run;
-mod text;
 
-pub use run::{missing, run, Failure};
-pub use text::{parse, print};
+pub use file::{missing, parse, print, run, Failure, Vector};
 
-use crate::answer::Answer;
-use crate::calls::Job;
-
-#[derive(Clone, Debug, PartialEq, Eq)]
-pub struct Vector {
-    pub name: String,
-    /// Each of these calls must give the answer.
-    pub jobs: Vec<Job>,
-    pub book: Vec<u8>,
-    pub order: Vec<u8>,
-    pub record: Vec<u8>,
-    /// The length of the output to lend.
-    pub output: usize,
-    pub answer: Answer,
-    /// The front of the output afterwards; all bytes behind it stay.
-    pub after: Vec<u8>,
-}
-
+/// What the makers put into a vector.
 impl Vector {
-    fn new(name: impl Into<String>, jobs: &[Job], book: Vec<u8>, answer: Answer) -> Self {
-        Self {
-            name: name.into(),
-            jobs: jobs.to_vec(),
-            book,
-            order: Vec::new(),
-            record: Vec::new(),
-            output: 0,
-            answer,
-            after: Vec::new(),
-        }
-    }
-
     fn order(mut self, order: Vec<u8>) -> Self {
         self.order = order;
         self
