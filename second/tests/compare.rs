@@ -1,8 +1,8 @@
 //! The comparison itself: it passes this implementation, meets every refusal
 //! and every aimed fault often, and finds implementations that are wrong.
 
-use second::calls::{Job, Second};
-use second::compare::{self, Difference, Run, Tally};
+use second::calls::{Calls, Job, Second};
+use second::compare::{self, Capped, Difference, Run, Tally};
 use second::{add, check, form, learn, Answer, Refusal};
 
 const RUN: Run = Run { seed: 7, count: 20_000 };
@@ -111,4 +111,14 @@ fn check_finds_a_wrong_end_sheet() {
         answer.packed()
     };
     assert!(compare::job(Job::Check, RUN, other).is_err());
+}
+
+/// Over 256 facts may hold while a plan is executed.
+#[test]
+fn check_finds_a_state_of_256_facts() {
+    let other = |book: &[u8], order: &[u8], end: &mut [u8]| Capped.check(book, order, end);
+    let difference = compare::job(Job::Check, RUN, other).err().expect("a difference");
+    // The shortest one: plans of fewer facts, which are shorter, don't differ.
+    assert!(difference.label.what.starts_with("over 256 facts"), "{difference}");
+    assert!(difference.differing >= 500, "{} of 1000", difference.differing);
 }

@@ -1,8 +1,10 @@
-//! Demand 3 on tiny halls: learning and checking give the judge's verdict.
+//! Demand 3 on tiny halls and on those in which over 256 facts hold: learning
+//! and checking give the judge's verdict.
 
 use second::calls::{unpacked, Calls, Second};
-use second::compare::{judge, Run};
-use second::judge::{verdict, Verdict};
+use second::compare::{judge, judge_crowded, Capped, Run};
+use second::gen::{fullbook, tiny, BookDraft, OrderDraft, RecordDraft, Rng};
+use second::judge::{self, verdict, Verdict};
 use second::{check, Answer, Refusal};
 
 #[test]
@@ -11,6 +13,14 @@ fn learn_and_check_give_the_judges_verdict() {
     let met = judge(run, &Second).unwrap_or_else(|difference| panic!("{difference}"));
     println!("{met}");
     assert!(met.least() >= 500, "{met}");
+}
+
+#[test]
+fn learn_and_check_give_the_judges_verdict_over_256_facts() {
+    let run = Run { seed: 0, count: 800 };
+    let met = judge_crowded(run, &Second).unwrap_or_else(|difference| panic!("{difference}"));
+    println!("{met}");
+    assert!(met.least() >= 100, "{met}");
 }
 
 /// Each is right but for one cheat that the paper names.
@@ -51,6 +61,59 @@ fn cheats_are_found() {
     });
     for cheat in [stops_at_step_1, refuses_every_plan, passes_every_plan] {
         assert!(judge(run, &cheat).is_err());
+    }
+}
+
+/// Tiny halls can't tell a checker with room for 256 facts; the others do.
+#[test]
+fn a_state_of_256_facts_is_found() {
+    let run = Run { seed: 3, count: 500 };
+    assert!(judge(run, &Capped).is_ok());
+    assert!(judge_crowded(Run { count: 50, ..run }, &Capped).is_err());
+}
+
+/// 256 facts hold at the start, and one step adds another one.
+#[test]
+fn the_judge_has_room_for_over_256_facts() {
+    let step = [1, 0, 0, 0, 0];
+    let record = RecordDraft {
+        objects: Vec::new(),
+        states: vec![Vec::new(), vec![[2, 0, 0]]],
+        steps: vec![step],
+    };
+    let book = BookDraft {
+        kinds: 1,
+        relations: vec![[2, 1, 1, 0], [0; 4]],
+        moves: vec![[0; 6]],
+        records: vec![record],
+    };
+    let start = fullbook::first_facts(16, 256);
+    let judged = |steps: usize, holds: u8| {
+        let order = OrderDraft {
+            objects: vec![1; 16],
+            start: start.clone(),
+            goal: vec![(holds, [2, 0, 0])],
+            steps: vec![step; steps],
+        };
+        let judged = judge::judge(&book.bytes(), &order.bytes());
+        (judged.verdict, judged.most)
+    };
+    let end = start.iter().copied().chain([[2, 0, 0]]).collect();
+    assert_eq!(judged(1, 1), (Verdict::Passes { steps: 1, end }, 257));
+    assert_eq!(judged(1, 0), (Verdict::Misses { entry: 1 }, 257));
+    // The fact added is needed not to hold.
+    assert_eq!(judged(2, 1), (Verdict::Stops { step: 2 }, 257));
+}
+
+/// Objects that nothing is said of change how the judge holds a state, and no
+/// verdict.
+#[test]
+fn idle_objects_change_no_verdict() {
+    for index in 0..300 {
+        let mut plan = tiny::draw(&mut Rng::of_case(5, index));
+        let (book, order) = (plan.book.bytes(), plan.order.bytes());
+        plan.order.objects.resize(if plan.book.kinds > 0 { 16 } else { 0 }, 1);
+        assert_eq!(verdict(&book, &order), verdict(&book, &plan.order.bytes()), "hall {index}");
     }
 }
 

@@ -1,8 +1,13 @@
 //! The test vectors: the file is the one that is printed, this implementation
-//! passes them, and wrong ones do not.
+//! passes them, and wrong ones do not. The bin `mistakes` builds the planted
+//! mistakes and runs the file on them; here they are held to the sources.
 
 use std::collections::BTreeSet;
+use std::path::Path;
 use std::sync::LazyLock;
+
+#[path = "../mistakes/list.rs"]
+mod list;
 
 use second::calls::{unpacked, Calls, Job, Second};
 use second::vectors::{all, missing, parse, print, run, Vector};
@@ -138,4 +143,44 @@ fn a_written_byte_is_found() {
         }
     }
     assert!(!run(&ALL, &Writes).1.is_empty());
+}
+
+/// A plan's state has no limit, so a checker that keeps 256 facts is found: some
+/// vector has a start of 256 and adds to it.
+#[test]
+fn plans_go_beyond_256_facts() {
+    let facts = |vector: &Vector| vector.after.iter().map(|byte| byte.count_ones()).sum::<u32>();
+    let passed = |vector: &&Vector| vector.jobs == [Job::Check] && vector.answer.number == 0;
+    let counts: BTreeSet<u32> = ALL.iter().filter(passed).map(facts).collect();
+    for count in [256, 257, 272, 320, 4096] {
+        assert!(counts.contains(&count), "{count}");
+    }
+}
+
+#[test]
+fn every_mistake_stands_in_the_sources_once() {
+    let here = Path::new(env!("CARGO_MANIFEST_DIR"));
+    let mistakes = list::all(&here.join("mistakes")).expect("the list can be read");
+    assert!(mistakes.len() >= 300, "{}", mistakes.len());
+    for mistake in &mistakes {
+        for edit in &mistake.edits {
+            let source = std::fs::read_to_string(here.join("src").join(&edit.file));
+            let source = source.expect("the file is there");
+            let wrong = edit.apply(&source).unwrap_or_else(|e| panic!("{}: {e}", mistake.name));
+            assert_ne!(wrong, source, "{}", mistake.name);
+        }
+    }
+}
+
+/// Of each row its condition, its place and where it stands have been mistaken.
+#[test]
+fn every_row_has_its_mistakes() {
+    let here = Path::new(env!("CARGO_MANIFEST_DIR"));
+    let mistakes = list::all(&here.join("mistakes")).expect("the list can be read");
+    let about = |what: &str| mistakes.iter().any(|mistake| mistake.about.starts_with(what));
+    for row in 1..=20 {
+        assert!(about(&format!("row {row}, condition")), "{row}");
+        assert!(about(&format!("row {row}, place")), "{row}");
+        assert!(row == 20 || about(&format!("row {row} before row")), "{row}");
+    }
 }

@@ -1,5 +1,5 @@
 //! Compares the built static library with this implementation, and with the
-//! judge on tiny halls.
+//! judge on tiny halls and on those in which over 256 facts hold.
 //!
 //! `compare [seed] [count]`; exit status 1 on any difference or when something
 //! was met too seldom, 2 without a library to compare with.
@@ -18,7 +18,7 @@ const LEARNING: usize = 20_000;
 fn main() -> ExitCode {
     use library::Library;
     use second::calls::Job;
-    use second::compare::Run;
+    use second::compare::{judge, judge_crowded, Run};
 
     let mut arguments = std::env::args().skip(1).map(|argument| argument.parse::<u64>());
     let mut next = |default| match arguments.next() {
@@ -38,7 +38,12 @@ fn main() -> ExitCode {
         let factor = if job == Job::Learn { 2 } else { 1 };
         good &= compare_job(&library, job, Run { seed, count: factor * count });
     }
-    good &= compare_judge(&library, Run { seed, count: count / 3 });
+    let tiny = Run { seed, count: count / 3 };
+    good &= compare_judge("tiny halls", tiny, tiny.count / 16, |run| judge(run, &library));
+    let crowded = Run { seed, count: count / 30 };
+    good &= compare_judge("halls with over 256 facts", crowded, crowded.count / 8, |run| {
+        judge_crowded(run, &library)
+    });
     println!("NULL was lent {} times for an empty input or output", library.nulls());
     good &= library.nulls() > 0;
     if good {
@@ -82,22 +87,28 @@ fn compare_job(
     }
 }
 
-/// Learning and checking against the judge, each kind of verdict often.
+/// Learning and checking against the judge, each kind of verdict at least as
+/// often as told.
 #[cfg(archive)]
-fn compare_judge(library: &library::Library, run: second::compare::Run) -> bool {
+fn compare_judge(
+    halls: &str,
+    run: second::compare::Run,
+    least: usize,
+    judge: impl Fn(second::compare::Run) -> Result<second::compare::Verdicts, String>,
+) -> bool {
     let started = std::time::Instant::now();
-    match second::compare::judge(run, library) {
+    match judge(run) {
         Ok(met) => {
             let seconds = started.elapsed().as_secs_f64();
-            println!("judge: no difference in {} tiny halls, {seconds:.1} s: {met}", run.count);
-            let enough = met.least() >= run.count / 16;
+            println!("judge: no difference in {} {halls}, {seconds:.1} s: {met}", run.count);
+            let enough = met.least() >= least;
             if !enough {
-                println!("judge: a kind of verdict was met too seldom");
+                println!("judge: a kind of verdict was met too seldom in {halls}");
             }
             enough
         }
         Err(difference) => {
-            println!("judge: DIFFERENCE\n{difference}");
+            println!("judge: DIFFERENCE in {halls}\n{difference}");
             false
         }
     }

@@ -1,4 +1,5 @@
-//! Demand 3 on tiny halls: learning and checking give the judge's verdict.
+//! Demand 3 on tiny halls and on crowded ones: learning and checking give the
+//! judge's verdict.
 //!
 //! The judge enumerates the action models; nothing of this implementation's
 //! learning or checking is asked.
@@ -8,61 +9,92 @@ use std::fmt;
 use super::Run;
 use crate::answer::{Answer, Refusal};
 use crate::calls::{unpacked, Calls};
-use crate::gen::{tiny, Rng};
-use crate::judge::{verdict, Verdict};
-use crate::limits::{END_SHEET_LENGTH, RULES_LENGTH};
+use crate::gen::order::Plan;
+use crate::gen::{crowded_hall, tiny, Rng};
+use crate::judge::{self, Judgement, Verdict};
+use crate::limits::{END_SHEET_LENGTH, FACT_LIMIT, RULES_LENGTH};
 
 const FILL: u8 = 0xa5;
 
 /// How often each kind of verdict was met.
-#[derive(Default)]
 pub struct Verdicts {
-    pub impossible: usize,
-    pub stops: usize,
-    pub misses: usize,
-    pub passes_without_steps: usize,
-    pub passes: usize,
+    /// By name, in the order of the report.
+    kinds: Vec<(&'static str, usize)>,
+    /// Verdicts of no kind named.
+    others: usize,
 }
 
 impl Verdicts {
-    fn count(&mut self, verdict: &Verdict) {
-        *match verdict {
-            Verdict::Impossible => &mut self.impossible,
-            Verdict::Stops { .. } => &mut self.stops,
-            Verdict::Misses { .. } => &mut self.misses,
-            Verdict::Passes { steps: 0, .. } => &mut self.passes_without_steps,
-            Verdict::Passes { .. } => &mut self.passes,
+    fn of_kinds(names: &[&'static str]) -> Self {
+        Self { kinds: names.iter().map(|&name| (name, 0)).collect(), others: 0 }
+    }
+
+    fn count(&mut self, kind: &str) {
+        *match self.kinds.iter_mut().find(|(name, _)| *name == kind) {
+            Some((_, times)) => times,
+            None => &mut self.others,
         } += 1;
     }
 
-    /// How often the one met least was met.
+    /// How often the named one met least was met.
     #[must_use]
     pub fn least(&self) -> usize {
-        let all =
-            [self.impossible, self.stops, self.misses, self.passes_without_steps, self.passes];
-        all.into_iter().min().unwrap_or(0)
+        self.kinds.iter().map(|&(_, times)| times).min().unwrap_or(0)
     }
 }
 
 impl fmt::Display for Verdicts {
     fn fmt(&self, f: &mut fmt::Formatter<'_>) -> fmt::Result {
-        write!(
-            f,
-            "impossible {}, 19 {}, 20 {}, passes without steps {}, with steps {}",
-            self.impossible, self.stops, self.misses, self.passes_without_steps, self.passes
-        )
+        for (number, (name, times)) in self.kinds.iter().enumerate() {
+            write!(f, "{}{name} {times}", if number > 0 { ", " } else { "" })?;
+        }
+        match self.others {
+            0 => Ok(()),
+            others => write!(f, ", others {others}"),
+        }
     }
 }
 
-/// Compares `calls` with the judge, or tells the first hall on which they differ.
+/// Compares `calls` with the judge on tiny halls, or tells the first hall on
+/// which they differ.
 pub fn judge(run: Run, calls: &impl Calls) -> Result<Verdicts, String> {
-    let mut met = Verdicts::default();
+    let kinds = ["impossible", "19", "20", "passes without steps", "with steps"];
+    compare_halls(run, calls, tiny::draw, &kinds, |judgement| match judgement.verdict {
+        Verdict::Impossible => "impossible",
+        Verdict::Stops { .. } => "19",
+        Verdict::Misses { .. } => "20",
+        Verdict::Passes { steps: 0, .. } => "passes without steps",
+        Verdict::Passes { .. } => "with steps",
+    })
+}
+
+/// Likewise on halls in which over 256 facts hold; the verdicts are named by
+/// how many held under the judge's models.
+pub fn judge_crowded(run: Run, calls: &impl Calls) -> Result<Verdicts, String> {
+    let kinds = ["19", "20", "passes"];
+    compare_halls(run, calls, crowded_hall::draw, &kinds, |judgement| match judgement.verdict {
+        _ if judgement.most <= FACT_LIMIT => "256 facts at most",
+        Verdict::Impossible => "impossible",
+        Verdict::Stops { .. } => "19",
+        Verdict::Misses { .. } => "20",
+        Verdict::Passes { .. } => "passes",
+    })
+}
+
+fn compare_halls(
+    run: Run,
+    calls: &impl Calls,
+    draw: impl Fn(&mut Rng) -> Plan,
+    kinds: &[&'static str],
+    kind: impl Fn(&Judgement) -> &'static str,
+) -> Result<Verdicts, String> {
+    let mut met = Verdicts::of_kinds(kinds);
     for index in 0..run.count {
-        let plan = tiny::draw(&mut Rng::of_case(run.seed, index));
+        let plan = draw(&mut Rng::of_case(run.seed, index));
         let (book, order) = (plan.book.bytes(), plan.order.bytes());
-        let verdict = verdict(&book, &order);
+        let judgement = judge::judge(&book, &order);
         let given = Given::by(calls, &book, &order, plan.book.moves.len());
-        let agrees = match &verdict {
+        let agrees = match &judgement.verdict {
             Verdict::Impossible => {
                 given.impossible() && impossible_anyhow(calls, &book, given.end_answer)
             }
@@ -72,12 +104,12 @@ pub fn judge(run: Run, calls: &impl Calls) -> Result<Verdicts, String> {
         };
         if !agrees {
             return Err(format!(
-                "seed {} hall {index}: the judge says {verdict:?}; learned {}, checked {}\n\
+                "seed {} hall {index}: the judge says {:?}; learned {}, checked {}\n\
                  book {book:02x?}\norder {order:02x?}",
-                run.seed, given.learned, given.end_answer
+                run.seed, judgement.verdict, given.learned, given.end_answer
             ));
         }
-        met.count(&verdict);
+        met.count(kind(&judgement));
     }
     Ok(met)
 }
@@ -134,7 +166,7 @@ fn impossible_anyhow(calls: &impl Calls, book: &[u8], answer: Answer) -> bool {
 }
 
 /// The end sheet with just these facts.
-fn sheet_of(facts: &[[u8; 3]]) -> Vec<u8> {
+pub(super) fn sheet_of(facts: &[[u8; 3]]) -> Vec<u8> {
     let mut sheet = vec![0; END_SHEET_LENGTH];
     for &[relation, first, second] in facts {
         let from_zero = |number: u8| usize::from(number.max(1)) - 1;

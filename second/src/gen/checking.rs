@@ -1,6 +1,7 @@
 //! Books with an order to check, and a lent end sheet.
 
 use super::aim::{Aim, Label};
+use super::crowded::{self, Ending};
 use super::learning::good_book;
 use super::mixed::BookStream;
 use super::order::{self, Plan};
@@ -22,24 +23,17 @@ impl CheckStream {
         Self { books: BookStream::new(seed), aims: order_faults::aims(), seed }
     }
 
-    /// Every aimed fault of an order, so that a tally can miss one.
+    /// Every aimed fault of an order and every aimed plan, so that a tally can
+    /// miss one.
     #[must_use]
     pub fn labels(&self) -> Vec<Label> {
-        self.aims.iter().map(|aim| aim.label).collect()
+        self.aims.iter().map(|aim| aim.label).chain(Ending::ALL.map(Ending::label)).collect()
     }
 
     #[must_use]
     pub fn case(&self, index: usize) -> JobCase {
         let mut rng = Rng::of_case(self.seed ^ 0x5a5a, index);
         let rng = &mut rng;
-        let case = |label, aimed, book, other, output| JobCase {
-            job: Job::Check,
-            label,
-            aimed,
-            book,
-            other,
-            output,
-        };
         let (round, turn) = (index / 20, index % 20);
         match turn {
             // The order is for another book, which matters only if this one learns.
@@ -53,25 +47,16 @@ impl CheckStream {
                 let order = order::draw(rng).order.bytes();
                 case(label, None, book.bytes(), order, end_length(90, rng))
             }
-            4..=12 => {
-                let aim = &self.aims[(9 * round + turn - 4) % self.aims.len()];
-                let (plan, order, answer) = aim.hit(rng, order::draw);
-                let output = end_length(95, rng);
-                // Row 13 stands before the order's rows.
-                let (label, aimed) = match output {
-                    END_SHEET_LENGTH => (aim.label, answer),
-                    _ => (
-                        Label { part: "order", what: "damaged, and 13 before" },
-                        Refusal::Output.at(0),
-                    ),
-                };
-                case(label, Some(aimed), plan.book.bytes(), order, output)
-            }
+            4..=12 => self.damaged_order(9 * round + turn - 4, rng),
             13 if round % 10 == 0 => {
                 let plan = order::at_the_limits();
-                let aimed = Some(Answer::success(plan.order.steps.len()));
-                let label = Label { part: "order", what: "at every limit" };
-                case(label, aimed, plan.book.bytes(), plan.order.bytes(), END_SHEET_LENGTH)
+                let answer = Answer::success(plan.order.steps.len());
+                aimed_plan(Label { part: "order", what: "at every limit" }, &plan, answer)
+            }
+            14 => {
+                let ending = Ending::ALL[round % Ending::ALL.len()];
+                let (plan, answer) = crowded::case(ending, rng);
+                aimed_plan(ending.label(), &plan, answer)
             }
             _ => {
                 let plan = order::draw(rng);
@@ -80,6 +65,33 @@ impl CheckStream {
             }
         }
     }
+
+    fn damaged_order(&self, index: usize, rng: &mut Rng) -> JobCase {
+        let aim = &self.aims[index % self.aims.len()];
+        let (plan, order, answer) = aim.hit(rng, order::draw);
+        let output = end_length(95, rng);
+        // Row 13 stands before the order's rows.
+        let (label, aimed) = match output {
+            END_SHEET_LENGTH => (aim.label, answer),
+            _ => (Label { part: "order", what: "damaged, and 13 before" }, Refusal::Output.at(0)),
+        };
+        case(label, Some(aimed), plan.book.bytes(), order, output)
+    }
+}
+
+fn case(
+    label: Label,
+    aimed: Option<Answer>,
+    book: Vec<u8>,
+    order: Vec<u8>,
+    output: usize,
+) -> JobCase {
+    JobCase { job: Job::Check, label, aimed, book, other: order, output }
+}
+
+/// A plan that must get this answer, with an end sheet of the right length.
+fn aimed_plan(label: Label, plan: &Plan, answer: Answer) -> JobCase {
+    case(label, Some(answer), plan.book.bytes(), plan.order.bytes(), END_SHEET_LENGTH)
 }
 
 /// The right length in `percent` of 100 cases, else another one.

@@ -3,6 +3,7 @@
 use std::collections::BTreeSet;
 
 use super::draft::{BookDraft, Fact, RecordDraft, Step};
+use super::facts::random_fact;
 use super::rng::Rng;
 
 pub type State = BTreeSet<Fact>;
@@ -30,51 +31,52 @@ pub struct Shape {
     pub facts: usize,
 }
 
+/// What the hidden rules say of one lifted atom: the value that is needed, and
+/// the value that the step gives it.
+#[derive(Clone, Copy)]
+pub struct Rule {
+    pub needed: Option<bool>,
+    pub effect: Option<bool>,
+}
+
 /// One lifted atom in the hidden rules of a move.
-struct HiddenAtom {
+pub(super) struct HiddenAtom {
     relation: u8,
     /// From 0; `None` for an unused place.
     parameters: [Option<usize>; 2],
-    needed: Option<bool>,
-    effect: Option<bool>,
+    pub(super) rule: Rule,
+}
+
+/// The facts that a step changes.
+pub struct Change {
+    pub added: Vec<Fact>,
+    pub removed: Vec<Fact>,
 }
 
 /// Relations and moves with hidden rules; makes records for them.
 pub struct World {
     pub book: BookDraft,
-    rules: Vec<Vec<HiddenAtom>>,
+    pub(super) rules: Vec<Vec<HiddenAtom>>,
 }
 
 impl World {
-    /// Draws the first sections of a book; it has no record yet.
+    /// Draws the first sections of a book, which has no record yet, and hidden
+    /// rules with few needs, so that steps go, and some effects.
     pub fn draw(shape: &Shape, rng: &mut Rng) -> Self {
-        let kinds = rng.count(shape.kinds);
-        let kind = |rng: &mut Rng| rng.range(1, kinds) as u8;
-        let places = |rng: &mut Rng, limit| if kinds == 0 { 0 } else { rng.range(0, limit) };
-        let mut book = BookDraft { kinds, ..BookDraft::default() };
-        for _ in 0..rng.count(shape.relations) {
-            let mut entry = [0; 4];
-            entry[0] = places(rng, 2) as u8;
-            for place in 1..=usize::from(entry[0]) {
-                entry[place] = kind(rng);
-            }
-            book.relations.push(entry);
-        }
-        for _ in 0..rng.count(shape.moves) {
-            let mut entry = [0; 6];
-            entry[0] = places(rng, 4) as u8;
-            for parameter in 1..=usize::from(entry[0]) {
-                entry[parameter] = kind(rng);
-            }
-            book.moves.push(entry);
-        }
-        Self::with_rules(book, rng)
+        let book = draw_front(shape, rng);
+        Self::with_rules(book, || Rule {
+            needed: rng.chance(8).then(|| rng.chance(60)),
+            effect: rng.chance(30).then(|| rng.chance(50)),
+        })
     }
 
-    /// Hidden rules with few needs, so that steps go, and some effects.
-    pub fn with_rules(book: BookDraft, rng: &mut Rng) -> Self {
-        let rules =
-            book.moves.iter().map(|entry| hidden_atoms(&book.relations, entry, rng)).collect();
+    /// `draw` gives the hidden rule of each lifted atom.
+    pub fn with_rules(book: BookDraft, mut draw: impl FnMut() -> Rule) -> Self {
+        let rules = book
+            .moves
+            .iter()
+            .map(|entry| hidden_atoms(&book.relations, entry, &mut draw))
+            .collect();
         Self { book, rules }
     }
 
@@ -144,9 +146,15 @@ impl World {
         None
     }
 
-    /// Any well-formed step, by an injective binding of the right kinds.
+    /// Any well-formed step.
     pub fn step(&self, objects: &[u8], rng: &mut Rng) -> Option<Step> {
         let index = (!self.book.moves.is_empty()).then(|| rng.below(self.book.moves.len()))?;
+        self.bind(index, objects, rng)
+    }
+
+    /// A step of the move of this index, by an injective binding of the right
+    /// kinds.
+    pub fn bind(&self, index: usize, objects: &[u8], rng: &mut Rng) -> Option<Step> {
         let entry = self.book.moves[index];
         let mut step = [0; 5];
         step[0] = index as u8 + 1;
@@ -160,24 +168,44 @@ impl World {
         Some(step)
     }
 
-    fn apply(&self, step: &Step, state: &State) -> Option<State> {
-        let atoms = &self.rules[usize::from(step[0]) - 1];
-        let met = |atom: &HiddenAtom| match atom.needed {
-            Some(value) => state.contains(&atom.fact(step)) == value,
-            None => true,
-        };
-        if !atoms.iter().all(met) {
+    /// The facts of the step's needs that are unmet in `state`.
+    pub fn unmet(&self, step: &Step, state: &State) -> Vec<Fact> {
+        self.bound(step, |rule| rule.needed)
+            .filter(|(fact, needed)| state.contains(fact) != *needed)
+            .map(|(fact, _)| fact)
+            .collect()
+    }
+
+    /// What the step changes in `state`, or `None` if a need is unmet.
+    pub fn change(&self, step: &Step, state: &State) -> Option<Change> {
+        if !self.unmet(step, state).is_empty() {
             return None;
         }
-        let mut next = state.clone();
-        for atom in atoms {
-            match atom.effect {
-                Some(true) => drop(next.insert(atom.fact(step))),
-                Some(false) => drop(next.remove(&atom.fact(step))),
-                None => {}
+        let mut change = Change { added: Vec::new(), removed: Vec::new() };
+        for (fact, holds) in self.bound(step, |rule| rule.effect) {
+            if holds != state.contains(&fact) {
+                if holds { &mut change.added } else { &mut change.removed }.push(fact);
             }
         }
+        Some(change)
+    }
+
+    pub(super) fn apply(&self, step: &Step, state: &State) -> Option<State> {
+        let change = self.change(step, state)?;
+        let mut next = state.clone();
+        change.apply_to(&mut next);
         Some(next)
+    }
+
+    /// The facts of the step of which the hidden rules say something in this
+    /// part, and what.
+    fn bound<'a>(
+        &'a self,
+        step: &'a Step,
+        part: impl Fn(&Rule) -> Option<bool> + 'a,
+    ) -> impl Iterator<Item = (Fact, bool)> + 'a {
+        let atoms = &self.rules[usize::from(step[0]) - 1];
+        atoms.iter().filter_map(move |atom| Some((atom.fact(step), part(&atom.rule)?)))
     }
 
     /// Turns one fact: of the step's bound ones half of the time, else any.
@@ -196,14 +224,52 @@ impl World {
     }
 }
 
+impl Change {
+    pub fn apply_to(&self, state: &mut State) {
+        state.extend(&self.added);
+        for fact in &self.removed {
+            state.remove(fact);
+        }
+    }
+}
+
 impl HiddenAtom {
-    fn fact(&self, step: &Step) -> Fact {
+    pub(super) fn fact(&self, step: &Step) -> Fact {
         let [first, second] = self.parameters.map(|parameter| parameter.map_or(0, |p| step[p + 1]));
         [self.relation, first, second]
     }
 }
 
-fn hidden_atoms(relations: &[[u8; 4]], entry: &[u8; 6], rng: &mut Rng) -> Vec<HiddenAtom> {
+/// Kinds, relations and moves, and no record.
+pub fn draw_front(shape: &Shape, rng: &mut Rng) -> BookDraft {
+    let kinds = rng.count(shape.kinds);
+    let kind = |rng: &mut Rng| rng.range(1, kinds) as u8;
+    let places = |rng: &mut Rng, limit| if kinds == 0 { 0 } else { rng.range(0, limit) };
+    let mut book = BookDraft { kinds, ..BookDraft::default() };
+    for _ in 0..rng.count(shape.relations) {
+        let mut entry = [0; 4];
+        entry[0] = places(rng, 2) as u8;
+        for place in 1..=usize::from(entry[0]) {
+            entry[place] = kind(rng);
+        }
+        book.relations.push(entry);
+    }
+    for _ in 0..rng.count(shape.moves) {
+        let mut entry = [0; 6];
+        entry[0] = places(rng, 4) as u8;
+        for parameter in 1..=usize::from(entry[0]) {
+            entry[parameter] = kind(rng);
+        }
+        book.moves.push(entry);
+    }
+    book
+}
+
+fn hidden_atoms(
+    relations: &[[u8; 4]],
+    entry: &[u8; 6],
+    draw: &mut impl FnMut() -> Rule,
+) -> Vec<HiddenAtom> {
     let fillers = |kind: u8| -> Vec<Option<usize>> {
         if kind == 0 {
             return vec![None];
@@ -214,29 +280,10 @@ fn hidden_atoms(relations: &[[u8; 4]], entry: &[u8; 6], rng: &mut Rng) -> Vec<Hi
     for (number, relation) in (1..).zip(relations) {
         for &first in &fillers(relation[1]) {
             for &second in &fillers(relation[2]) {
-                let needed = rng.chance(8).then(|| rng.chance(60));
-                let effect = rng.chance(30).then(|| rng.chance(50));
-                atoms.push(HiddenAtom {
-                    relation: number,
-                    parameters: [first, second],
-                    needed,
-                    effect,
-                });
+                let parameters = [first, second];
+                atoms.push(HiddenAtom { relation: number, parameters, rule: draw() });
             }
         }
     }
     atoms
-}
-
-/// A well-formed fact, if the objects drawn have the kinds for one.
-pub fn random_fact(relations: &[[u8; 4]], objects: &[u8], rng: &mut Rng) -> Option<Fact> {
-    let index = (!relations.is_empty()).then(|| rng.below(relations.len()))?;
-    let mut fact = [index as u8 + 1, 0, 0];
-    for place in 1..=usize::from(relations[index][0]) {
-        let fitting: Vec<u8> = (1..=objects.len() as u8)
-            .filter(|&object| objects[usize::from(object) - 1] == relations[index][place])
-            .collect();
-        fact[place] = *rng.pick(&fitting)?;
-    }
-    Some(fact)
 }

@@ -3,7 +3,8 @@
 use std::collections::BTreeMap;
 
 use super::draft::{BookDraft, Fact, OrderDraft, RecordDraft};
-use super::hall::{random_fact, Dynamics, Shape, State, World};
+use super::facts::random_fact;
+use super::hall::{Dynamics, Shape, State, World};
 use super::rng::Rng;
 use super::{book, fullbook};
 

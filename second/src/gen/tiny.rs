@@ -40,7 +40,7 @@ fn draw_any(rng: &mut Rng) -> Plan {
 
 /// The models of one move number 12 to the power of its atoms: four atoms at
 /// most, five now and then; with a second move three each.
-fn few_atoms(book: &BookDraft, rng: &mut Rng) -> bool {
+pub(super) fn few_atoms(book: &BookDraft, rng: &mut Rng) -> bool {
     let limit = match book.moves.len() {
         0..=1 => 4 + usize::from(rng.chance(4)),
         _ => 3,
@@ -48,7 +48,7 @@ fn few_atoms(book: &BookDraft, rng: &mut Rng) -> bool {
     book.moves.iter().all(|entry| atom_count(&book.relations, entry) <= limit)
 }
 
-fn atom_count(relations: &[[u8; 4]], entry: &[u8; 6]) -> usize {
+pub(super) fn atom_count(relations: &[[u8; 4]], entry: &[u8; 6]) -> usize {
     let fillers = |kind: u8| match kind {
         0 => 1,
         _ => entry[1..=usize::from(entry[0])].iter().filter(|&&filler| filler == kind).count(),

@@ -1,12 +1,15 @@
-//! The judge of the paper, by brute force, for tiny halls.
+//! The judge of the paper, by brute force, for moves of few lifted atoms.
 //!
 //! He enumerates every action model over the lifted atoms, keeps those that are
 //! consistent with each record, and carries the plan out under each. He knows
 //! nothing of learned needs, of effects seen or of the rule sheet, and reads
 //! the bytes, which must be of good form, by himself.
 
-/// A set of facts as bits. Fact (relation, a, b) is bit 16·(relation−1) + 4·a + b.
-type State = u128;
+mod reading;
+
+use std::cmp::Reverse;
+
+use reading::{is_tiny, read_book, read_order};
 
 /// His verdict; `end` lists the facts of the end state in order.
 #[derive(Debug, PartialEq, Eq)]
@@ -16,6 +19,35 @@ pub enum Verdict {
     Misses { entry: u32 },
     Passes { steps: u32, end: Vec<[u8; 3]> },
 }
+
+/// His verdict, and how many facts held at most, up to the step of a stop or up
+/// to the end, under a model that comes to it; 0 if none fits.
+pub struct Judgement {
+    pub verdict: Verdict,
+    pub most: usize,
+}
+
+/// What one model comes to. The verdict is the first of these, in this order,
+/// to which any model comes.
+#[derive(PartialEq, Eq, PartialOrd, Ord)]
+enum Outcome {
+    Stops(u32),
+    Misses(u32),
+    Passes,
+}
+
+/// A set of facts as bits. The few words of tiny halls keep these fast.
+#[derive(Clone, PartialEq)]
+struct State<const WORDS: usize> {
+    words: [u64; WORDS],
+    /// How many hold.
+    count: usize,
+}
+
+/// Enough for 3 objects and 8 relations.
+const TINY: usize = 2;
+/// Enough for the paper's limits, 16 objects and 16 relations.
+const FULL: usize = 73;
 
 /// One rule list for one move, over the move's atoms by their index.
 #[derive(Clone, Copy)]
@@ -35,76 +67,98 @@ struct Atom {
     parameters: [Option<usize>; 2],
 }
 
-/// A step with each atom of its move as a fact: the bit of atom i at index i.
+/// A step with each atom of its move as a fact: that of atom i at index i.
 struct GroundStep {
     action: usize,
-    facts: Vec<State>,
+    facts: Vec<usize>,
 }
 
-struct Transition {
+struct Transition<const WORDS: usize> {
     step: GroundStep,
-    before: State,
-    after: State,
+    before: State<WORDS>,
+    after: State<WORDS>,
+}
+
+struct Plan<const WORDS: usize> {
+    start: State<WORDS>,
+    steps: Vec<GroundStep>,
+    goal: Vec<(bool, usize)>,
 }
 
 /// The judge's verdict on a book and an order, both of good form.
 ///
 /// # Panics
-/// If the hall has over 3 objects or 8 relations, or if the end states of a
-/// passing plan differ between models.
+/// If a move has over 8 lifted atoms, or if the end states of a passing plan
+/// differ between models.
 #[must_use]
 pub fn verdict(book: &[u8], order: &[u8]) -> Verdict {
-    let (atoms, transitions) = read_book(book);
-    // A step asks for the rules of its own move alone, so the models that are
-    // consistent with the records are all combinations of the kept lists.
-    let kept: Vec<Vec<Rules>> = (0..atoms.len())
-        .map(|action| {
-            let of_action: Vec<&Transition> =
-                transitions.iter().filter(|transition| transition.step.action == action).collect();
-            (0..CHOICES.pow(atoms[action].len() as u32))
-                .map(|number| Rules::numbered(number, atoms[action].len()))
-                .filter(|rules| of_action.iter().all(|transition| rules.fits(transition)))
-                .collect()
-        })
-        .collect();
-    if kept.iter().any(Vec::is_empty) {
-        return Verdict::Impossible;
-    }
+    judge(book, order).verdict
+}
 
-    let plan = read_order(order, &atoms);
-    let mut stop = None;
-    let mut missed = None;
+/// As [`verdict`], with how many facts held at most.
+#[must_use]
+pub fn judge(book: &[u8], order: &[u8]) -> Judgement {
+    if is_tiny(book, order) {
+        judge_in::<TINY>(book, order)
+    } else {
+        judge_in::<FULL>(book, order)
+    }
+}
+
+fn judge_in<const WORDS: usize>(book: &[u8], order: &[u8]) -> Judgement {
+    let (atoms, transitions) = read_book::<WORDS>(book);
+    let kept = consistent(&atoms, &transitions);
+    if kept.iter().any(Vec::is_empty) {
+        return Judgement { verdict: Verdict::Impossible, most: 0 };
+    }
+    let plan = read_order::<WORDS>(order, &atoms);
+    // Begins as the last in order; of equal outcomes the one of most facts counts.
+    let mut first = (Outcome::Passes, Reverse(0));
     let mut ends = Vec::new();
     let mut model = vec![0; kept.len()];
     loop {
-        let rules = |action: usize| kept[action][model[action]];
-        match carry_out(&plan, rules) {
-            Err(step) => stop = earliest(stop, step),
-            Ok(end) => {
-                if let Some(entry) = plan.missed(end) {
-                    missed = earliest(missed, entry);
-                }
-                if !ends.contains(&end) {
-                    ends.push(end);
-                }
-            }
+        let (most, end) = plan.carry_out(|action| kept[action][model[action]]);
+        let outcome = match &end {
+            Err(step) => Outcome::Stops(*step),
+            Ok(end) => plan.missed(end).map_or(Outcome::Passes, Outcome::Misses),
+        };
+        first = first.min((outcome, Reverse(most)));
+        if let Some(end) = end.ok().filter(|end| !ends.contains(end)) {
+            ends.push(end);
         }
         if !advance(&mut model, &kept) {
             break;
         }
     }
-    if let Some(step) = stop {
-        return Verdict::Stops { step };
-    }
-    if let Some(entry) = missed {
-        return Verdict::Misses { entry };
-    }
-    assert_eq!(ends.len(), 1, "the end states of a passing plan differ");
-    Verdict::Passes { steps: plan.steps.len() as u32, end: facts_of(ends[0]) }
+    let (outcome, Reverse(most)) = first;
+    let verdict = match outcome {
+        Outcome::Stops(step) => Verdict::Stops { step },
+        Outcome::Misses(entry) => Verdict::Misses { entry },
+        Outcome::Passes => {
+            assert_eq!(ends.len(), 1, "the end states of a passing plan differ");
+            Verdict::Passes { steps: plan.steps.len() as u32, end: ends[0].facts() }
+        }
+    };
+    Judgement { verdict, most }
 }
 
-fn earliest(known: Option<u32>, new: u32) -> Option<u32> {
-    Some(known.map_or(new, |known| known.min(new)))
+/// The rule lists of each move that fit all its recorded steps. A step asks for
+/// the rules of its own move alone, so the models that are consistent with the
+/// records are all combinations of these.
+fn consistent<const WORDS: usize>(
+    atoms: &[Vec<Atom>],
+    transitions: &[Transition<WORDS>],
+) -> Vec<Vec<Rules>> {
+    let lists = |(action, atoms): (usize, &Vec<Atom>)| {
+        let of_action: Vec<_> =
+            transitions.iter().filter(|transition| transition.step.action == action).collect();
+        let count = CHOICES.checked_pow(atoms.len() as u32).expect("few lifted atoms");
+        (0..count)
+            .map(|number| Rules::numbered(number, atoms.len()))
+            .filter(|rules| of_action.iter().all(|transition| rules.fits(transition)))
+            .collect()
+    };
+    atoms.iter().enumerate().map(lists).collect()
 }
 
 /// The next combination, the first move's choice changing fastest.
@@ -134,144 +188,93 @@ impl Rules {
         rules
     }
 
-    /// The state after the step, or `None` if it does not go.
-    fn apply(&self, step: &GroundStep, state: State) -> Option<State> {
-        let mut next = state;
+    /// Whether the step goes.
+    fn applicable<const WORDS: usize>(&self, step: &GroundStep, state: &State<WORDS>) -> bool {
+        let held = step.held(state);
+        self.pre_pos & !held == 0 && self.pre_neg & held == 0
+    }
+
+    /// Changes just the added and removed facts.
+    fn change<const WORDS: usize>(&self, step: &GroundStep, state: &mut State<WORDS>) {
         for (atom, &fact) in step.facts.iter().enumerate() {
-            let holds = state & fact != 0;
-            let is_in = |set: u32| set >> atom & 1 == 1;
-            if is_in(self.pre_pos) && !holds || is_in(self.pre_neg) && holds {
-                return None;
+            if self.add >> atom & 1 == 1 {
+                state.set(fact, true);
             }
-            if is_in(self.add) {
-                next |= fact;
-            }
-            if is_in(self.delete) {
-                next &= !fact;
+            if self.delete >> atom & 1 == 1 {
+                state.set(fact, false);
             }
         }
-        Some(next)
     }
 
-    fn fits(&self, transition: &Transition) -> bool {
-        self.apply(&transition.step, transition.before) == Some(transition.after)
+    fn fits<const WORDS: usize>(&self, transition: &Transition<WORDS>) -> bool {
+        self.applicable(&transition.step, &transition.before) && {
+            let mut state = transition.before.clone();
+            self.change(&transition.step, &mut state);
+            state == transition.after
+        }
     }
 }
 
-struct Plan {
-    start: State,
-    steps: Vec<GroundStep>,
-    goal: Vec<(bool, State)>,
+impl GroundStep {
+    /// The atoms whose facts hold.
+    fn held<const WORDS: usize>(&self, state: &State<WORDS>) -> u32 {
+        let bit = |(atom, &fact): (usize, &usize)| u32::from(state.holds(fact)) << atom;
+        self.facts.iter().enumerate().map(bit).sum()
+    }
 }
 
-impl Plan {
+impl<const WORDS: usize> Plan<WORDS> {
+    /// Under one model: how many facts held at most, and the end state or the
+    /// number from 1 of the step at which the model stops.
+    fn carry_out(&self, rules: impl Fn(usize) -> Rules) -> (usize, Result<State<WORDS>, u32>) {
+        let mut state = self.start.clone();
+        let mut most = state.count;
+        for (number, step) in (1u32..).zip(&self.steps) {
+            let rules = rules(step.action);
+            if !rules.applicable(step, &state) {
+                return (most, Err(number));
+            }
+            rules.change(step, &mut state);
+            most = most.max(state.count);
+        }
+        (most, Ok(state))
+    }
+
     /// The number, from 1, of the first goal entry that is missed in `end`.
-    fn missed(&self, end: State) -> Option<u32> {
-        let false_in_end = |&(holds, fact): &(bool, State)| (end & fact != 0) != holds;
-        self.goal.iter().position(false_in_end).map(|index| index as u32 + 1)
+    fn missed(&self, end: &State<WORDS>) -> Option<u32> {
+        let missed = |&(holds, fact): &(bool, usize)| end.holds(fact) != holds;
+        self.goal.iter().position(missed).map(|index| index as u32 + 1)
     }
 }
 
-/// The end state, or the number from 1 of the step at which the model stops.
-fn carry_out(plan: &Plan, rules: impl Fn(usize) -> Rules) -> Result<State, u32> {
-    let mut state = plan.start;
-    for (number, step) in (1u32..).zip(&plan.steps) {
-        state = rules(step.action).apply(step, state).ok_or(number)?;
-    }
-    Ok(state)
-}
+impl<const WORDS: usize> State<WORDS> {
+    const EMPTY: Self = Self { words: [0; WORDS], count: 0 };
+    /// Objects are below this, 0 for an unused place.
+    const RADIX: usize = if WORDS == TINY { 4 } else { 17 };
 
-fn fact_bit(fact: &[u8]) -> State {
-    let (relation, first, second) = (fact[0], fact[1], fact[2]);
-    assert!(relation <= 8 && first <= 3 && second <= 3, "the hall is too large to judge");
-    1 << (16 * (relation - 1) + 4 * first + second)
-}
-
-fn facts_of(state: State) -> Vec<[u8; 3]> {
-    (0..128u8)
-        .filter(|bit| state >> bit & 1 == 1)
-        .map(|bit| [bit / 16 + 1, bit / 4 % 4, bit % 4])
-        .collect()
-}
-
-fn ground(step: &[u8], atoms: &[Vec<Atom>]) -> GroundStep {
-    let action = usize::from(step[0]) - 1;
-    let object = |parameter: Option<usize>| parameter.map_or(0, |parameter| step[1 + parameter]);
-    let fact = |atom: &Atom| {
-        let [first, second] = atom.parameters.map(object);
-        fact_bit(&[atom.relation, first, second])
-    };
-    GroundStep { action, facts: atoms[action].iter().map(fact).collect() }
-}
-
-/// Reads on from the front of a slice; the bytes are of good form.
-struct Reader<'a>(&'a [u8]);
-
-impl<'a> Reader<'a> {
-    fn take(&mut self, count: usize) -> &'a [u8] {
-        let (taken, rest) = self.0.split_at(count);
-        self.0 = rest;
-        taken
+    /// The number of a fact: radix²·(relation−1) + radix·first + second.
+    fn fact(bytes: &[u8]) -> usize {
+        let [relation, first, second] = [bytes[0], bytes[1], bytes[2]].map(usize::from);
+        Self::RADIX * (Self::RADIX * (relation - 1) + first) + second
     }
 
-    fn number(&mut self) -> usize {
-        let bytes = self.take(2);
-        usize::from(bytes[0]) << 8 | usize::from(bytes[1])
+    fn holds(&self, fact: usize) -> bool {
+        self.words[fact / 64] >> (fact % 64) & 1 == 1
     }
 
-    fn state(&mut self, count: usize) -> State {
-        (0..count).fold(0, |state, _| state | fact_bit(self.take(3)))
-    }
-}
-
-/// The atoms of each move, and the transitions of all records.
-fn read_book(book: &[u8]) -> (Vec<Vec<Atom>>, Vec<Transition>) {
-    let mut reader = Reader(book);
-    let [_, relations, moves, records] = [(); 4].map(|()| reader.number());
-    reader.take(8);
-    let relations: Vec<&[u8]> = (0..relations).map(|_| reader.take(4)).collect();
-    let atoms: Vec<Vec<Atom>> = (0..moves).map(|_| atoms(&relations, reader.take(6))).collect();
-    let mut transitions = Vec::new();
-    for _ in 0..records {
-        let head = reader.take(4);
-        reader.take(usize::from(head[0]));
-        let count = reader.number();
-        let mut before = reader.state(count);
-        for _ in 0..head[1] {
-            let step = ground(reader.take(5), &atoms);
-            let count = reader.number();
-            let after = reader.state(count);
-            transitions.push(Transition { step, before, after });
-            before = after;
+    fn set(&mut self, fact: usize, holds: bool) {
+        if self.holds(fact) != holds {
+            self.words[fact / 64] ^= 1 << (fact % 64);
+            self.count = if holds { self.count + 1 } else { self.count - 1 };
         }
     }
-    (atoms, transitions)
-}
 
-fn atoms(relations: &[&[u8]], entry: &[u8]) -> Vec<Atom> {
-    let fillers = |kind: u8| -> Vec<Option<usize>> {
-        match kind {
-            0 => vec![None],
-            _ => (0..usize::from(entry[0])).filter(|&p| entry[1 + p] == kind).map(Some).collect(),
-        }
-    };
-    let mut atoms = Vec::new();
-    for (relation, kinds) in (1..).zip(relations) {
-        for &first in &fillers(kinds[1]) {
-            for &second in &fillers(kinds[2]) {
-                atoms.push(Atom { relation, parameters: [first, second] });
-            }
-        }
+    fn facts(&self) -> Vec<[u8; 3]> {
+        let radix = Self::RADIX;
+        (0..64 * WORDS)
+            .filter(|&fact| self.holds(fact))
+            .map(|fact| [fact / radix / radix + 1, fact / radix % radix, fact % radix])
+            .map(|fact| fact.map(|number| number as u8))
+            .collect()
     }
-    atoms
-}
-
-fn read_order(order: &[u8], atoms: &[Vec<Atom>]) -> Plan {
-    let mut reader = Reader(order);
-    let [objects, start, goal, steps] = [(); 4].map(|()| reader.number());
-    reader.take(8 + objects);
-    let start = reader.state(start);
-    let goal = (0..goal).map(|_| (reader.take(1)[0] == 1, fact_bit(reader.take(3)))).collect();
-    let steps = (0..steps).map(|_| ground(reader.take(5), atoms)).collect();
-    Plan { start, steps, goal }
 }

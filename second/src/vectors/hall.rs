@@ -31,6 +31,39 @@ pub fn small_hall() -> BookDraft {
     with([filed()])
 }
 
+/// Where the parts of the small hall stand.
+pub const RELATIONS: usize = 16;
+pub const MOVE: usize = 24;
+pub const HEAD: usize = 30;
+pub const OBJECTS: usize = 34;
+pub const STATE: usize = 37;
+pub const STEP: usize = 45;
+pub const AFTER: usize = 50;
+
+/// Bytes with others put in their place.
+pub fn changed(mut bytes: Vec<u8>, changes: &[(usize, &[u8])]) -> Vec<u8> {
+    for &(at, new) in changes {
+        bytes[at..at + new.len()].copy_from_slice(new);
+    }
+    bytes
+}
+
+/// A fourth object, a spot, is clear after the filed step and was not before.
+pub fn unbound() -> RecordDraft {
+    RecordDraft {
+        objects: vec![1, 2, 2, 2],
+        states: vec![vec![[1, 1, 2], [2, 3, 0]], vec![[1, 1, 3], [2, 2, 0], [2, 4, 0]]],
+        ..filed()
+    }
+}
+
+/// The filed record with an empty last state: M9's second.
+pub fn empty_end() -> RecordDraft {
+    let mut record = filed();
+    record.states[1].clear();
+    record
+}
+
 /// The marked cases' hall has bank 1 and spots 2, 3, 4.
 pub fn order(start: &[Fact], goal: &[(u8, Fact)], steps: &[Step]) -> OrderDraft {
     OrderDraft {
@@ -49,6 +82,12 @@ pub const AT_2: Fact = [1, 1, 2];
 pub const AT_4: Fact = [1, 1, 4];
 pub const ROLL_2_3: Step = [1, 1, 2, 3, 0];
 pub const ROLL_3_4: Step = [1, 1, 3, 4, 0];
+
+/// M2's order, which passes. Its objects stand at 16, the start at 20, the goal
+/// at 29 and the two steps at 33.
+pub fn m2() -> OrderDraft {
+    order(&START, &[(1, AT_4)], &[ROLL_2_3, ROLL_3_4])
+}
 
 /// One relation and `moves` moves, all without places; the fact is `F`.
 pub fn one_fact(moves: usize, records: impl IntoIterator<Item = RecordDraft>) -> BookDraft {

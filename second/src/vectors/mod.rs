@@ -1,12 +1,22 @@
-//! Test vectors for any implementation: marked cases, limits, and a case for
-//! each refusal and each fault that a row of the table names.
+//! Test vectors for any implementation: marked cases, limits, a case for each
+//! refusal and each fault that a row of the table names, and cases in which two
+//! rows are met.
 //!
-//! The expected answers come from the paper (`paper`, `rows`) or from where a
-//! fault was put (`aimed`), and never from this implementation.
+//! The expected answers come from the paper, by hand, or from where a fault was
+//! put (`aimed`), and never from this implementation.
 
+mod adding;
 mod aimed;
+mod both;
+mod both_orders;
+mod cuts;
+mod each_byte;
 pub mod file;
 mod hall;
+mod largest;
+mod lent;
+mod many;
+mod offsets;
 mod paper;
 mod rows;
 
@@ -44,6 +54,16 @@ pub fn all() -> Vec<Vector> {
     vectors.extend(rows::learning());
     vectors.extend(rows::outputs());
     vectors.extend(rows::plans());
+    vectors.extend(rows::plans_without_places());
+    vectors.extend(many::plans());
+    vectors.extend(largest::all());
+    vectors.extend(offsets::all());
+    vectors.extend(each_byte::all());
+    vectors.extend(cuts::all());
+    vectors.extend(both::all());
+    vectors.extend(both_orders::all());
+    vectors.extend(lent::all());
+    vectors.extend(adding::all());
     vectors.extend(aimed::books());
     vectors.extend(aimed::orders());
     vectors.extend(aimed::additions());

@@ -9,7 +9,7 @@ use super::paper::{check, m1_sheet};
 use super::Vector;
 use crate::answer::{Answer, Refusal};
 use crate::calls::Job::{Add, Check, Learn};
-use crate::gen::{BookDraft, Fact, RecordDraft};
+use crate::gen::{BookDraft, Fact, OrderDraft, RecordDraft};
 use crate::limits::{END_SHEET_LENGTH, RULES_LENGTH};
 
 const CLEAR_4: Fact = [2, 4, 0];
@@ -26,6 +26,7 @@ fn four(before: &[Fact], after: &[Fact]) -> RecordDraft {
 /// Rows 11 and 12, and books that learn.
 pub fn learning() -> Vec<Vector> {
     let mut vectors = unbound_changes();
+    vectors.extend(unbound_among_others());
     vectors.extend(conflicts());
     vectors.extend(learned());
     vectors
@@ -83,6 +84,25 @@ fn unbound_changes() -> Vec<Vector> {
         refused("10 in a later record before 11", &form_too, {
             Refusal::ObjectTwice.at(first_step(&form_too, 1))
         }),
+    ]
+}
+
+/// Bank 1 rolls from spot 3 to spot 4, and spot 2, which is no parameter, is
+/// cleared or not. Its fact stands between facts that change as they may.
+fn unbound_among_others() -> Vec<Vector> {
+    let case = |name, before: &[Fact], after: &[Fact]| {
+        let book = with([RecordDraft { steps: vec![ROLL_3_4], ..four(before, after) }]);
+        let step_at = book.layout().records[0].steps[0];
+        refused(name, &book, Refusal::UnboundChange.at(step_at))
+    };
+    let clear_2 = [2, 2, 0];
+    vec![
+        case("11: a fact appears among others", &[[1, 1, 3], CLEAR_4], &[AT_4, clear_2, [2, 3, 0]]),
+        case(
+            "11: a fact vanishes among others",
+            &[[1, 1, 3], clear_2, CLEAR_4],
+            &[AT_4, [2, 3, 0]],
+        ),
     ]
 }
 
@@ -228,5 +248,37 @@ pub fn plans() -> Vec<Vector> {
         })
         .after(end_sheet(&START)),
         plan("passes: nothing at all", &[], &[], &[], Answer::success(0)).after(end_sheet(&[])),
+    ]
+}
+
+/// Relation 1 has no places, relation 2 has one. Move 1 has no parameters and
+/// adds the fact of relation 1; move 2 needs it and adds 2(x) of its parameter.
+pub fn plans_without_places() -> Vec<Vector> {
+    let fact = [1, 0, 0];
+    let (turn, put) = ([1, 0, 0, 0, 0], |object| [2, object, 0, 0, 0]);
+    let book = BookDraft {
+        kinds: 1,
+        relations: vec![[0; 4], [1, 1, 0, 0]],
+        moves: vec![[0; 6], [1, 1, 0, 0, 0, 0]],
+        records: vec![RecordDraft {
+            objects: vec![1],
+            states: vec![Vec::new(), vec![fact], vec![fact, [2, 1, 0]]],
+            steps: vec![turn, put(1)],
+        }],
+    };
+    let plan = |name, goal: &[(u8, Fact)], steps: &[_], answer| {
+        let (goal, steps) = (goal.to_vec(), steps.to_vec());
+        let order = OrderDraft { objects: vec![1; 3], start: Vec::new(), goal, steps };
+        check(name, book.bytes(), order.bytes(), answer)
+    };
+    let both = [(1, fact), (1, [2, 3, 0])];
+    vec![
+        plan("passes: a fact of no places", &both, &[turn, put(3)], Answer::success(2))
+            .after(end_sheet(&[fact, [2, 3, 0]])),
+        plan("19: a fact of no places is needed", &[], &[put(3)], Refusal::NeedUnmet.at(1)),
+        plan("19: a fact of no places is needed not to hold", &[], &[turn, turn], {
+            Refusal::NeedUnmet.at(2)
+        }),
+        plan("20: a fact of no places", &[(0, fact)], &[turn], Refusal::GoalMissed.at(1)),
     ]
 }

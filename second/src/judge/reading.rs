@@ -1,0 +1,103 @@
+//! What the judge reads of a book and an order, whose bytes are of good form.
+
+use super::{Atom, GroundStep, Plan, State, Transition};
+
+fn ground<const WORDS: usize>(step: &[u8], atoms: &[Vec<Atom>]) -> GroundStep {
+    let action = usize::from(step[0]) - 1;
+    let object = |parameter: Option<usize>| parameter.map_or(0, |parameter| step[1 + parameter]);
+    let fact = |atom: &Atom| {
+        let [first, second] = atom.parameters.map(object);
+        State::<WORDS>::fact(&[atom.relation, first, second])
+    };
+    GroundStep { action, facts: atoms[action].iter().map(fact).collect() }
+}
+
+/// Reads on from the front of a slice; the bytes are of good form.
+struct Reader<'a>(&'a [u8]);
+
+impl<'a> Reader<'a> {
+    fn take(&mut self, count: usize) -> &'a [u8] {
+        let (taken, rest) = self.0.split_at(count);
+        self.0 = rest;
+        taken
+    }
+
+    fn number(&mut self) -> usize {
+        let bytes = self.take(2);
+        usize::from(bytes[0]) << 8 | usize::from(bytes[1])
+    }
+
+    fn state<const WORDS: usize>(&mut self, count: usize) -> State<WORDS> {
+        let mut state = State::EMPTY;
+        for _ in 0..count {
+            state.set(State::<WORDS>::fact(self.take(3)), true);
+        }
+        state
+    }
+}
+
+/// Whether no hall has over 3 objects, and there are 8 relations at most.
+pub(super) fn is_tiny(book: &[u8], order: &[u8]) -> bool {
+    let mut objects = order[1];
+    let mut records = Reader(&book[Reader(&book[12..]).number()..]);
+    while let [count, _, length @ ..] = records.0 {
+        objects = objects.max(*count);
+        records.take(Reader(length).number());
+    }
+    book[3] <= 8 && objects <= 3
+}
+
+/// The atoms of each move, and the transitions of all records.
+pub(super) fn read_book<const WORDS: usize>(
+    book: &[u8],
+) -> (Vec<Vec<Atom>>, Vec<Transition<WORDS>>) {
+    let mut reader = Reader(book);
+    let [_, relations, moves, records] = [(); 4].map(|()| reader.number());
+    reader.take(8);
+    let relations: Vec<&[u8]> = (0..relations).map(|_| reader.take(4)).collect();
+    let atoms: Vec<Vec<Atom>> = (0..moves).map(|_| atoms(&relations, reader.take(6))).collect();
+    let mut transitions = Vec::new();
+    for _ in 0..records {
+        let head = reader.take(4);
+        reader.take(usize::from(head[0]));
+        let count = reader.number();
+        let mut before: State<WORDS> = reader.state(count);
+        for _ in 0..head[1] {
+            let step = ground::<WORDS>(reader.take(5), &atoms);
+            let count = reader.number();
+            let after: State<WORDS> = reader.state(count);
+            transitions.push(Transition { step, before, after: after.clone() });
+            before = after;
+        }
+    }
+    (atoms, transitions)
+}
+
+fn atoms(relations: &[&[u8]], entry: &[u8]) -> Vec<Atom> {
+    let fillers = |kind: u8| -> Vec<Option<usize>> {
+        match kind {
+            0 => vec![None],
+            _ => (0..usize::from(entry[0])).filter(|&p| entry[1 + p] == kind).map(Some).collect(),
+        }
+    };
+    let mut atoms = Vec::new();
+    for (relation, kinds) in (1..).zip(relations) {
+        for &first in &fillers(kinds[1]) {
+            for &second in &fillers(kinds[2]) {
+                atoms.push(Atom { relation, parameters: [first, second] });
+            }
+        }
+    }
+    atoms
+}
+
+pub(super) fn read_order<const WORDS: usize>(order: &[u8], atoms: &[Vec<Atom>]) -> Plan<WORDS> {
+    let mut reader = Reader(order);
+    let [objects, start, goal, steps] = [(); 4].map(|()| reader.number());
+    reader.take(8 + objects);
+    let start = reader.state(start);
+    let entry = |bytes: &[u8]| (bytes[0] == 1, State::<WORDS>::fact(&bytes[1..]));
+    let goal = (0..goal).map(|_| entry(reader.take(4))).collect();
+    let steps = (0..steps).map(|_| ground::<WORDS>(reader.take(5), atoms)).collect();
+    Plan { start, steps, goal }
+}

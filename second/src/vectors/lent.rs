@@ -1,0 +1,71 @@
+//! A book that a row refuses, with an output lent: of a wrong length, where the
+//! row stands before 13, and of the right one. No byte of it may change.
+
+use super::hall::{
+    changed, empty_end, filed, m2, small_hall, unbound, with, AFTER, HEAD, MOVE, OBJECTS,
+    RELATIONS, STATE, STEP,
+};
+use super::Vector;
+use crate::answer::{Answer, Refusal};
+use crate::calls::Job::{self, Add, Check, Learn};
+use crate::limits::{END_SHEET_LENGTH, RULES_LENGTH};
+
+/// The small hall with a fault of each row from 1 to 10.
+fn malformed() -> Vec<(Vec<u8>, Answer)> {
+    let hall = |at: usize, new: &[u8]| changed(small_hall().bytes(), &[(at, new)]);
+    vec![
+        (small_hall().bytes()[..15].to_vec(), Refusal::Length.at(0)),
+        (hall(1, &[9]), Refusal::HeaderCounts.at(0)),
+        (hall(15, &[59]), Refusal::HeaderOffsets.at(0)),
+        (hall(RELATIONS, &[3]), Refusal::Relation.at(RELATIONS)),
+        (hall(MOVE, &[5]), Refusal::Move.at(MOVE)),
+        (hall(HEAD + 1, &[65]), Refusal::Record.at(HEAD)),
+        (hall(OBJECTS, &[0]), Refusal::Object.at(OBJECTS)),
+        (hall(STATE + 5, &[3]), Refusal::State.at(STATE + 5)),
+        (hall(STEP, &[2]), Refusal::Step.at(STEP)),
+        (hall(STEP + 3, &[2]), Refusal::ObjectTwice.at(STEP)),
+        (hall(AFTER + 5, &[3]), Refusal::State.at(AFTER + 5)),
+    ]
+}
+
+/// Books of good form that only learning refuses: rows 11 and 12.
+fn impossible() -> Vec<(Vec<u8>, Answer)> {
+    let unbound = with([unbound()]);
+    let unbound_at = unbound.layout().records[0].steps[0];
+    let conflict = with([filed(), empty_end()]);
+    vec![
+        (unbound.bytes(), Refusal::UnboundChange.at(unbound_at)),
+        (conflict.bytes(), Refusal::EffectConflict.at(1)),
+    ]
+}
+
+pub fn all() -> Vec<Vector> {
+    let mut vectors = Vec::new();
+    for (book, answer) in malformed() {
+        let at = format!("{} at {}", answer.number, answer.place);
+        // 41 bytes are no rule sheet, no end sheet, and short of every new book.
+        vectors.push(
+            Vector::new(format!("{at} before 13"), &[Learn, Check, Add], book.clone(), answer)
+                .order(m2().bytes())
+                .record(filed().bytes())
+                .output(41),
+        );
+        vectors.extend([Learn, Check, Add].map(|job| of_right_length(&at, job, &book, answer)));
+    }
+    for (book, answer) in impossible() {
+        let number = answer.number.to_string();
+        vectors.extend([Learn, Check].map(|job| of_right_length(&number, job, &book, answer)));
+    }
+    vectors
+}
+
+fn of_right_length(what: &str, job: Job, book: &[u8], answer: Answer) -> Vector {
+    let name = format!("{what}, output of the right length, {}", job.name());
+    let vector = Vector::new(name, &[job], book.to_vec(), answer);
+    let record = filed().bytes();
+    match job {
+        Learn => vector.output(RULES_LENGTH),
+        Check => vector.order(m2().bytes()).output(END_SHEET_LENGTH),
+        _ => vector.output(book.len() + record.len()).record(record),
+    }
+}
