@@ -127,6 +127,25 @@ static void test_overlap(void)
            "both records");
 }
 
+/* Lengths that no memory has, such as -1 of a read that failed. */
+static void test_impossible_lengths(void)
+{
+    static const uint8_t book[16] = {0, 0, 0, 0, 0, 0, 0, 0, 0, 16, 0, 16, 0, 16, 0, 16};
+    static const size_t lengths[] = {SIZE_MAX, SIZE_MAX - 15, SIZE_MAX - 16, SIZE_MAX / 2 + 1};
+    uint8_t end[CHANGEOVER_END_LEN], out[22];
+
+    for (size_t i = 0; i < sizeof lengths / sizeof *lengths; i++) {
+        size_t len = lengths[i];
+        expect(changeover_look_over(book, len) == (uint64_t)1 << 48, "book of such a length");
+        expect(changeover_learn(book, sizeof book, NULL, len) == (uint64_t)13 << 48, "such a sheet");
+        expect(changeover_check(book, sizeof book, book, len, end, sizeof end) ==
+                   (uint64_t)14 << 48,
+               "such an order");
+        expect(changeover_add(book, sizeof book, book, len, out, sizeof out) == (uint64_t)1 << 48,
+               "such a record");
+    }
+}
+
 int main(void)
 {
     test_answers();
@@ -136,5 +155,6 @@ int main(void)
     test_sets();
     test_calls();
     test_overlap();
+    test_impossible_lengths();
     return failed;
 }

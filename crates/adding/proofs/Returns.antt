@@ -1,8 +1,9 @@
 -- Each return of `add`, with the lent output, put together from what the calls before it return.
-use Prim.Native.Nat.{ℕ, _+_, _≤_, _<_}
+use Prim.Native.Nat.{ℕ, _+_, _-_, _≤_, _<_}
 use mathlib.Core.Path.{_≡_, refl, sym, _∙_}
 use mathlib.Core.Bool.{Bool, true, false}
 use mathlib.Core.List.{List}
+use native.Mathlib.Omega.{arith}
 use borrow.Author.Tests.{lt-ltb, le-ltb}
 use lib.Dec.{ltb}
 use lib.ListN.{length, take}
@@ -29,6 +30,10 @@ use Rattle.adding.proofs.OneRecord.{book-full, record-alone}
 pub long-enough : (s : List ℕ) (a : Answer) (b : Bool) → a ≡ lookOver s → b ≡ isRefused a → b ≡ false → headerSize ≤ length s
 long-enough s a b e f g = look-over-good s _ (sym e ∙ is-good a (sym f ∙ g)) .sections .size .least
 
+-- .. and is no longer than a book may be
+pub short-enough : (s : List ℕ) (a : Answer) (b : Bool) → a ≡ lookOver s → b ≡ isRefused a → b ≡ false → length s ≤ maxLength
+short-enough s a b e f g = look-over-good s _ (sym e ∙ is-good a (sym f ∙ g)) .sections .size .most
+
 module _ (s r old : List ℕ) where
   kept-old : (a : Answer) → a ≡ add s r (length old) → isRefused a ≡ true → Outcome s r old old a
   unfolding addBytes kept isRefused
@@ -46,11 +51,19 @@ module _ (s r old : List ℕ) where
     long : headerSize ≤ length s
     long = long-enough s a b e f g
 
-    pub too-long : maxLength < length s + length r → Outcome s r old old (Refused 1 0)
-    unfolding add _>>=_ refuse isRefused
-    too-long h = kept-old _ (rw (first-good, lt-ltb maxLength (length s + length r) h)) refl
+    short : length s ≤ maxLength
+    short = short-enough s a b e f g
 
-    module _ (h : Sections) (is : h ≡ sectionsOf s) (m : length s + length r ≤ maxLength) where
+    pub too-long : maxLength - length s < length r → Outcome s r old old (Refused 1 0)
+    unfolding add _>>=_ refuse isRefused
+    too-long h =
+        let l : maxLength < length s + length r = omega (arith, h, short) in
+        kept-old _ (rw (first-good, lt-ltb maxLength (length s + length r) l)) refl
+
+    module _ (h : Sections) (is : h ≡ sectionsOf s) (left : length r ≤ maxLength - length s) where
+      m : length s + length r ≤ maxLength
+      m = omega (arith, left, short)
+
       pub book-is-full : maxRecords ≤ h .records .count → Outcome s r old old (Refused 2 0)
       unfolding add _>>=_ refuse isRefused
       book-is-full i = kept-old _ (rw (first-good, le-ltb maxLength (length s + length r) m, book-full s r _ first-good m (rw is at i))) refl

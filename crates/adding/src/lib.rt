@@ -35,10 +35,11 @@ fn add_by(new: &mut [u8], book: &[u8], bytes: &[u8], out: &mut [u8]) -> Answer
     if answer::is_refused(old) {
         return old;
     }
-    let size = book.len() + bytes.len();
-    if limits::MAX_LENGTH < size {
+    // By a difference: a sum could wrap for a length that no memory has, such as -1 in C.
+    if limits::MAX_LENGTH - book.len() < bytes.len() {
         return Answer::Refused(1, 0);
     }
+    let size = book.len() + bytes.len();
     let h = Sections::read(book);
     if limits::MAX_RECORDS <= h.records.count {
         return Answer::Refused(2, 0);

@@ -1,7 +1,7 @@
 -- `add_by` meets its contract: each refusal by the rows before it, and the bytes stored by what `form` left in `new`.
 use native.Mathlib.Omega.{arith}
 use lib.ListN.{length-take}
-use Rattle.adding.proofs.Returns.{first-refused, long-enough, too-long, book-is-full, new-refused, no-room, stored}
+use Rattle.adding.proofs.Returns.{first-refused, long-enough, short-enough, too-long, book-is-full, new-refused, no-room, stored}
 use borrow.Author.Needs.{needs}
 use Rattle.adding.proofs.add_by.Statement.{statement}
 use Rattle.adding.proofs.add_by.Tie as tie
@@ -9,6 +9,17 @@ use Rattle.adding.proofs.add_by.Tie as tie
 returns : tie.Need-returns
 returns c =
     first-refused _ _ _ _ _ (c .before .before .look-over .ensures) (c .before .is-refused .ensures) (c .if1 .taken)
+
+sub-if2 : tie.Need-sub-if2
+sub-if2 c =
+    let short = short-enough _ _ _ (c .before .before .look-over .ensures) (c .before .is-refused .ensures) (c .if1 .left) in
+    omega (arith, short)
+
+add-size : tie.Need-add-size
+add-size c =
+    let x = c .before in
+    let short = short-enough _ _ _ (x .before .before .look-over .ensures) (x .before .is-refused .ensures) (x .if1 .left) in
+    omega (arith, short)
 
 returns-2 : tie.Need-returns-2
 returns-2 c =
@@ -26,13 +37,26 @@ returns-3 c =
 form-requires : tie.Need-form-requires
 form-requires c κs =
     let x = c .before .before .before .before .before in
-    (long-enough _ _ _ (x .before .before .look-over .ensures) (x .before .is-refused .ensures) (x .if1 .left), omega arith)
+    let short = short-enough _ _ _ (x .before .before .look-over .ensures) (x .before .is-refused .ensures) (x .if1 .left) in
+    (long-enough _ _ _ (x .before .before .look-over .ensures) (x .before .is-refused .ensures) (x .if1 .left), omega (arith, short))
+
+slice-reshare-prefix-last-record : tie.Need-slice-reshare-prefix-last-record
+slice-reshare-prefix-last-record c =
+    let x = c .before .before .before .before .before .before .before .before in
+    let short = short-enough _ _ _ (x .before .before .look-over .ensures) (x .before .is-refused .ensures) (x .if1 .left) in
+    omega (arith, short)
 
 slice-aggregate-last-record : tie.Need-slice-aggregate-last-record
-slice-aggregate-last-record c = simp length-take (omega arith)
+slice-aggregate-last-record c =
+    let x = c .before .before .before .before .before .before .before .before .before in
+    let short = short-enough _ _ _ (x .before .before .look-over .ensures) (x .before .is-refused .ensures) (x .if1 .left) in
+    simp length-take (omega (arith, short))
 
 last-record-requires : tie.Need-last-record-requires
-last-record-requires c κs = (simp length-take (omega arith), omega arith)
+last-record-requires c κs =
+    let x = c .before .before .before .before .before .before .before .before .before in
+    let short = short-enough _ _ _ (x .before .before .look-over .ensures) (x .before .is-refused .ensures) (x .if1 .left) in
+    (simp length-take (omega (arith, short)), omega (arith, short))
 
 returns-4 : tie.Need-returns-4
 returns-4 c =
@@ -59,8 +83,17 @@ returns-5 c =
     no-room _ _ _ _ _ (x .before .before .look-over .ensures) (x .before .is-refused .ensures) (x .if1 .left)
     _ (h .read .ensures) (y .if2 .left) (z .if3 .left) _ _ (f .form .ensures) _ _ (m .last-record .ensures) (j .is-refused2 .ensures) (k .if4 .left) (c .if5 .taken)
 
+slice-reshare-prefix-write-bytes : tie.Need-slice-reshare-prefix-write-bytes
+slice-reshare-prefix-write-bytes c =
+    let x = c .before .before .before .before .before .before .before .before .before .before .before .before .before .before in
+    let short = short-enough _ _ _ (x .before .before .look-over .ensures) (x .before .is-refused .ensures) (x .if1 .left) in
+    omega (arith, short)
+
 slice-aggregate-write-bytes : tie.Need-slice-aggregate-write-bytes
-slice-aggregate-write-bytes c = simp length-take (omega arith)
+slice-aggregate-write-bytes c =
+    let x = c .before .before .before .before .before .before .before .before .before .before .before .before .before .before .before in
+    let short = short-enough _ _ _ (x .before .before .look-over .ensures) (x .before .is-refused .ensures) (x .if1 .left) in
+    simp length-take (omega (arith, short))
 
 write-bytes-requires : tie.Need-write-bytes-requires
 write-bytes-requires c κs = simp length-take (omega arith)
@@ -83,6 +116,6 @@ returns-6 c =
 pub add-by-spec : {M : Type 1} → statement M
 add-by-spec =
     tie.close
-    (tie.spec (λ c κs. search needs) (λ c κs. search needs) returns (λ c. search needs) returns-2 (λ c κs. search needs) returns-3 form-requires
-    (λ c. search needs) slice-aggregate-last-record last-record-requires (λ c κs. search needs) (λ c. search needs) returns-4 (λ c. search needs) returns-5
-    (λ c. search needs) slice-aggregate-write-bytes write-bytes-requires (λ c. search needs) (λ c. search needs) returns-6)
+    (tie.spec (λ c κs. search needs) (λ c κs. search needs) returns sub-if2 returns-2 add-size (λ c κs. search needs) returns-3 form-requires
+    slice-reshare-prefix-last-record slice-aggregate-last-record last-record-requires (λ c κs. search needs) (λ c. search needs) returns-4 (λ c. search needs) returns-5
+    slice-reshare-prefix-write-bytes slice-aggregate-write-bytes write-bytes-requires (λ c. search needs) (λ c. search needs) returns-6)
