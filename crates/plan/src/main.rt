@@ -1,5 +1,5 @@
 // The program that checks a plan: the files `book` and `order` of the folder that it runs in.
-// Uses checker for the answer, lines for the text, which is proved to be jobs' planPrinted of what was read, and printing to write it.
+// Uses checker for the answer, lines for the text, which is proved to be jobs' planPrinted of what was read, and streams to write it.
 ghost use mathlib.Core.Path.{_≡_};
 ghost use lib.ListN.{take};
 ghost use Rattle.io.specs.Counts.{Counts};
@@ -48,12 +48,12 @@ fn plan_line(book: &[u8], order: &[u8], line: &mut [u8; 128]) -> usize
 fn print_plan(book: &[u8], order: &[u8]) {
     let mut line = [0u8; 128];
     let size = plan_line(book, order, &mut line);
-    printing::print(&line[..size], b"plan: standard output");
+    streams::print(&line[..size], b"plan: standard output");
 }
 
 // One byte more than a book may have is read of each file, and no further.
 fn main() {
-    if printing::refuse_arguments(
+    if streams::refuse_arguments(
         b"usage: plan\nChecks the plan of the files `book` and `order` in this folder. Takes no arguments.\n",
     ) {
         return;

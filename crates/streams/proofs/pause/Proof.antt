@@ -1,4 +1,4 @@
--- `printing::pause` meets its contract: a walk of its MIR, by hand. Two records are made in two locals. The first is lent by `&` and the second by `&mut`, each for a lifetime that is made for the call, and both are taken back once the call has returned.
+-- `streams::pause` meets its contract: a walk of its MIR, by hand. Two records are made in two locals. The first is lent by `&` and the second by `&mut`, each for a lifetime that is made for the call, and both are taken back once the call has returned.
 -- All that the proof knows of `libc::nanosleep` is that it meets its contract, of which it uses the result's type alone.
 -- Assumes nothing.
 use mathlib.Core.Path.{refl}
@@ -47,10 +47,10 @@ use Rattle.libc.proofs.nanosleep as nanosleep
 use Rattle.libc.proofs.nanosleep.Symbol as nanosleep-def
 use Rattle.libc.proofs.nanosleep.Symbol.{name as #libc·nanosleep}
 use Rattle.libc.proofs.nanosleep.Met as nanosleep-thm
-use Rattle.printing.proofs.pause.Key.{name as #printing·pause}
-use Rattle.printing.proofs.pause as pause
-use Rattle.printing.proofs.pause.Statement as stated
-use Rattle.printing.proofs.pause.Code as code
+use Rattle.streams.proofs.pause.Key.{name as #streams·pause}
+use Rattle.streams.proofs.pause as pause
+use Rattle.streams.proofs.pause.Statement as stated
+use Rattle.streams.proofs.pause.Code as code
 
 abbrev stayed : Stays (pause.ended .signature .params) (pause.ended .kept)
 stayed = tt
@@ -166,6 +166,6 @@ pub pause-spec : {M : Type 1} → stated.statement M
 unfolding code.routine tablesOf
 pause-spec 𝓤 H 𝓜 𝓖 𝓡 =
     entered 𝓤 H (tripleOf 𝓤 H (𝓖 .A) pause.signature (pause.spec 𝓤 H (𝓖 .A) (𝓜 .mem) (𝓡 .run)))
-    (tables 𝓤 H 𝓜 𝓡 code.env .C) (tables 𝓤 H 𝓜 𝓡 code.env .Λ) #printing·pause code.function (code.unfolded 𝓤 H 𝓜 𝓡)
+    (tables 𝓤 H 𝓜 𝓡 code.env .C) (tables 𝓤 H 𝓜 𝓡 code.env .Λ) #streams·pause code.function (code.unfolded 𝓤 H 𝓜 𝓡)
     (pause-meets 𝓤 H (𝓖 .A) (givenOf 𝓤 H 𝓜 𝓖) (𝓜 .mem) (𝓡 .run) (tablesOf 𝓤 H 𝓜 (tables 𝓤 H 𝓜 𝓡 code.env))
     (cited 𝓤 H (Nanosleep 𝓤 H (𝓖 .A) (𝓜 .mem) (𝓡 .run)) 𝓜 𝓡 code.env #libc·nanosleep nanosleep-def.routine code.calls-libc·nanosleep (nanosleep-thm.met 𝓤 H 𝓜 𝓖 𝓡)))

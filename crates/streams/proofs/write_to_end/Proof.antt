@@ -1,10 +1,10 @@
--- `printing::write_to_end` ends: each turn takes a byte of the text or a pause.
+-- `streams::write_to_end` ends: each turn takes a byte of the text or a pause.
 use Prim.Native.Nat.{_+_, _-_, _*_, _≤_}
 use native.Mathlib.Omega.{arith}
 use lib.ListN.{length}
 use borrow.Author.Needs.{needs}
-use Rattle.printing.proofs.write_to_end.Statement.{statement}
-use Rattle.printing.proofs.write_to_end.Tie as tie
+use Rattle.streams.proofs.write_to_end.Statement.{statement}
+use Rattle.streams.proofs.write_to_end.Tie as tie
 
 abbrev Inv-loop : tie.InvT-loop
 Inv-loop text done₀ pauses₀ done pauses = (done ≤ length text) × (pauses ≤ 60000)
