@@ -15,7 +15,7 @@ fn load(path: &[u8], bytes: &mut [u8]) -> usize
     if file < 0 {
         return 0;
     }
-    let size = io::read_full(file, bytes);
+    let size = streams::read(file, bytes);
     libc::close(file);
     size
 }

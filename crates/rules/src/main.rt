@@ -16,6 +16,6 @@ fn main() {
         return;
     }
     let mut input = [0u8; limits::MAX_LENGTH + 1];
-    let size = io::read_full(STDIN, &mut input);
+    let size = streams::read(STDIN, &mut input);
     print_rules(&input[..size]);
 }
