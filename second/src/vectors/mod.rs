@@ -12,6 +12,7 @@ mod both_orders;
 mod cuts;
 mod each_byte;
 pub mod file;
+mod further;
 mod hall;
 mod largest;
 mod lent;
@@ -64,6 +65,7 @@ pub fn all() -> Vec<Vector> {
     vectors.extend(both_orders::all());
     vectors.extend(lent::all());
     vectors.extend(adding::all());
+    vectors.extend(further::all());
     vectors.extend(aimed::books());
     vectors.extend(aimed::orders());
     vectors.extend(aimed::additions());

@@ -1,7 +1,7 @@
 //! Bytes as text: hexadecimal, with `*n` behind a part that comes n times.
 
 /// The longest part that is looked for as one that repeats.
-const PART_LIMIT: usize = 600;
+const PART_LIMIT: usize = 1000;
 /// Characters that a repetition must save.
 const LEAST_SAVING: usize = 8;
 const MUCH_SAVED: usize = 24;

@@ -30,6 +30,7 @@ pub fn print(vectors: &[Vector]) -> String {
         writeln!(text, "number {number}\nplace {place}").expect(WRITES);
         print_bytes(&mut text, "after", &vector.after);
     }
+    writeln!(text, "\nend {}", vectors.len()).expect(WRITES);
     text
 }
 
@@ -65,7 +66,10 @@ fn print_bytes(text: &mut String, key: &str, bytes: &[u8]) {
 /// The vectors of a file, or what is wrong with it.
 pub fn parse(text: &str) -> Result<Vec<Vector>, String> {
     let mut vectors: Vec<Vector> = Vec::new();
-    for (key, value) in entries(text)? {
+    let mut entries = entries(text)?;
+    // A file that was cut has lost its last line.
+    let (last, count) = entries.pop().ok_or("no line")?;
+    for (key, value) in entries {
         if key == "vector" {
             let none = Answer { number: u32::MAX, place: 0 };
             vectors.push(Vector::new(value, &[], Vec::new(), none));
@@ -85,6 +89,9 @@ pub fn parse(text: &str) -> Result<Vec<Vector>, String> {
             "after" => vector.after = decode(&value).map_err(in_vector)?,
             _ => return Err(in_vector("no such key".into())),
         }
+    }
+    if last != "end" || count != vectors.len().to_string() {
+        return Err(format!("{} vectors, and no end that says so", vectors.len()));
     }
     match vectors.iter().find(|v| v.jobs.is_empty() || v.answer.number == u32::MAX) {
         Some(vector) => Err(format!("vector {}: no jobs or no number", vector.name)),
