@@ -10,15 +10,17 @@
  *
  * Stack. A thread with a stack of 72 KiB can make every call, one of 24 KiB
  * every call but changeover_add. Besides what a call uses, these figures have
- * room for what the C library takes of the same stack: for the thread itself,
- * and for the dynamic linker, which with lazy binding looks memcpy and memset
- * up when they are first called (some 3 KiB).
+ * room for what the C library takes of the same stack: for the thread itself
+ * (some 4.5 KiB), and for the dynamic linker, which with lazy binding looks a
+ * function up when it is first called (some 3 KiB). Not in them are the
+ * program's thread-local variables, its own functions and signal handlers.
  *
  * Lent memory. Each pointer is lent for the time of the call with its length
  * in bytes; nothing outside is read or written. Inputs are only read; two
  * inputs may overlap or be the same bytes. An output must not overlap an
- * input. Where a length is 0 the pointer may be NULL. Any bytes whatever may be
- * given: every call returns.
+ * input, so a record is not added in place. Where a length is 0 the pointer may
+ * be NULL. Any bytes whatever may be given: every call returns. A length that
+ * no memory has, such as -1 of a read that failed, is a wrong length like others.
  *
  * Words. A fact is a relation with an object in each of its places; a state is
  * the set of facts that hold. A step is a move with an object for each of its
@@ -26,24 +28,25 @@
  * parameters in each place, of the place's kind; the step's objects, put in for
  * the parameters, make a fact of it. A fact or a step is right if there is such
  * a relation or move, each place or parameter has an object that there is, of
- * the kind that it asks for, and the bytes of unused ones are 0; else it is
- * wrong. MEANING.md says all of this at length, FORMAT.md has the bytes of books,
+ * the kind that it asks for, the bytes of unused ones are 0, and no object of a
+ * step stands twice; else it is wrong. MEANING.md says all of this at length, FORMAT.md has the bytes of books,
  * orders and sheets; they are in share/doc/changeover, in the sources in docs.
  *
  * The answer packs three numbers:
  *   bits 48 to 63   number: 0 success, else the refusal below
  *   bits 32 to 47   0; kept for a later version
  *   bits  0 to 31   place
- * A refusal leaves all lent memory as it was. Where more than one row is met,
- * the answer is the first one by place in the table, the records being walked
- * in file order, each to its end.
+ * A refusal leaves all lent memory as it was. The rows are tested in the order
+ * of the table, each thing of a row in file order; but 6 to 10 as they come up
+ * in the records: a record's head, objects, state, step, state and so on, its
+ * tail, then the next record. The answer is the first that is met.
  *
  *   No.  met when                                          place
  *    0   success                                           see each call
  *    1   book: length under 16 or over 60,000              0
  *    2   book header: a count over its limit               0
- *    3   book header: an offset wrong, or records past     0
- *        the end
+ *    3   book header: an offset or the end wrong, or       0
+ *        records past the end
  *    4   relation: count, kind or unused byte wrong        its offset
  *    5   move: likewise                                    its offset
  *    6   record head cut, over a limit, length under 4 or  the record's offset
@@ -52,7 +55,7 @@
  *    8   state: count cut or over 256; fact cut, wrong or  offset of the count
  *        out of order                                      or the fact
  *    9   step cut; no such move; an object wrong in number its offset
- *        or kind
+ *        or kind; an unused byte not 0
  *   10   step with an object twice                         its offset
  *    6   bytes left in a record                            the record's offset
  *    6   bytes left after the last record                  first such byte
@@ -69,6 +72,10 @@
  *   18   plan step wrong, as 9 or 10                       offset in the order
  *   19   a learned need is unmet in the plan               step number from 1
  *   20   a goal entry is false at the end                  entry number from 1
+ *
+ * Cut means reaching past the end of the record, for a record's head past that
+ * of the book; the place is where the thing begins, which may be that end. Of
+ * two facts out of order the second is named, of a goal entry its first byte.
  */
 #ifndef CHANGEOVER_H
 #define CHANGEOVER_H
@@ -79,11 +86,10 @@
 /*
  * The version of this interface. Another patch changes nothing that a caller
  * sees but faults mended. Another minor version adds: calls, functions, numbers
- * of refusals (so a switch over them wants a default), and forms of books that
- * were refused before; what compiled compiles, and what was not refused has the
- * same answer. Another major version may change the parameters of a call, the
- * bytes of orders and sheets and what the bits of an answer mean; the shared
- * library's soname has its number.
+ * of refusals, and forms of books that were refused before; what was not refused
+ * has the same answer. Another major version may change the parameters of a
+ * call, the bytes of books, orders and sheets and what the bits of an answer
+ * mean; the shared library's soname has its number.
  */
 #define CHANGEOVER_VERSION_MAJOR 1
 #define CHANGEOVER_VERSION_MINOR 0
@@ -98,8 +104,16 @@
 extern "C" {
 #endif
 
-/* The table's numbers by name; a switch over them is warned of one left out. */
+/*
+ * The table's numbers by name. A switch over them without a default is warned of
+ * one left out (-Wswitch, in -Wall); handle numbers of a later minor version
+ * behind it.
+ */
+#if defined(__cplusplus) && __cplusplus >= 201103L
+enum changeover_numbers : unsigned {
+#else
 enum changeover_numbers {
+#endif
     CHANGEOVER_SUCCESS = 0,
     CHANGEOVER_BOOK_LENGTH = 1,
     CHANGEOVER_HEADER_COUNT = 2,
@@ -221,7 +235,7 @@ static inline const char *changeover_words(enum changeover_numbers number)
     case CHANGEOVER_STATE:
         return "state: count cut or over 256, or fact cut, wrong or out of order";
     case CHANGEOVER_STEP:
-        return "step cut, of no such move, or with an object wrong in number or kind";
+        return "step cut, of no such move, or with an object or unused byte wrong";
     case CHANGEOVER_OBJECT_TWICE:
         return "step with an object twice";
     case CHANGEOVER_UNBOUND_CHANGE:
@@ -250,9 +264,9 @@ static inline const char *changeover_words(enum changeover_numbers number)
 
 /*
  * The length of the sheet that changeover_learn asks for: 128 times the move
- * count, which is bytes 4 and 5 of the book. 0 for a book that is refused
- * before its sheet matters, being too short or having over 32 moves; so the
- * length is never over CHANGEOVER_SHEET_MAX.
+ * count, which is bytes 4 and 5 of the book. 0 if the book is too short to have
+ * one, or has over 32 moves; it is refused then, whatever the sheet. Nothing
+ * else is tested. The length is never over CHANGEOVER_SHEET_MAX.
  */
 static inline size_t changeover_sheet_len(const uint8_t *book, size_t book_len)
 {

@@ -45,10 +45,10 @@ static void test_words(void)
     const char *none = changeover_words((enum changeover_numbers)(CHANGEOVER_GOAL_MISSED + 1));
 
     expect(strcmp(none, "no such number") == 0, "a number beyond the last");
-    for (int one = CHANGEOVER_SUCCESS; one <= CHANGEOVER_GOAL_MISSED; one++) {
+    for (unsigned one = 0; one <= (unsigned)CHANGEOVER_GOAL_MISSED; one++) {
         const char *words = changeover_words((enum changeover_numbers)one);
         expect(strcmp(words, none) != 0, "a number without words");
-        for (int other = CHANGEOVER_SUCCESS; other < one; other++)
+        for (unsigned other = 0; other < one; other++)
             expect(strcmp(words, changeover_words((enum changeover_numbers)other)) != 0,
                    "two numbers with the same words");
     }
