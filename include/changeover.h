@@ -29,8 +29,9 @@
  * the parameters, make a fact of it. A fact or a step is right if there is such
  * a relation or move, each place or parameter has an object that there is, of
  * the kind that it asks for, the bytes of unused ones are 0, and no object of a
- * step stands twice; else it is wrong. MEANING.md says all of this at length, FORMAT.md has the bytes of books,
- * orders and sheets; they are in share/doc/changeover, in the sources in docs.
+ * step stands twice; else it is wrong. MEANING.md says all of this at length,
+ * FORMAT.md has the bytes of books, orders and sheets; they are in
+ * share/doc/changeover, in the sources in docs.
  *
  * The answer packs three numbers:
  *   bits 48 to 63   number: 0 success, else the refusal below
