@@ -1,9 +1,8 @@
 -- Each return of `add`, with the lent output, put together from what the calls before it return.
-use Prim.Native.Nat.{ℕ, _+_, _-_, _≤_, _<_}
+use Prim.Native.Nat.{ℕ, _+_, _≤_, _<_}
 use mathlib.Core.Path.{_≡_, refl, sym, _∙_}
 use mathlib.Core.Bool.{Bool, true, false}
 use mathlib.Core.List.{List}
-use native.Mathlib.Omega.{arith}
 use borrow.Author.Tests.{lt-ltb, le-ltb}
 use lib.Dec.{ltb}
 use lib.ListN.{length, take}
@@ -51,19 +50,11 @@ module _ (s r old : List ℕ) where
     long : headerSize ≤ length s
     long = long-enough s a b e f g
 
-    short : length s ≤ maxLength
-    short = short-enough s a b e f g
-
-    pub too-long : maxLength - length s < length r → Outcome s r old old (Refused 1 0)
+    pub too-long : maxLength < length s + length r → Outcome s r old old (Refused 1 0)
     unfolding add _>>=_ refuse isRefused
-    too-long h =
-        let l : maxLength < length s + length r = omega (arith, h, short) in
-        kept-old _ (rw (first-good, lt-ltb maxLength (length s + length r) l)) refl
+    too-long h = kept-old _ (rw (first-good, lt-ltb maxLength (length s + length r) h)) refl
 
-    module _ (h : Sections) (is : h ≡ sectionsOf s) (left : length r ≤ maxLength - length s) where
-      m : length s + length r ≤ maxLength
-      m = omega (arith, left, short)
-
+    module _ (h : Sections) (is : h ≡ sectionsOf s) (m : length s + length r ≤ maxLength) where
       pub book-is-full : maxRecords ≤ h .records .count → Outcome s r old old (Refused 2 0)
       unfolding add _>>=_ refuse isRefused
       book-is-full i = kept-old _ (rw (first-good, le-ltb maxLength (length s + length r) m, book-full s r _ first-good m (rw is at i))) refl

@@ -26,6 +26,14 @@ fn form(new: &mut [u8], book: &[u8], bytes: &[u8])
     output::write_two(new, END_AT, book.len() + bytes.len());
 }
 
+// How many bytes a book leaves. The new length is tested by this difference: a sum would wrap for a length that no memory has, such as -1 in C.
+fn room_behind(book: &[u8]) -> usize
+    requires { ⌜ length (now book) ≤ maxLength ⌝ }
+    ensures { λ r. ⌜ length (now (book .entry)) + r ≡ maxLength ⌝ }
+{
+    limits::MAX_LENGTH - book.len()
+}
+
 // The job, by way of memory in which the new book is formed. Behind a good old book only the record count and the record itself can be refused.
 fn add_by(new: &mut [u8], book: &[u8], bytes: &[u8], out: &mut [u8]) -> Answer
     requires { ⌜ maxLength ≤ length (now new) ⌝ }
@@ -35,8 +43,7 @@ fn add_by(new: &mut [u8], book: &[u8], bytes: &[u8], out: &mut [u8]) -> Answer
     if answer::is_refused(old) {
         return old;
     }
-    // By a difference: a sum could wrap for a length that no memory has, such as -1 in C.
-    if limits::MAX_LENGTH - book.len() < bytes.len() {
+    if room_behind(book) < bytes.len() {
         return Answer::Refused(1, 0);
     }
     let size = book.len() + bytes.len();

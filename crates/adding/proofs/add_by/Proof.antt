@@ -10,53 +10,32 @@ returns : tie.Need-returns
 returns c =
     first-refused _ _ _ _ _ (c .before .before .look-over .ensures) (c .before .is-refused .ensures) (c .if1 .taken)
 
-sub-if2 : tie.Need-sub-if2
-sub-if2 c =
-    let short = short-enough _ _ _ (c .before .before .look-over .ensures) (c .before .is-refused .ensures) (c .if1 .left) in
-    omega (arith, short)
-
-add-size : tie.Need-add-size
-add-size c =
-    let x = c .before in
-    let short = short-enough _ _ _ (x .before .before .look-over .ensures) (x .before .is-refused .ensures) (x .if1 .left) in
-    omega (arith, short)
+room-behind-requires : tie.Need-room-behind-requires
+room-behind-requires c κs = short-enough _ _ _ (c .before .before .look-over .ensures) (c .before .is-refused .ensures) (c .if1 .left)
 
 returns-2 : tie.Need-returns-2
 returns-2 c =
-    let x = c .before in
-    too-long _ _ _ _ _ (x .before .before .look-over .ensures) (x .before .is-refused .ensures) (x .if1 .left) (c .if2 .taken)
+    let x = c .before .before in
+    too-long _ _ _ _ _ (x .before .before .look-over .ensures) (x .before .is-refused .ensures) (x .if1 .left) (omega arith)
 
 returns-3 : tie.Need-returns-3
 returns-3 c =
     let h = c .before .before in
     let y = h .before in
-    let x = y .before in
+    let x = y .before .before in
     book-is-full _ _ _ _ _ (x .before .before .look-over .ensures) (x .before .is-refused .ensures) (x .if1 .left)
-    _ (h .read .ensures) (y .if2 .left) (omega arith)
+    _ (h .read .ensures) (omega arith) (omega arith)
 
 form-requires : tie.Need-form-requires
 form-requires c κs =
-    let x = c .before .before .before .before .before in
-    let short = short-enough _ _ _ (x .before .before .look-over .ensures) (x .before .is-refused .ensures) (x .if1 .left) in
-    (long-enough _ _ _ (x .before .before .look-over .ensures) (x .before .is-refused .ensures) (x .if1 .left), omega (arith, short))
-
-slice-reshare-prefix-last-record : tie.Need-slice-reshare-prefix-last-record
-slice-reshare-prefix-last-record c =
-    let x = c .before .before .before .before .before .before .before .before in
-    let short = short-enough _ _ _ (x .before .before .look-over .ensures) (x .before .is-refused .ensures) (x .if1 .left) in
-    omega (arith, short)
+    let x = c .before .before .before .before .before .before in
+    (long-enough _ _ _ (x .before .before .look-over .ensures) (x .before .is-refused .ensures) (x .if1 .left), omega arith)
 
 slice-aggregate-last-record : tie.Need-slice-aggregate-last-record
-slice-aggregate-last-record c =
-    let x = c .before .before .before .before .before .before .before .before .before in
-    let short = short-enough _ _ _ (x .before .before .look-over .ensures) (x .before .is-refused .ensures) (x .if1 .left) in
-    simp length-take (omega (arith, short))
+slice-aggregate-last-record c = simp length-take (omega arith)
 
 last-record-requires : tie.Need-last-record-requires
-last-record-requires c κs =
-    let x = c .before .before .before .before .before .before .before .before .before in
-    let short = short-enough _ _ _ (x .before .before .look-over .ensures) (x .before .is-refused .ensures) (x .if1 .left) in
-    (simp length-take (omega (arith, short)), omega (arith, short))
+last-record-requires c κs = (simp length-take (omega arith), omega arith)
 
 returns-4 : tie.Need-returns-4
 returns-4 c =
@@ -66,9 +45,9 @@ returns-4 c =
     let z = f .before .before in
     let h = z .before .before in
     let y = h .before in
-    let x = y .before in
+    let x = y .before .before in
     new-refused _ _ _ _ _ (x .before .before .look-over .ensures) (x .before .is-refused .ensures) (x .if1 .left)
-    _ (h .read .ensures) (y .if2 .left) (z .if3 .left) _ _ (f .form .ensures) _ _ (m .last-record .ensures) (j .is-refused2 .ensures) (c .if4 .taken)
+    _ (h .read .ensures) (omega arith) (z .if3 .left) _ _ (f .form .ensures) _ _ (m .last-record .ensures) (j .is-refused2 .ensures) (c .if4 .taken)
 
 returns-5 : tie.Need-returns-5
 returns-5 c =
@@ -79,21 +58,14 @@ returns-5 c =
     let z = f .before .before in
     let h = z .before .before in
     let y = h .before in
-    let x = y .before in
+    let x = y .before .before in
     no-room _ _ _ _ _ (x .before .before .look-over .ensures) (x .before .is-refused .ensures) (x .if1 .left)
-    _ (h .read .ensures) (y .if2 .left) (z .if3 .left) _ _ (f .form .ensures) _ _ (m .last-record .ensures) (j .is-refused2 .ensures) (k .if4 .left) (c .if5 .taken)
-
-slice-reshare-prefix-write-bytes : tie.Need-slice-reshare-prefix-write-bytes
-slice-reshare-prefix-write-bytes c =
-    let x = c .before .before .before .before .before .before .before .before .before .before .before .before .before .before in
-    let short = short-enough _ _ _ (x .before .before .look-over .ensures) (x .before .is-refused .ensures) (x .if1 .left) in
-    omega (arith, short)
+    _ (h .read .ensures) (omega arith) (z .if3 .left) _ _ (f .form .ensures) _ _ (m .last-record .ensures) (j .is-refused2 .ensures) (k .if4 .left) (c .if5 .taken)
 
 slice-aggregate-write-bytes : tie.Need-slice-aggregate-write-bytes
 slice-aggregate-write-bytes c =
-    let x = c .before .before .before .before .before .before .before .before .before .before .before .before .before .before .before in
-    let short = short-enough _ _ _ (x .before .before .look-over .ensures) (x .before .is-refused .ensures) (x .if1 .left) in
-    simp length-take (omega (arith, short))
+    let y = c .before .before .before .before .before .before .before .before .before .before .before .before .before .before in
+    simp length-take (omega (arith, y .before .room-behind .ensures, y .if2 .left))
 
 write-bytes-requires : tie.Need-write-bytes-requires
 write-bytes-requires c κs = simp length-take (omega arith)
@@ -109,13 +81,13 @@ returns-6 c =
     let z = f .before .before in
     let h = z .before .before in
     let y = h .before in
-    let x = y .before in
+    let x = y .before .before in
     stored _ _ _ _ _ (x .before .before .look-over .ensures) (x .before .is-refused .ensures) (x .if1 .left)
-    _ (h .read .ensures) (y .if2 .left) (z .if3 .left) _ _ (f .form .ensures) _ _ (m .last-record .ensures) (j .is-refused2 .ensures) (k .if4 .left) _ (q .if5 .left) (o .write-bytes .ensures)
+    _ (h .read .ensures) (omega arith) (z .if3 .left) _ _ (f .form .ensures) _ _ (m .last-record .ensures) (j .is-refused2 .ensures) (k .if4 .left) _ (q .if5 .left) (o .write-bytes .ensures)
 
 pub add-by-spec : {M : Type 1} → statement M
 add-by-spec =
     tie.close
-    (tie.spec (λ c κs. search needs) (λ c κs. search needs) returns sub-if2 returns-2 add-size (λ c κs. search needs) returns-3 form-requires
-    slice-reshare-prefix-last-record slice-aggregate-last-record last-record-requires (λ c κs. search needs) (λ c. search needs) returns-4 (λ c. search needs) returns-5
-    slice-reshare-prefix-write-bytes slice-aggregate-write-bytes write-bytes-requires (λ c. search needs) (λ c. search needs) returns-6)
+    (tie.spec (λ c κs. search needs) (λ c κs. search needs) returns room-behind-requires returns-2 (λ c. search needs) (λ c κs. search needs) returns-3 form-requires
+    (λ c. search needs) slice-aggregate-last-record last-record-requires (λ c κs. search needs) (λ c. search needs) returns-4 (λ c. search needs) returns-5
+    (λ c. search needs) slice-aggregate-write-bytes write-bytes-requires (λ c. search needs) (λ c. search needs) returns-6)
