@@ -7,6 +7,7 @@ mod add;
 mod answer;
 mod check;
 mod form;
+mod implementation;
 mod learn;
 mod limits;
 mod mask;
@@ -18,7 +19,9 @@ use std::sync::OnceLock;
 use std::thread;
 use std::time::Duration;
 
-use runner::calls::Calls;
+use implementation::Second;
+// Under the name that the implementation has for it.
+use runner::calls;
 use runner::vectors::file::{parse, run, Vector};
 
 /// For all vectors together; a right checker takes a hundredth of it.
@@ -27,26 +30,6 @@ const LIMIT: Duration = Duration::from_secs(10);
 /// The vectors, and the one that is being run.
 static VECTORS: OnceLock<Vec<Vector>> = OnceLock::new();
 static AT: AtomicUsize = AtomicUsize::new(0);
-
-struct Checker;
-
-impl Calls for Checker {
-    fn look_over(&self, book: &[u8]) -> u64 {
-        form::look_over(book).packed()
-    }
-
-    fn learn(&self, book: &[u8], sheet: &mut [u8]) -> u64 {
-        learn::learn(book, sheet).packed()
-    }
-
-    fn check(&self, book: &[u8], order: &[u8], end: &mut [u8]) -> u64 {
-        check::check(book, order, end).packed()
-    }
-
-    fn add(&self, book: &[u8], record: &[u8], out: &mut [u8]) -> u64 {
-        add::add(book, record, out).packed()
-    }
-}
 
 fn main() -> ExitCode {
     let file = std::env::args().nth(1).unwrap_or_default();
@@ -65,7 +48,7 @@ fn main() -> ExitCode {
     });
     for (index, vector) in vectors.iter().enumerate() {
         AT.store(index, Ordering::Relaxed);
-        if !run(std::slice::from_ref(vector), &Checker).1.is_empty() {
+        if !run(std::slice::from_ref(vector), &Second).1.is_empty() {
             failed("");
         }
     }

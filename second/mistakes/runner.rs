@@ -1,14 +1,8 @@
 //! The root of a library with the reader and the runner of vectors, built once
-//! from the sources as they are. The calls that `calls` also names come with it.
+//! from the sources as they are. It has no checker.
 
-mod add;
 mod answer;
 pub mod calls;
-mod check;
-mod form;
-mod learn;
-mod limits;
-mod mask;
 
 pub mod vectors {
     pub mod file;

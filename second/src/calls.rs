@@ -2,7 +2,6 @@
 //! place packed into one answer.
 
 use crate::answer::Answer;
-use crate::{add, check, form, learn};
 
 pub trait Calls {
     fn look_over(&self, book: &[u8]) -> u64;
@@ -59,25 +58,4 @@ impl Job {
 #[must_use]
 pub const fn unpacked(packed: u64) -> Answer {
     Answer { number: (packed >> 48) as u32, place: packed as u32 }
-}
-
-/// This implementation.
-pub struct Second;
-
-impl Calls for Second {
-    fn look_over(&self, book: &[u8]) -> u64 {
-        form::look_over(book).packed()
-    }
-
-    fn learn(&self, book: &[u8], sheet: &mut [u8]) -> u64 {
-        learn::learn(book, sheet).packed()
-    }
-
-    fn check(&self, book: &[u8], order: &[u8], end: &mut [u8]) -> u64 {
-        check::check(book, order, end).packed()
-    }
-
-    fn add(&self, book: &[u8], record: &[u8], out: &mut [u8]) -> u64 {
-        add::add(book, record, out).packed()
-    }
 }

@@ -11,6 +11,7 @@ pub mod check;
 pub mod compare;
 pub mod form;
 pub mod gen;
+mod implementation;
 pub mod judge;
 pub mod learn;
 pub mod limits;
@@ -19,3 +20,4 @@ pub mod mask;
 pub mod vectors;
 
 pub use answer::{Answer, Refusal};
+pub use implementation::Second;

@@ -1,9 +1,9 @@
 //! The comparison itself: it passes this implementation, meets every refusal
 //! and every aimed fault often, and finds implementations that are wrong.
 
-use second::calls::{Calls, Job, Second};
+use second::calls::{Calls, Job};
 use second::compare::{self, Capped, Difference, Run, Tally};
-use second::{add, check, form, learn, Answer, Refusal};
+use second::{add, check, form, learn, Answer, Refusal, Second};
 
 const RUN: Run = Run { seed: 7, count: 20_000 };
 

@@ -1,11 +1,11 @@
 //! Demand 3 on tiny halls and on those in which over 256 facts hold: learning
 //! and checking give the judge's verdict.
 
-use second::calls::{unpacked, Calls, Second};
+use second::calls::{unpacked, Calls};
 use second::compare::{judge, judge_crowded, Capped, Run};
 use second::gen::{fullbook, tiny, BookDraft, OrderDraft, RecordDraft, Rng};
 use second::judge::{self, verdict, Verdict};
-use second::{check, Answer, Refusal};
+use second::{check, Answer, Refusal, Second};
 
 #[test]
 fn learn_and_check_give_the_judges_verdict() {

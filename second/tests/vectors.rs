@@ -9,9 +9,9 @@ use std::sync::LazyLock;
 #[path = "../mistakes/list.rs"]
 mod list;
 
-use second::calls::{unpacked, Calls, Job, Second};
+use second::calls::{unpacked, Calls, Job};
 use second::vectors::{all, missing, parse, print, run, Vector};
-use second::{Answer, Refusal};
+use second::{Answer, Refusal, Second};
 
 static ALL: LazyLock<Vec<Vector>> = LazyLock::new(all);
 

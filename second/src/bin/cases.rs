@@ -10,8 +10,9 @@
 use std::io::{self, BufWriter, Write};
 use std::process::ExitCode;
 
-use second::calls::{unpacked, Job, Second};
+use second::calls::{unpacked, Job};
 use second::gen::stream::JobStream;
+use second::Second;
 
 fn main() -> ExitCode {
     let mut arguments = std::env::args().skip(1).map(|argument| argument.parse::<u64>());

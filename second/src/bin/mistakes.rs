@@ -19,10 +19,18 @@ mod list;
 use list::{Edit, Mistake};
 
 /// A checker, as files and folders of `src`.
-const CHECKER: [&str; 7] =
-    ["add.rs", "answer.rs", "check.rs", "form", "learn.rs", "limits.rs", "mask.rs"];
-/// What the runner of vectors has besides.
-const RUNNER: [&str; 2] = ["calls.rs", "vectors/file"];
+const CHECKER: [&str; 8] = [
+    "add.rs",
+    "answer.rs",
+    "check.rs",
+    "form",
+    "implementation.rs",
+    "learn.rs",
+    "limits.rs",
+    "mask.rs",
+];
+/// The runner of vectors.
+const RUNNER: [&str; 3] = ["answer.rs", "calls.rs", "vectors/file"];
 
 /// A checker is built without optimising, since building takes longest, and
 /// with the arithmetic of a released program, which does not look for overflow.
@@ -145,8 +153,7 @@ fn run_with(folder: &Path, edits: &[Edit], runner: &Path) -> Result<Run, String>
 
 /// The library with the runner of vectors.
 fn build_runner(folder: &Path) -> Result<PathBuf, String> {
-    let sources = [&CHECKER[..], &RUNNER].concat();
-    copy_sources(folder, &sources, "runner.rs").map_err(|error| error.to_string())?;
+    copy_sources(folder, &RUNNER, "runner.rs").map_err(|error| error.to_string())?;
     let library = folder.join("librunner.rlib");
     build(rustc(&BUILD_RUNNER).arg("-o").arg(&library).arg(folder.join("runner.rs")))?;
     Ok(library)

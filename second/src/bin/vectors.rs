@@ -50,7 +50,7 @@ fn run(file: &str) -> ExitCode {
         println!("{who}: {} vectors, {runs} calls, {} failed", read.len(), failures.len());
         good &= failures.is_empty();
     };
-    report("second", vectors::run(&read, &second::calls::Second));
+    report("second", vectors::run(&read, &second::Second));
     report("library", vectors::run(&read, &library::Library::default()));
     if good {
         ExitCode::SUCCESS

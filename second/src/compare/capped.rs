@@ -5,9 +5,10 @@
 
 use super::judge::sheet_of;
 use crate::answer::{Answer, Refusal};
-use crate::calls::{unpacked, Calls, Second};
+use crate::calls::{unpacked, Calls};
 use crate::gen::Fact;
 use crate::limits::{FACT_LIMIT, RULES_LENGTH, SET_LENGTH};
+use crate::Second;
 
 pub struct Capped;
 

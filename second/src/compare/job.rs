@@ -3,8 +3,9 @@
 use super::lent::Lent;
 use super::report::{compare_all, Compared};
 use super::{Difference, Run, Tally};
-use crate::calls::{unpacked, Job, Second};
+use crate::calls::{unpacked, Job};
 use crate::gen::stream::JobStream;
+use crate::Second;
 
 /// Runs `other` on generated cases: it is given the book, the order or record,
 /// and the output, and returns the packed answer.

@@ -243,26 +243,23 @@ impl HiddenAtom {
 /// Kinds, relations and moves, and no record.
 pub fn draw_front(shape: &Shape, rng: &mut Rng) -> BookDraft {
     let kinds = rng.count(shape.kinds);
-    let kind = |rng: &mut Rng| rng.range(1, kinds) as u8;
-    let places = |rng: &mut Rng, limit| if kinds == 0 { 0 } else { rng.range(0, limit) };
     let mut book = BookDraft { kinds, ..BookDraft::default() };
     for _ in 0..rng.count(shape.relations) {
-        let mut entry = [0; 4];
-        entry[0] = places(rng, 2) as u8;
-        for place in 1..=usize::from(entry[0]) {
-            entry[place] = kind(rng);
-        }
-        book.relations.push(entry);
+        book.relations.push(draw_entry(kinds, rng));
     }
     for _ in 0..rng.count(shape.moves) {
-        let mut entry = [0; 6];
-        entry[0] = places(rng, 4) as u8;
-        for parameter in 1..=usize::from(entry[0]) {
-            entry[parameter] = kind(rng);
-        }
-        book.moves.push(entry);
+        book.moves.push(draw_entry(kinds, rng));
     }
     book
+}
+
+/// A relation or a move: a count, kinds, zeros. The count leaves the last byte 0.
+fn draw_entry<const N: usize>(kinds: usize, rng: &mut Rng) -> [u8; N] {
+    let mut entry = [0; N];
+    let count = if kinds == 0 { 0 } else { rng.range(0, N - 2) };
+    entry[0] = count as u8;
+    entry[1..=count].fill_with(|| rng.range(1, kinds) as u8);
+    entry
 }
 
 fn hidden_atoms(
