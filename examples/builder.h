@@ -3,7 +3,8 @@
  * the caller lends. Counts, offsets and lengths are set here, and facts may be
  * given in any order. After builder_begin the parts come in the order of their
  * bytes:
- *   book    book_begin, relations, moves, records, book_end
+ *   book    book_begin, book_parents if kinds have any, relations, moves, records,
+ *           book_end
  *   record  record_begin, a state, then a step and a state in turn, record_end
  *   order   order_begin, order_start, order_goal, steps, order_end
  * A record is made in a book, or alone for changeover_add.
@@ -34,7 +35,7 @@ struct builder {
     uint8_t *out;
     size_t capacity, length;
     int overflow; /* the capacity was reached, or a count was too great for its bytes */
-    size_t kinds, relations, moves, records; /* counts of a book */
+    size_t kinds, parents, relations, moves, records; /* counts of a book */
     size_t objects, start, goal, steps;      /* of an order; objects and steps also of a record */
     size_t record;                           /* where the record begins */
 };
@@ -139,6 +140,13 @@ static inline void book_begin(struct builder *b, size_t kinds)
     b->kinds = kinds;
 }
 
+/* The parent of each kind that book_begin was told of: a smaller kind, or 0 for none. */
+static inline void book_parents(struct builder *b, const uint8_t *parents)
+{
+    builder_put(b, parents, b->kinds);
+    b->parents = b->kinds;
+}
+
 /* Kinds are 0 where unused. */
 static inline void book_relation(struct builder *b, const uint8_t kinds[2])
 {
@@ -155,10 +163,11 @@ static inline void book_move(struct builder *b, const uint8_t kinds[4])
 /* The length of the book, 0 if it did not fit. */
 static inline size_t book_end(struct builder *b)
 {
-    size_t moves_at = 16 + 4 * b->relations;
+    size_t relations_at = 16 + b->parents;
+    size_t moves_at = relations_at + 4 * b->relations;
     size_t records_at = moves_at + 6 * b->moves;
-    const size_t header[8] = {b->kinds, b->relations, b->moves,   b->records,
-                              16,       moves_at,     records_at, b->length};
+    const size_t header[8] = {b->kinds,     b->relations, b->moves,   b->records,
+                              relations_at, moves_at,     records_at, b->length};
 
     return builder_end(b, header);
 }

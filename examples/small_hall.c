@@ -62,7 +62,11 @@ static void print_rule(const uint8_t *sheet, unsigned move, unsigned relation, u
            "KAR"[in[CHANGEOVER_ADDED] + 2 * in[CHANGEOVER_REMOVED]]);
 }
 
-/* One line for each bound fact of a move, in the order of the sheet. */
+/*
+ * One line for each bound fact of a move, in the order of the sheet. The book has
+ * no parents: relations are at 16, and kinds suit if they are equal. two_banks.c
+ * has a book with parents.
+ */
 static void print_rules(const uint8_t *book, const uint8_t *sheet, unsigned number)
 {
     const uint8_t *move = book + 16 + 4 * book[3] + 6 * (number - 1);

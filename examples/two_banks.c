@@ -11,7 +11,7 @@
 #include <stdio.h>
 #include <string.h>
 
-/* A book, a record or an order; the longest here has 330 bytes. */
+/* A book, a record or an order; the longest here has 334 bytes. */
 struct bytes {
     uint8_t at[400];
     size_t len;
@@ -24,6 +24,7 @@ static void make_book(struct bytes *book, size_t count)
 
     builder_begin(&b, book->at, sizeof book->at);
     book_begin(&b, KINDS);
+    book_parents(&b, parents);
     for (size_t i = 0; i < COUNT(relations); i++)
         book_relation(&b, relations[i].kinds);
     for (size_t i = 0; i < COUNT(moves); i++)
@@ -33,10 +34,13 @@ static void make_book(struct bytes *book, size_t count)
     book->len = book_end(&b);
 }
 
-/* The hall of all orders: its objects, what they are called, and the facts at the start. */
-static const uint8_t hall[] = {BANK, BANK, SPOT, SPOT, SPOT, LIFT};
-static const char *const hall_words[] = {"bank 1", "bank 2", "spot 3",
-                                         "spot 4", "spot 5", "lift 6"};
+/*
+ * The hall of all orders: its objects, what they are called, and the facts at the
+ * start. No record has a wagon, but it is a bank.
+ */
+static const uint8_t hall[] = {BANK, WAGON, SPOT, SPOT, SPOT, LIFT};
+static const char *const hall_words[] = {"bank 1", "wagon 2", "spot 3",
+                                         "spot 4", "spot 5",  "lift 6"};
 static const struct fact start[] = {{UNDER, 6, 5}, {CLEAR, 5, 0}, {AT, 2, 4}, {AT, 1, 3}};
 
 struct step {
@@ -66,10 +70,16 @@ static void make_order(struct bytes *order, const struct plan *plan)
     order->len = order_end(&b);
 }
 
-/* Whether a number (0: none) may stand in a place of this kind (0: unused). */
-static int suits(const uint8_t *kinds, unsigned number, uint8_t kind)
+/* Whether a number (0: none) may stand in a place of the kind named (0: unused). */
+static int suits(const uint8_t *kinds, unsigned number, uint8_t named)
 {
-    return number == 0 ? kind == 0 : kind != 0 && kinds[number - 1] == kind;
+    uint8_t kind;
+
+    if (number == 0 || named == 0)
+        return number == 0 && named == 0;
+    for (kind = kinds[number - 1]; kind != 0 && kind != named; kind = parents[kind - 1])
+        ;
+    return kind == named;
 }
 
 enum { FACTS_MAX = RELATIONS * 36 }; /* two places, and no more than 6 objects */
@@ -320,7 +330,7 @@ static const struct step swap_steps[] = {{ROLL, {1, 3, 5, 0}},
                                          {ROLL, {2, 4, 3, 0}},
                                          {ROLL, {1, 5, 4, 0}},
                                          {TURN, {2, 3, 0, 0}}};
-static const struct plan swap = {"swap the banks, turn bank 2", swapped, 4, swap_steps, 4};
+static const struct plan swap = {"swap bank and wagon, turn the wagon", swapped, 4, swap_steps, 4};
 static const struct plan no_turn = {"the same goal, but no turn", swapped, 4, swap_steps, 3};
 
 static const struct goal_entry at_5[] = {{1, {AT, 1, 5}}};

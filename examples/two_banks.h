@@ -11,9 +11,12 @@
 #define COUNT(array) (sizeof(array) / sizeof *(array))
 
 /* The numbers of the book. They count from 1. */
-enum { BANK = 1, SPOT, LIFT, KINDS = LIFT };
+enum { BANK = 1, SPOT, LIFT, WAGON, KINDS = WAGON };
 enum { AT = 1, CLEAR, TURNED, UNDER, RAISED, RELATIONS = RAISED };
 enum { ROLL = 1, TURN, TURN_BACK, RAISE, LOWER, MOVES = LOWER };
+
+/* A wagon is a bank: what is asked of a bank a wagon does too, and what banks taught holds for it. */
+static const uint8_t parents[KINDS] = {0, 0, 0, BANK};
 
 struct relation {
     const char *word;

@@ -24,23 +24,26 @@
  *
  * Words. A fact is a relation with an object in each of its places; a state is
  * the set of facts that hold. A step is a move with an object for each of its
- * parameters. A bound fact of a move is a relation with one of the move's
- * parameters in each place, of the place's kind; the step's objects, put in for
- * the parameters, make a fact of it. A fact or a step is right if there is such
- * a relation or move, each place or parameter has an object that there is, of
- * the kind that it asks for, the bytes of unused ones are 0, and no object of a
- * step stands twice; else it is wrong. MEANING.md says all of this at length,
- * FORMAT.md has the bytes of books, orders and sheets; they are in
- * share/doc/changeover, in the sources in docs.
+ * parameters. A kind may have a parent, a kind of a smaller number: a wagon is
+ * a bank. A kind suits where that kind is asked for, or one above it: its
+ * parent, its parent's parent, and so on. A bound fact of a move is a relation
+ * with one of the move's parameters in each place, whose own kind suits the
+ * place; the step's objects, put in for the parameters, make a fact of it. A
+ * fact or a step is right if there is such a relation or move, each place or
+ * parameter has an object that there is, of a kind that suits, the bytes of
+ * unused ones are 0, and no object of a step stands twice; else it is wrong.
+ * MEANING.md says all of this at length, FORMAT.md has the bytes of books,
+ * orders and sheets; they are in share/doc/changeover, in the sources in docs.
  *
  * The answer packs three numbers:
  *   bits 48 to 63   number: 0 success, else the refusal below
  *   bits 32 to 47   0; kept for a later version
  *   bits  0 to 31   place
  * A refusal leaves all lent memory as it was. The rows are tested in the order
- * of the table, each thing of a row in file order; but 6 to 10 as they come up
- * in the records: a record's head, objects, state, step, state and so on, its
- * tail, then the next record. The answer is the first that is met.
+ * of the table, in which 21 stands after 3, each thing of a row in file order;
+ * "rows 1 to 10" are those from 1 to 10 in it. But 6 to 10 as they come up in
+ * the records: a record's head, objects, state, step (9, then 10), state and so
+ * on, its tail, then the next record. The answer is the first that is met.
  *
  *   No.  met when                                          place
  *    0   success                                           see each call
@@ -48,6 +51,7 @@
  *    2   book header: a count over its limit               0
  *    3   book header: an offset or the end wrong, or       0
  *        records past the end
+ *   21   kind: its parent is no smaller number (0: none)   the parent's offset
  *    4   relation: count, kind or unused byte wrong        its offset
  *    5   move: likewise                                    its offset
  *    6   record head cut, over a limit, length under 4 or  the record's offset
@@ -87,15 +91,16 @@
 /*
  * The version of this interface. Another patch changes nothing that a caller
  * sees but faults mended. Another minor version adds: calls, functions, numbers
- * of refusals, and forms of books that were refused before; what was not refused
- * has the same answer. Another major version may change the parameters of a
- * call, the bytes of books, orders and sheets and what the bits of an answer
- * mean; the shared library's soname has its number.
+ * of refusals, and forms of books that were refused before; what was not
+ * refused has the same answer, what was refused may have another number.
+ * Another major version may change the parameters of a call, the bytes of
+ * books, orders and sheets and what the bits of an answer mean; the shared
+ * library's soname has its number.
  */
 #define CHANGEOVER_VERSION_MAJOR 1
-#define CHANGEOVER_VERSION_MINOR 0
+#define CHANGEOVER_VERSION_MINOR 1
 #define CHANGEOVER_VERSION_PATCH 0
-#define CHANGEOVER_VERSION_STRING "1.0.0"
+#define CHANGEOVER_VERSION_STRING "1.1.0"
 /* One number that grows with the version, for #if. */
 #define CHANGEOVER_VERSION                                                    \
     (CHANGEOVER_VERSION_MAJOR * 1000000 + CHANGEOVER_VERSION_MINOR * 1000 +   \
@@ -135,7 +140,8 @@ enum changeover_numbers {
     CHANGEOVER_GOAL_ENTRY = 17,
     CHANGEOVER_PLAN_STEP = 18,
     CHANGEOVER_NEED_UNMET = 19,
-    CHANGEOVER_GOAL_MISSED = 20
+    CHANGEOVER_GOAL_MISSED = 20,
+    CHANGEOVER_PARENT = 21
 };
 
 /* Lengths in bytes, and the limit of moves. */
@@ -161,13 +167,13 @@ enum changeover_set {
 };
 
 /*
- * Looks a book over: rows 1 to 10. Writes nothing.
+ * Looks a book over: rows 1 to 10, with 21. Writes nothing.
  * Success: the place is the count of all steps in the book's records.
  */
 uint64_t changeover_look_over(const uint8_t *book, size_t book_len);
 
 /*
- * Learns the rule sheet of a book: rows 1 to 13. The sheet must be exactly 128
+ * Learns the rule sheet of a book: rows 1 to 13, with 21. The sheet must be exactly 128
  * bytes for each move of the book, else 13; changeover_sheet_len tells how
  * many that is. On success every byte of the sheet is written, and the place
  * is the count of all steps in the book's records.
@@ -175,7 +181,7 @@ uint64_t changeover_look_over(const uint8_t *book, size_t book_len);
 uint64_t changeover_learn(const uint8_t *book, size_t book_len, uint8_t *sheet, size_t sheet_len);
 
 /*
- * Checks the plan of an order by what the book's records show: rows 1 to 20.
+ * Checks the plan of an order by what the book's records show: all rows.
  * The book is learned anew; no rule sheet is asked for. The end sheet must be
  * exactly 512 bytes, else 13. On success (the plan passes) every byte of the
  * end sheet is written, its bits being the facts that hold after the last
@@ -185,7 +191,7 @@ uint64_t changeover_check(const uint8_t *book, size_t book_len, const uint8_t *o
                           size_t order_len, uint8_t *end, size_t end_len);
 
 /*
- * Adds a record to a book: the old book is looked over (rows 1 to 10), then
+ * Adds a record to a book: the old book is looked over (rows 1 to 10, with 21), then
  * the old book with the record's bytes behind it, record count and end
  * renewed; the places of the second looking over are in the new book. A new
  * length over 60,000 is 1, a 65th record 2. Then 13 if the output is shorter
@@ -259,6 +265,8 @@ static inline const char *changeover_words(enum changeover_numbers number)
         return "a learned need is unmet in the plan";
     case CHANGEOVER_GOAL_MISSED:
         return "a goal entry is false at the end";
+    case CHANGEOVER_PARENT:
+        return "a kind's parent is not smaller than the kind";
     }
     return "no such number";
 }

@@ -7,7 +7,7 @@ pub struct Answer {
     pub place: u32,
 }
 
-/// The rows of the paper's table, by number.
+/// The rows of the paper's table, by number. 21 stands between 3 and 4.
 #[derive(Clone, Copy, Debug, PartialEq, Eq, PartialOrd, Ord, Hash)]
 #[repr(u32)]
 pub enum Refusal {
@@ -31,6 +31,7 @@ pub enum Refusal {
     PlanStep = 18,
     NeedUnmet = 19,
     GoalMissed = 20,
+    Parent = 21,
 }
 
 impl Refusal {

@@ -35,10 +35,10 @@ impl Job {
     /// The numbers that this call can answer with.
     pub fn numbers(self) -> Vec<u32> {
         match self {
-            Self::LookOver => (0..=10).collect(),
-            Self::Learn => (0..=13).collect(),
-            Self::Check => (0..=20).collect(),
-            Self::Add => (0..=10).chain([13]).collect(),
+            Self::LookOver => (0..=10).chain([21]).collect(),
+            Self::Learn => (0..=13).chain([21]).collect(),
+            Self::Check => (0..=21).collect(),
+            Self::Add => (0..=10).chain([13, 21]).collect(),
         }
     }
 

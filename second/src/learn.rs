@@ -1,16 +1,19 @@
 //! Learning the action model of a book: rows 11 and 12, and the rule sheet.
 //!
-//! The records are walked once. What is held of an action is six masks of
-//! lifted atoms, met or joined with those of each of its transitions.
+//! The records are walked once. What is held of an action is the mask of its
+//! lifted atoms, made before the first record, and six masks more, met or joined
+//! with those of each of its transitions.
 
 use crate::answer::{Answer, Refusal};
-use crate::form::{self, Front, Observer, Transition};
+use crate::form::{self, Front, Observer, Signature, Transition};
 use crate::limits::{FACT_LENGTH, MOVE_LIMIT, OBJECT_LIMIT, RULES_LENGTH, SET_LENGTH};
 use crate::mask::AtomMask;
 
-/// The learned preconditions and effects of one action.
+/// The lifted atoms of one action, and of these the learned preconditions and
+/// effects.
 #[derive(Clone, Copy, Debug, PartialEq, Eq)]
 pub struct Rules {
+    pub atoms: AtomMask,
     pub pre_pos: AtomMask,
     pub pre_neg: AtomMask,
     pub add: AtomMask,
@@ -24,28 +27,24 @@ pub struct ActionModel {
 }
 
 impl ActionModel {
-    /// Rows 1 to 12.
+    /// Rows 1 to 12 and 21.
     pub fn learn(book: &[u8]) -> Result<Self, Answer> {
         let mut trajectories = Trajectories::new();
         let front = form::walk(book, &mut trajectories)?;
         if let Some(step_at) = trajectories.unbound_change {
             return Err(Refusal::UnboundChange.at(step_at));
         }
-        let moves = &front.signature.moves;
-        let observed = &trajectories.observed[..moves.len()];
+        let observed = &trajectories.observed[..front.signature.moves.len()];
         if let Some(index) = observed.iter().position(Observed::conflict) {
             return Err(Refusal::EffectConflict.at(index + 1));
         }
-        let actions = moves
-            .iter()
-            .zip(observed)
-            .map(|(action, observed)| observed.rules(front.signature.atoms(action)))
-            .collect();
+        let actions = observed.iter().map(Observed::rules).collect();
         Ok(Self { front, actions })
     }
 }
 
-/// Rows 1 to 13; on success the sheet is written and the place is the step total.
+/// Rows 1 to 13 and 21; on success the sheet is written and the place is the
+/// step total.
 pub fn learn(book: &[u8], sheet: &mut [u8]) -> Answer {
     let model = match ActionModel::learn(book) {
         Ok(model) => model,
@@ -63,9 +62,11 @@ pub fn learn(book: &[u8], sheet: &mut [u8]) -> Answer {
     Answer::success(model.front.steps)
 }
 
-/// What the transitions of one action have shown of its atoms.
+/// What the transitions of one action have shown of its atoms. The masks of
+/// values say nothing of other atoms.
 #[derive(Clone, Copy)]
 struct Observed {
+    atoms: AtomMask,
     always_before: AtomMask,
     ever_before: AtomMask,
     always_after: AtomMask,
@@ -77,6 +78,7 @@ struct Observed {
 impl Observed {
     /// Of an action never recorded: every atom is needed both ways.
     const NOTHING: Self = Self {
+        atoms: AtomMask::EMPTY,
         always_before: AtomMask::FULL,
         ever_before: AtomMask::EMPTY,
         always_after: AtomMask::FULL,
@@ -102,10 +104,11 @@ impl Observed {
             || !self.deleted.and(self.ever_after).is_empty()
     }
 
-    fn rules(&self, atoms: AtomMask) -> Rules {
+    fn rules(&self) -> Rules {
         Rules {
-            pre_pos: atoms.and(self.always_before),
-            pre_neg: atoms.without(self.ever_before),
+            atoms: self.atoms,
+            pre_pos: self.atoms.and(self.always_before),
+            pre_neg: self.atoms.without(self.ever_before),
             add: self.added,
             delete: self.deleted,
         }
@@ -114,7 +117,7 @@ impl Observed {
 
 struct Trajectories {
     observed: [Observed; MOVE_LIMIT],
-    /// The first step that changed a fact its parameters do not name.
+    /// The first step that changed a fact which is none of its atoms.
     unbound_change: Option<usize>,
 }
 
@@ -125,19 +128,28 @@ impl Trajectories {
 }
 
 impl Observer for Trajectories {
+    fn begin(&mut self, signature: &Signature) {
+        for (observed, action) in self.observed.iter_mut().zip(&signature.moves) {
+            observed.atoms = signature.atoms(action);
+        }
+    }
+
     fn observe(&mut self, transition: &Transition<'_>) {
         // Row 11 stands before 12, so nothing after such a step matters.
         if self.unbound_change.is_some() {
             return;
         }
+        let observed = &mut self.observed[usize::from(transition.step[0]) - 1];
         match Change::of(transition) {
-            Some(change) => self.observed[usize::from(transition.step[0]) - 1].join(&change),
-            None => self.unbound_change = Some(transition.step_at),
+            Some(change) if change.is_of(observed.atoms) => observed.join(&change),
+            _ => self.unbound_change = Some(transition.step_at),
         }
     }
 }
 
-/// The atoms of one transition: held throughout, added and deleted.
+/// What one transition shows, by the numbers of atoms: held throughout, added
+/// and deleted. Not each of these need be an atom of the action: a parameter's
+/// object may be of a kind below the parameter's, and suit more places.
 struct Change {
     kept: AtomMask,
     added: AtomMask,
@@ -146,9 +158,11 @@ struct Change {
 
 impl Change {
     /// Merges the facts before and after, which are in the same order; `None`
-    /// if a fact that is no lifted atom of the step has changed.
+    /// if a fact has changed whose objects are not all the step's.
     fn of(transition: &Transition<'_>) -> Option<Self> {
-        let parameters = Parameters::of(transition.step);
+        // Filled in place: copying what was just written in small parts stalls.
+        let mut parameters = Parameters::NONE;
+        parameters.bind(transition.step);
         let mut change =
             Self { kept: AtomMask::EMPTY, added: AtomMask::EMPTY, deleted: AtomMask::EMPTY };
         let (before, _) = transition.before.as_chunks::<FACT_LENGTH>();
@@ -178,6 +192,11 @@ impl Change {
         }
         Some(change)
     }
+
+    /// Whether all that changed is of these atoms.
+    fn is_of(&self, atoms: AtomMask) -> bool {
+        self.added.or(self.deleted).without(atoms).is_empty()
+    }
 }
 
 /// The way back from objects to parameters of one step. The binding is
@@ -192,14 +211,14 @@ struct Parameters {
 const UNBOUND: u16 = 256;
 
 impl Parameters {
-    fn of(step: &[u8]) -> Self {
-        let mut shares = [UNBOUND; OBJECT_LIMIT + 1];
+    const NONE: Self = Self { shares: [UNBOUND; OBJECT_LIMIT + 1] };
+
+    fn bind(&mut self, step: &[u8]) {
         for (parameter, &object) in (0..).zip(&step[1..]) {
-            shares[usize::from(object)] = parameter;
+            self.shares[usize::from(object)] = parameter;
         }
         // After the loop, in which an unused parameter has object 0.
-        shares[0] = 0;
-        Self { shares }
+        self.shares[0] = 0;
     }
 
     #[inline]

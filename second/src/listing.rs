@@ -18,11 +18,10 @@ pub fn rules(book: &[u8]) -> String {
         Err(refusal) => return refused(refusal),
     };
     let front = &model.front;
-    let moves = &front.signature.moves;
-    let mut text =
-        format!("moves {} records {} steps {}\n", moves.len(), front.header.records, front.steps);
-    for (number, (action, rules)) in (1..).zip(moves.iter().zip(&model.actions)) {
-        for atom in front.signature.atoms(action).atoms() {
+    let (moves, records) = (model.actions.len(), front.header.records);
+    let mut text = format!("moves {moves} records {records} steps {}\n", front.steps);
+    for (number, rules) in (1..).zip(&model.actions) {
+        for atom in rules.atoms.atoms() {
             let (relation, first, second) = (atom / 16, atom / 4 % 4 + 1, atom % 4 + 1);
             let places = front.signature.relations[relation].places;
             let first = if places > 0 { first } else { 0 };

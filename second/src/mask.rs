@@ -1,27 +1,49 @@
 //! Sets of lifted atoms and of facts, as the bits of the paper's sheets.
 
-use crate::limits::{END_SHEET_LENGTH, SET_LENGTH};
+use crate::limits::{END_SHEET_LENGTH, OBJECT_LIMIT, PARAMETER_LIMIT, RELATION_LIMIT, SET_LENGTH};
 
-const ATOM_WORDS: usize = SET_LENGTH / 8;
-const FACT_WORDS: usize = END_SHEET_LENGTH / 8;
+/// The facts that a state has for one relation and one first object, as bits.
+pub type Row = u16;
 
-/// A set of lifted atoms. Atom n is bit n mod 64 of word n div 64, which in
+/// A set of lifted atoms: for each relation 16 bits, four for each parameter in
+/// the first place. Atom n is bit n mod 16 of word n div 16, which in
 /// little-endian bytes is the sheet's bit n mod 8 of byte n div 8.
 #[derive(Clone, Copy, Debug, PartialEq, Eq)]
-pub struct AtomMask([u64; ATOM_WORDS]);
+pub struct AtomMask([u16; RELATION_LIMIT]);
 
 impl AtomMask {
-    pub const EMPTY: Self = Self([0; ATOM_WORDS]);
-    pub const FULL: Self = Self([u64::MAX; ATOM_WORDS]);
+    pub const EMPTY: Self = Self([0; RELATION_LIMIT]);
+    pub const FULL: Self = Self([u16::MAX; RELATION_LIMIT]);
 
     #[inline]
     pub fn insert(&mut self, atom: usize) {
-        self.0[atom / 64] |= 1 << (atom % 64);
+        self.0[atom / 16] |= 1 << (atom % 16);
+    }
+
+    /// All atoms of a relation, from 0, with parameters of the two sets.
+    pub fn insert_pairs(&mut self, relation: usize, first: u32, second: u32) {
+        // The four bits of `first`, four apart; each then carries `second`.
+        let apart = (first | first << 3 | first << 6 | first << 9) & 0x1111;
+        self.0[relation] |= (apart * second) as u16;
     }
 
     #[must_use]
     pub fn contains(&self, atom: usize) -> bool {
-        self.0[atom / 64] >> (atom % 64) & 1 == 1
+        self.0[atom / 16] >> (atom % 16) & 1 == 1
+    }
+
+    /// Whether there are atoms of this relation, from 0.
+    #[inline]
+    #[must_use]
+    pub fn has_relation(&self, relation: usize) -> bool {
+        self.0[relation] != 0
+    }
+
+    /// The second parameters of a relation's atoms with this first one, as bits.
+    #[inline]
+    #[must_use]
+    pub fn seconds(&self, relation: usize, first: usize) -> usize {
+        usize::from(self.0[relation] >> (PARAMETER_LIMIT * first)) % 16
     }
 
     #[inline]
@@ -49,7 +71,7 @@ impl AtomMask {
 
     /// The atoms in increasing order.
     pub fn atoms(self) -> impl Iterator<Item = usize> {
-        ones(self.0)
+        (0..16 * RELATION_LIMIT).filter(move |&atom| self.contains(atom))
     }
 
     #[must_use]
@@ -60,24 +82,38 @@ impl AtomMask {
     }
 }
 
-/// A set of facts over the objects of one hall, numbered as in the end sheet.
+/// A set of facts over the objects of one hall, numbered as in the end sheet:
+/// fact n is in row n div 16, which is that of its relation and first object.
 #[derive(Clone, Debug, PartialEq, Eq)]
-pub struct FactSet([u64; FACT_WORDS]);
+pub struct FactSet([Row; RELATION_LIMIT * OBJECT_LIMIT]);
 
 impl FactSet {
-    pub const EMPTY: Self = Self([0; FACT_WORDS]);
+    pub const EMPTY: Self = Self([0; RELATION_LIMIT * OBJECT_LIMIT]);
 
     pub fn insert(&mut self, fact: usize) {
-        self.0[fact / 64] |= 1 << (fact % 64);
+        self.insert_all(fact / 16, 1 << (fact % 16));
     }
 
-    pub fn remove(&mut self, fact: usize) {
-        self.0[fact / 64] &= !(1 << (fact % 64));
+    #[inline]
+    pub fn insert_all(&mut self, row: usize, facts: Row) {
+        self.0[row] |= facts;
+    }
+
+    #[inline]
+    pub fn remove_all(&mut self, row: usize, facts: Row) {
+        self.0[row] &= !facts;
+    }
+
+    /// Those of a row's facts that hold.
+    #[inline]
+    #[must_use]
+    pub fn held(&self, row: usize, facts: Row) -> Row {
+        self.0[row] & facts
     }
 
     #[must_use]
     pub fn contains(&self, fact: usize) -> bool {
-        self.0[fact / 64] >> (fact % 64) & 1 == 1
+        self.0[fact / 16] >> (fact % 16) & 1 == 1
     }
 
     pub fn write(&self, sheet: &mut [u8; END_SHEET_LENGTH]) {
@@ -93,22 +129,8 @@ pub fn fact_number(relation: u8, first: u8, second: u8) -> usize {
     256 * from_zero(relation) + 16 * from_zero(first) + from_zero(second)
 }
 
-fn write_words(bytes: &mut [u8], words: &[u64]) {
-    for (part, word) in bytes.chunks_exact_mut(8).zip(words) {
+fn write_words(bytes: &mut [u8], words: &[u16]) {
+    for (part, word) in bytes.chunks_exact_mut(2).zip(words) {
         part.copy_from_slice(&word.to_le_bytes());
     }
-}
-
-fn ones<const N: usize>(words: [u64; N]) -> impl Iterator<Item = usize> {
-    words.into_iter().enumerate().flat_map(|(index, word)| {
-        let mut rest = word;
-        std::iter::from_fn(move || {
-            if rest == 0 {
-                return None;
-            }
-            let bit = rest.trailing_zeros() as usize;
-            rest &= rest - 1;
-            Some(64 * index + bit)
-        })
-    })
 }

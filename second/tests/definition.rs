@@ -28,7 +28,9 @@ fn atoms(draft: &BookDraft, entry: &[u8; 6]) -> Vec<Atom> {
                 let parameter = parameters[place];
                 match kinds[1 + place] {
                     0 => parameter == 1,
-                    kind => parameter <= usize::from(entry[0]) && entry[parameter] == kind,
+                    kind => {
+                        parameter <= usize::from(entry[0]) && draft.suits(entry[parameter], kind)
+                    }
                 }
             };
             if suits(0) && suits(1) {

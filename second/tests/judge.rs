@@ -1,11 +1,14 @@
 //! Demand 3 on tiny halls and on those in which over 256 facts hold: learning
 //! and checking give the judge's verdict.
 
+mod shared;
+
 use second::calls::{unpacked, Calls};
 use second::compare::{judge, judge_crowded, Capped, Run};
 use second::gen::{fullbook, tiny, BookDraft, OrderDraft, RecordDraft, Rng};
 use second::judge::{self, verdict, Verdict};
 use second::{check, Answer, Refusal, Second};
+use shared::hex;
 
 #[test]
 fn learn_and_check_give_the_judges_verdict() {
@@ -86,6 +89,7 @@ fn the_judge_has_room_for_over_256_facts() {
         relations: vec![[2, 1, 1, 0], [0; 4]],
         moves: vec![[0; 6]],
         records: vec![record],
+        ..BookDraft::default()
     };
     let start = fullbook::first_facts(16, 256);
     let judged = |steps: usize, holds: u8| {
@@ -132,10 +136,4 @@ fn held_after_is_no_effect() {
     let mut end = [0xff; 512];
     assert_eq!(check::check(&book, &order, &mut end), Answer::success(1));
     assert_eq!(end, [0; 512]);
-}
-
-fn hex(text: &str) -> Vec<u8> {
-    let digits: Vec<u8> =
-        text.chars().filter_map(|c| c.to_digit(16)).map(|digit| digit as u8).collect();
-    digits.chunks_exact(2).map(|pair| pair[0] << 4 | pair[1]).collect()
 }

@@ -1,13 +1,10 @@
 //! The paper's marked cases and limits, to the letter.
 
-use second::gen::{fullbook, Rng};
-use second::{add, check, form, learn, listing, Answer, Refusal};
+mod shared;
 
-fn hex(text: &str) -> Vec<u8> {
-    let digits: Vec<u8> =
-        text.chars().filter_map(|c| c.to_digit(16)).map(|digit| digit as u8).collect();
-    digits.chunks_exact(2).map(|pair| pair[0] << 4 | pair[1]).collect()
-}
+use second::gen::{fullbook, Rng};
+use second::{add, form, learn, listing, Answer, Refusal};
+use shared::{hex, passes, refused, set};
 
 fn small_hall() -> Vec<u8> {
     hex("0002 0002 0001 0001 0010 0018 001E 003A | 02010200 01020000 | 030102020000 | \
@@ -21,19 +18,7 @@ fn unrecorded() -> Vec<u8> {
 
 /// Bank 1 and spots 2, 3, 4.
 fn order(start: &[[u8; 3]], goal: &[(u8, [u8; 3])], steps: &[[u8; 5]]) -> Vec<u8> {
-    let goal_at = 20 + 3 * start.len();
-    let steps_at = goal_at + 4 * goal.len();
-    let header = [4, start.len(), goal.len(), steps.len(), 16, 20, goal_at, steps_at];
-    let mut bytes: Vec<u8> =
-        header.into_iter().flat_map(|number| (number as u16).to_be_bytes()).collect();
-    bytes.extend([1, 2, 2, 2]);
-    bytes.extend(start.iter().flatten());
-    for (holds, fact) in goal {
-        bytes.push(*holds);
-        bytes.extend(fact);
-    }
-    bytes.extend(steps.iter().flatten());
-    bytes
+    shared::order(&[1, 2, 2, 2], start, goal, steps)
 }
 
 /// Bank at 2, spots 3 and 4 clear.
@@ -41,31 +26,6 @@ const START: [[u8; 3]; 3] = [[1, 1, 2], [2, 3, 0], [2, 4, 0]];
 const AT_2: (u8, [u8; 3]) = (1, [1, 1, 2]);
 const AT_4: (u8, [u8; 3]) = (1, [1, 1, 4]);
 const ROLLS: [[u8; 5]; 2] = [[1, 1, 2, 3, 0], [1, 1, 3, 4, 0]];
-
-fn check_all(book: &[u8], order: &[u8]) -> (Answer, Vec<u8>) {
-    let mut end = vec![0xa5; 512];
-    let answer = check::check(book, order, &mut end);
-    (answer, end)
-}
-
-fn refused(book: &[u8], order: &[u8], answer: Answer) {
-    let (given, end) = check_all(book, order);
-    assert_eq!(given, answer);
-    assert_eq!(end, vec![0xa5; 512], "a refusal leaves lent memory untouched");
-    let text = format!("refused {} {}\n", answer.number, answer.place);
-    assert_eq!(listing::plan(book, order), text);
-}
-
-fn passes(book: &[u8], order: &[u8], steps: usize, facts: &[usize]) {
-    let (given, end) = check_all(book, order);
-    assert_eq!(given, Answer::success(steps));
-    let mut expected = vec![0; 512];
-    for fact in facts {
-        expected[fact / 8] |= 1 << (fact % 8);
-    }
-    assert_eq!(end, expected);
-    assert_eq!(listing::plan(book, order), format!("passes {steps}\n"));
-}
 
 /// The end sheet's number of a fact of the small hall.
 const fn at(spot: usize) -> usize {
@@ -87,13 +47,7 @@ fn m1_sheet() {
     let mut sheet = vec![0xff; 128];
     assert_eq!(learn::learn(&small_hall(), &mut sheet), Answer::success(1));
     // Atoms 1 and 2 are "bank at spot", 20 and 24 "spot clear".
-    let mut expected = vec![0; 128];
-    for (set, atoms) in [[1, 24], [2, 20], [2, 20], [1, 24]].into_iter().enumerate() {
-        for atom in atoms {
-            expected[32 * set + atom / 8] |= 1 << (atom % 8);
-        }
-    }
-    assert_eq!(sheet, expected);
+    assert_eq!(sheet, [[1, 24], [2, 20], [2, 20], [1, 24]].map(|atoms| set(32, &atoms)).concat());
 }
 
 #[test]
@@ -200,9 +154,11 @@ fn limits_of_facts() {
 #[test]
 fn full_books_have_the_lengths_they_are_named_by() {
     let mut rng = Rng::new(3);
-    for (draft, length, steps) in
-        [(fullbook::dense(&mut rng), 59_741, 75), (fullbook::many_steps(&mut rng), 55_076, 4_096)]
-    {
+    for (draft, length, steps) in [
+        (fullbook::dense(&mut rng), 59_741, 75),
+        (fullbook::many_steps(&mut rng), 55_076, 4_096),
+        (fullbook::many_atoms(&mut rng), 19_932, 128),
+    ] {
         let book = draft.bytes();
         assert_eq!(book.len(), length);
         let mut sheet = vec![0; 128 * draft.moves.len()];

@@ -20,7 +20,7 @@ fn the_file_is_what_is_printed() {
     let file = concat!(env!("CARGO_MANIFEST_DIR"), "/../tests/vectors/vectors.txt");
     let text = std::fs::read_to_string(file).expect("the file is there");
     assert!(text == print(&ALL), "run `vectors print` and store what it prints");
-    assert!(text.len() < 450_000, "{} bytes", text.len());
+    assert!(text.len() < 550_000, "{} bytes", text.len());
 }
 
 #[test]
@@ -173,7 +173,7 @@ fn plans_go_beyond_256_facts() {
 fn every_mistake_stands_in_the_sources_once() {
     let here = Path::new(env!("CARGO_MANIFEST_DIR"));
     let mistakes = list::all(&here.join("mistakes")).expect("the list can be read");
-    assert!(mistakes.len() >= 300, "{}", mistakes.len());
+    assert!(mistakes.len() >= 450, "{}", mistakes.len());
     for mistake in &mistakes {
         for edit in &mistake.edits {
             let source = std::fs::read_to_string(here.join("src").join(&edit.file));
@@ -190,7 +190,7 @@ fn every_row_has_its_mistakes() {
     let here = Path::new(env!("CARGO_MANIFEST_DIR"));
     let mistakes = list::all(&here.join("mistakes")).expect("the list can be read");
     let about = |what: &str| mistakes.iter().any(|mistake| mistake.about.starts_with(what));
-    for row in 1..=20 {
+    for row in 1..=21 {
         assert!(about(&format!("row {row}, condition")), "{row}");
         assert!(about(&format!("row {row}, place")), "{row}");
         assert!(row == 20 || about(&format!("row {row} before row")), "{row}");

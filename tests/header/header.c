@@ -42,10 +42,10 @@ static void test_version(void)
 /* Every number has words of its own, and no other number has any. */
 static void test_words(void)
 {
-    const char *none = changeover_words((enum changeover_numbers)(CHANGEOVER_GOAL_MISSED + 1));
+    const char *none = changeover_words((enum changeover_numbers)(CHANGEOVER_PARENT + 1));
 
     expect(strcmp(none, "no such number") == 0, "a number beyond the last");
-    for (unsigned one = 0; one <= (unsigned)CHANGEOVER_GOAL_MISSED; one++) {
+    for (unsigned one = 0; one <= (unsigned)CHANGEOVER_PARENT; one++) {
         const char *words = changeover_words((enum changeover_numbers)one);
         expect(strcmp(words, none) != 0, "a number without words");
         for (unsigned other = 0; other < one; other++)

@@ -12,6 +12,7 @@ int whose_fault(uint64_t answer)
     case CHANGEOVER_BOOK_LENGTH:
     case CHANGEOVER_HEADER_COUNT:
     case CHANGEOVER_HEADER_OFFSET:
+    case CHANGEOVER_PARENT:
     case CHANGEOVER_RELATION:
     case CHANGEOVER_MOVE:
     case CHANGEOVER_RECORD:

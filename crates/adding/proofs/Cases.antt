@@ -8,7 +8,7 @@ use Rattle.answer.specs.Answer.{_>>=_, refuse, kept}
 use Rattle.answer.specs.Walk.{walk}
 use Rattle.input.specs.Bytes.{byteAt, two}
 use Rattle.terms.specs.Sections.{sectionsOf}
-use Rattle.terms.specs.Schema.{outOfRange, relationAt, moveAt, schema, typedObjects, kindSuits, objectBad}
+use Rattle.terms.specs.Schema.{outOfRange, parentAt, relationAt, moveAt, schema, typedObjects, suitsWithin, kindSuits, objectBad}
 use Rattle.terms.specs.Facts.{factAt, factBad, precedes, noFact}
 use Rattle.terms.specs.Steps.{objectOf, stepAt, argumentBad, stepBad, samePair, repeats}
 use Rattle.format.specs.Header.{lengthBad, countsBad, offsetsBad, kindBad, relationBad, moveBad, relation, move, sections}
@@ -30,5 +30,5 @@ pub cases : (add book6 recorded 59 ≡ Good 58)
     × (add book6 recorded 57 ≡ Refused 13 0)
     × (add book6 (take 2 recorded) 58 ≡ Refused 6 30)
     × (addBytes book6 recorded (replicate 59 0xff) ≡ book ++ (0xff ∷ []))
-unfolding _>>=_ refuse walk byteAt two sectionsOf outOfRange relationAt moveAt schema typedObjects kindSuits objectBad factAt factBad precedes noFact objectOf stepAt argumentBad stepBad samePair repeats lengthBad countsBad offsetsBad kindBad relationBad moveBad relation move sections cut countBad factRefused facts state objectsIn stepsIn lengthIn headBad object stepRefused step objectsOf trajectory closed body recordAt stepTotal allRecords lookOverBy lookOver kept twoBytes added add addBytes
+unfolding _>>=_ refuse walk byteAt two sectionsOf outOfRange parentAt relationAt moveAt schema typedObjects suitsWithin kindSuits objectBad factAt factBad precedes noFact objectOf stepAt argumentBad stepBad samePair repeats lengthBad countsBad offsetsBad kindBad relationBad moveBad relation move sections cut countBad factRefused facts state objectsIn stepsIn lengthIn headBad object stepRefused step objectsOf trajectory closed body recordAt stepTotal allRecords lookOverBy lookOver kept twoBytes added add addBytes
 cases = (refl, refl, refl, refl, refl)

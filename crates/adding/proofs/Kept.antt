@@ -1,7 +1,8 @@
--- What the new book keeps of an old one of good form: header, relations, moves and the bytes of the records.
+-- What the new book keeps of an old one of good form: header, parents, relations, moves and the bytes of the records.
 use Prim.Native.Nat.{ℕ, suc, _+_, _-_, _≤_, _<_}
 use mathlib.Core.Path.{_≡_, refl, sym, ap₂, _∙_}
 use mathlib.Core.List.{List, _++_}
+use native.Mathlib.Decide.{decLt}
 use native.Mathlib.Numerals.{add-one}
 use native.Mathlib.Omega.{arith}
 use lib.ListN.{length}
@@ -11,6 +12,7 @@ use Rattle.input.specs.Bytes.{byteAt, two}
 use Rattle.terms.specs.Sections.{sectionsOf}
 use Rattle.terms.specs.Schema.{schema}
 use Rattle.terms.specs.Agree.{SameSchema}
+use Rattle.terms.proofs.Atoms.{parent-some, parent-none}
 use Rattle.terms.proofs.Agree.{same-by-bytes}
 use Rattle.limits.specs.Limits.{headerSize, maxLength}
 use Rattle.format.specs.Records.{stepsIn, recordAt}
@@ -18,6 +20,7 @@ use Rattle.format.specs.LookOver.{stepTotal}
 use Rattle.format.specs.Decode.{stepsOfRecord, stepsOfRecords, recordedSteps}
 use Rattle.jobs.specs.Planning.{schemaOf}
 use Rattle.jobs.specs.Add.{added}
+use Rattle.format.proofs.Typing.{schema-right}
 use Rattle.format.proofs.Reading.{Copied}
 use Rattle.format.proofs.Copies.{placed-same, records-copied, all-recorded-copied, recorded-last}
 use Rattle.format.proofs.LookOver.{LookedOver}
@@ -41,7 +44,7 @@ module _ (s r : List ℕ) (old : ℕ) (was : LookedOver s old) (most : length s 
   same i h l = byte-kept s r long i l (not-renewed i h)
 
   from : headerSize ≤ sectionsOf s .records .at
-  from = omega (arith, was .sections .offsets .moves, was .sections .offsets .records)
+  from = omega (arith, was .sections .offsets .behind, was .sections .offsets .moves, was .sections .offsets .records)
 
   pub kept : (at : ℕ) → headerSize ≤ at → at ≤ length s → Copied s at (added s r) at (length s - at)
   kept at h l = record { within = omega (arith, length-added s r long); bytes = λ i k. same (at + i) (omega arith) (omega arith) }
@@ -62,14 +65,30 @@ module _ (s r : List ℕ) (old : ℕ) (was : LookedOver s old) (most : length s 
   unfolding schemaOf schema oneMore
   kinds-kept = rw header
 
+  -- the relations start where they did, so that as many parents stand before them
+  parents-kept : (k : ℕ) → schema (sectionsOf s) s .parent k ≡ schema (oneMore (sectionsOf s) (length s + length r)) (added s r) .parent k
+  unfolding oneMore
+  parents-kept k = go (decLt (headerSize + (k - 1)) (sectionsOf s .relations .at))
+    where
+      go : Dec (headerSize + (k - 1) < sectionsOf s .relations .at)
+          → schema (sectionsOf s) s .parent k ≡ schema (oneMore (sectionsOf s) (length s + length r)) (added s r) .parent k
+      go (yes l) =
+          let o = was .sections .offsets in
+          parent-some (sectionsOf s) s k _ refl l
+          ∙ sym (same _ (omega arith) (omega (arith, o .moves, o .records, o .within)))
+          ∙ sym (parent-some (oneMore (sectionsOf s) (length s + length r)) (added s r) k _ refl l)
+      go (no l) =
+          parent-none (sectionsOf s) s k _ refl (omega arith)
+          ∙ sym (parent-none (oneMore (sectionsOf s) (length s + length r)) (added s r) k _ refl (omega arith))
+
   pub schema-kept : SameSchema (schemaOf s) (schemaOf (added s r))
   unfolding schemaOf oneMore
   schema-kept =
       let o = was .sections .offsets in
       rw header
-      (same-by-bytes (sectionsOf s) (oneMore (sectionsOf s) (length s + length r)) s (added s r) refl refl
-      (λ i l. sym (same _ (omega (arith, o .relations)) (omega (arith, o .relations, o .moves, o .records, o .within))))
-      (λ i l. sym (same _ (omega (arith, o .moves)) (omega (arith, o .records, o .within)))))
+      (same-by-bytes (sectionsOf s) (oneMore (sectionsOf s) (length s + length r)) s (added s r) (λ k low high high′. parents-kept k) refl refl
+      (λ i l. sym (same _ (omega (arith, o .behind)) (omega (arith, o .moves, o .records, o .within))))
+      (λ i l. sym (same _ (omega (arith, o .behind, o .moves)) (omega (arith, o .records, o .within)))))
 
   -- the old records are good again, and what is recorded in them stays
   old-part : Copied s (sectionsOf s .records .at) (added s r) (sectionsOf s .records .at) (length s - sectionsOf s .records .at)
@@ -79,7 +98,7 @@ module _ (s r : List ℕ) (old : ℕ) (was : LookedOver s old) (most : length s 
   unfolding schemaOf schema
   records-kept =
       let w = was .sections .offsets .within in
-      records-copied old-part (sectionsOf s) (sectionsOf (added s r)) (sym kinds-kept) schema-kept _ (length s) (length s) (omega arith) (omega arith) (was .records)
+      records-copied old-part (sectionsOf s) (sectionsOf (added s r)) (sym kinds-kept) schema-kept (schema-right (sectionsOf s) s _ (was .sections) .falling) _ (length s) (length s) (omega arith) (omega arith) (was .records)
 
   -- the new record comes after them, and so do its steps
   pub record-last : walk (recordAt (sectionsOf (added s r)) (added s r)) (sectionsOf (added s r) .records .count) (sectionsOf (added s r) .records .at)

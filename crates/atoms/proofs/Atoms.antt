@@ -1,66 +1,89 @@
--- The set of the bound facts of a move, one number after the other.
--- Uses mask's laws of the numbers below an end.
-use Prim.Native.Nat.{ℕ, _+_, _*_, _/_, _≤_, _<_}
-use native.Mathlib.Decide.{decLt}
+-- The set of the bound facts (lifted atoms) of a move, one relation after the other.
+-- Uses Words for sixteen bits stored, Places for the parameters that fill places, and mask's laws of the numbers below an end.
+use Prim.Native.Nat.{ℕ, _+_, _/_, _%_, _≤_, _<_}
+use native.Mathlib.Nat.{zero-add}
 use native.Mathlib.Omega.{arith}
-use mathlib.Core.Path.{_≡_, sym, _∙_}
-use mathlib.Core.Bool.{Bool, true, false, _&&_, not, and-false}
+use mathlib.Core.Path.{_≡_, sym, ap₂, _∙_}
+use mathlib.Core.Bool.{Bool, true, false, _&&_, and-false}
 use mathlib.Core.List.{List}
-use lib.Dec.{ltb}
-use borrow.Author.Tests.{lt-ltb, le-ltb, lt-leb, not-true}
-use Rattle.mask.specs.Bits.{setBit}
-use Rattle.mask.specs.Sets.{empty, maskOf}
-use Rattle.mask.proofs.Whole.{below-none, below-put, below-skip, below-end}
-use Rattle.terms.specs.Schema.{Schema}
-use Rattle.terms.specs.Steps.{parameterFills, isAtom, atomRelation, atomFirst}
-use Rattle.atoms.specs.Atoms.{atomSet, atomsEnd}
+use borrow.Author.Tests.{le-leb, lt-leb}
+use Rattle.truth.specs.Bools.{clash, is-false}
+use Rattle.mask.specs.Bits.{bitOf}
+use Rattle.mask.specs.Sets.{empty, number}
+use Rattle.mask.proofs.Whole.{empty-maskOf, maskOf-same, below-none, below-end}
+use Rattle.terms.specs.declared.Move.{Move}
+use Rattle.terms.specs.declared.Relation.{Relation}
+use Rattle.terms.specs.Schema.{Schema, outOfRange}
+use Rattle.terms.specs.Steps.{isAtom, atomRelation, atomFirst, atomSecond}
+use Rattle.terms.proofs.Atoms.{range-in, range-out, atom-out}
+use Rattle.atoms.specs.Atoms.{atomSet, atomsEnd, ParamsByKind, ForMoves, fillers, pairs, relationAtoms, storedWord}
+use Rattle.atoms.proofs.Words.{number-same, maskBelow, word-next}
+use Rattle.atoms.proofs.Places.{fillers-bit}
 
-module _ (sch : Schema) (a : ℕ) where
-  -- the bound facts below n
-  unfoldable pub atomsBelow : ℕ → List ℕ
-  atomsBelow n = maskOf 32 (λ j. ltb j n && isAtom sch a j)
+module _ (sch : Schema) where
+  -- ---- one move
+  -- one that is not there has none
+  pub no-atoms : (a : ℕ) → outOfRange (sch .moves) a ≡ true → empty 32 ≡ atomSet sch a
+  unfolding atomSet
+  no-atoms a out =
+      empty-maskOf 32
+      ∙ maskOf-same 32 (λ n. false) (isAtom sch a)
+      (λ n l. sym (is-false (isAtom sch a n) (λ e. let parts = atom-out sch a n e in clash _ out (range-in _ _ (parts .from-1) (parts .known)))))
 
-  pub atoms-first : empty 32 ≡ atomsBelow 0
-  unfolding atomsBelow
-  atoms-first = below-none 32 (isAtom sch a)
+  -- the sixteen bits of a relation
+  module _ (a n : ℕ) (there : outOfRange (sch .moves) a ≡ false) (at : n % 16 ≡ 0) (known : n / 16 + 1 ≤ sch .relations) where
+    abbrev fillersOf : ℕ → ℕ
+    fillersOf i = fillers sch (record { 0 = a }) (atomRelation n) i
 
-  pub atoms-some : {set r : List ℕ} (n : ℕ) → set ≡ atomsBelow n → isAtom sch a n ≡ true → r ≡ setBit set n → r ≡ atomsBelow (n + 1)
-  unfolding atomsBelow
-  atoms-some n e f g = g ∙ rw e (below-put 32 (isAtom sch a) n f)
+    atom-bit : (j : ℕ) → j < 16 → (bitOf (fillersOf 1) (j / 4) && bitOf (fillersOf 2) (j % 4)) ≡ isAtom sch a (n + j)
+    unfolding isAtom atomRelation atomFirst atomSecond
+    atom-bit j l =
+        let r : (n + j) / 16 ≡ n / 16 = omega arith in
+        let p : (n + j) / 4 % 4 + 1 ≡ 1 + j / 4 = omega arith in
+        let q : (n + j) % 4 + 1 ≡ 1 + j % 4 = omega arith in
+        let (low, high) = range-out (sch .moves) a there in
+        rw (r, p, q, le-leb 1 a low, le-leb a (sch .moves) high, le-leb (n / 16 + 1) (sch .relations) known)
+        (ap₂ (λ (x y : Bool). x && y) (fillers-bit sch _ _ 1 (j / 4) (omega arith)) (fillers-bit sch _ _ 2 (j % 4) (omega arith)))
 
-  pub atoms-skip : {set r : List ℕ} (n : ℕ) → set ≡ atomsBelow n → isAtom sch a n ≡ false → r ≡ set → r ≡ atomsBelow (n + 1)
-  unfolding atomsBelow
-  atoms-skip n e f g = g ∙ e ∙ below-skip 32 (isAtom sch a) n (n + 1) (omega arith) (λ j h k. let q : j ≡ n = omega arith in rw q f)
-
-  -- nor are there any among the numbers that share a first place with n, where no parameter fills it
-  unfilled : (n j : ℕ) → parameterFills sch (record { 0 = a }) (atomRelation n) 1 (atomFirst n) ≡ false → j / 4 ≡ n / 4 → isAtom sch a j ≡ false
-  unfolding isAtom atomRelation atomFirst
-  unfilled n j e q =
-      let r : j / 16 ≡ n / 16 = omega arith in
-      rw (r, q, e, and-false)
-
-  pub atoms-past : {set : List ℕ} (n : ℕ) {t : Bool}
-      → t ≡ parameterFills sch (record { 0 = a }) (atomRelation n) 1 (atomFirst n)
-      → not t ≡ true
-      → set ≡ atomsBelow n
-      → set ≡ atomsBelow (n / 4 * 4 + 4)
-  unfolding atomsBelow
-  atoms-past n {t} e f g =
-      g ∙ below-skip 32 (isAtom sch a) n (n / 4 * 4 + 4) (omega arith) (λ j h k. unfilled n j (sym e ∙ not-true t f) (omega arith))
+    word-atoms : relationAtoms sch (record { 0 = a }) (atomRelation n) ≡ number (isAtom sch a) n 16
+    unfolding relationAtoms pairs
+    word-atoms = number-same (isAtom sch a) _ n 0 16 (λ j l. rw (zero-add j) (atom-bit j l))
 
   -- from the end on there are none
-  past : (j : ℕ) → j < 256 → atomsEnd (sch .relations) ≤ j → isAtom sch a j ≡ false
+  past : (a n : ℕ) → n < 256 → atomsEnd (sch .relations) ≤ n → isAtom sch a n ≡ false
   unfolding isAtom atomRelation atomsEnd
-  past j l e = rw (lt-leb (j / 16 + 1) (sch .relations) (over (decLt 16 (sch .relations))), and-false)
-    where
-      over : Dec (16 < sch .relations) → sch .relations < j / 16 + 1
-      over (yes h) =
-          let f : 256 ≤ j = rw (lt-ltb 16 (sch .relations) h) at e in
-          absurd (omega arith)
-      over (no h) =
-          let f : 16 * sch .relations ≤ j = rw (le-ltb 16 (sch .relations) (omega arith)) at e in
-          omega arith
+  past a n h l = rw (lt-leb (n / 16 + 1) (sch .relations) (omega arith), and-false)
 
-  pub atoms-last : {set : List ℕ} {end : ℕ} (n : ℕ) → end ≡ atomsEnd (sch .relations) → end ≤ n → set ≡ atomsBelow n → set ≡ atomSet sch a
-  unfolding atomsBelow atomSet
-  atoms-last n e f g = g ∙ below-end 32 (isAtom sch a) n (λ j h l. past j l (omega arith))
+  -- ---- the bound facts below n are in the set, for every move that is there and that the table by kind is right for
+  module _ (ks : List ℕ) where
+    unfoldable pub AtomsTo : ℕ → List ℕ → Type 0
+    AtomsTo n set = ForMoves sch ks (λ m. outOfRange (sch .moves) (m .0) ≡ false → set ≡ maskBelow 32 (isAtom sch (m .0)) n)
+
+    pub atoms-first : (set : List ℕ) → set ≡ empty 32 → AtomsTo 0 set
+    unfolding AtomsTo ForMoves maskBelow
+    atoms-first set e m right there = e ∙ below-none 32 (isAtom sch (m .0))
+
+    pub atoms-next : (n end bits : ℕ) (r : Relation) (set new : List ℕ)
+        → AtomsTo n set
+        → n % 16 ≡ 0
+        → n < end
+        → (end ≡ atomsEnd (sch .relations)) × (end ≤ 256)
+        → r ≡ atomRelation n
+        → ForMoves sch ks (λ m. bits ≡ relationAtoms sch m r)
+        → new ≡ storedWord set n bits
+        → AtomsTo (n + 16) new
+    unfolding AtomsTo ForMoves atomsEnd
+    atoms-next n end bits r set new i at l (e, h) f b g m right there =
+        let are : bits ≡ number (isAtom sch (m .0)) n 16 = b m right ∙ rw f (word-atoms (m .0) n there at (omega arith)) in
+        g ∙ rw (i m right there) (word-next 32 (isAtom sch (m .0)) n _ (omega arith) (omega arith) are)
+
+    pub atoms-last : (n end : ℕ) (set : List ℕ) (m : Move)
+        → AtomsTo n set
+        → end ≡ atomsEnd (sch .relations)
+        → end ≤ n
+        → ParamsByKind sch m ks
+        → outOfRange (sch .moves) (m .0) ≡ false
+        → set ≡ atomSet sch (m .0)
+    unfolding AtomsTo ForMoves maskBelow atomSet
+    atoms-last n end set m i e l right there =
+        i m right there ∙ below-end 32 (isAtom sch (m .0)) n (λ j h k. past (m .0) j k (omega arith))

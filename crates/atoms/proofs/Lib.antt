@@ -1,2 +1,4 @@
--- Laws for the proofs of src/: the set of the bound facts, one number after the other.
+-- Laws for the proofs of src/: bits in words (Words), the parameters that fill places (Places), and the set, one relation after the other (Atoms).
+pub mod Words
+pub mod Places
 pub mod Atoms

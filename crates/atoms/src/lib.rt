@@ -1,43 +1,74 @@
-// Which bound facts (lifted atoms) a move has: the test of one number, and all of them as a set of 32 bytes.
-// Uses terms for the kinds in a book, mask for the set, limits; each contract names its definition, of terms or of specs/Atoms.antt.
+// The bound facts (lifted atoms) of a move, as a set of 32 bytes: sixteen bits a relation, made from the parameters that fill its places.
+// Uses tables for the parameters that suit each kind, terms for the kinds in a book, mask and objectset for sets, limits.
 ghost use mathlib.Core.Path.{_≡_};
-ghost use Prim.Native.Nat.{_≤_, _<_};
-ghost use Rattle.limits.specs.Limits.{maxAtoms};
+ghost use Prim.Native.Nat.{_+_, _≤_, _<_, min};
+ghost use Rattle.limits.specs.Limits.{maxParams, maxAtoms};
 ghost use Rattle.terms.specs.Schema.{schema};
-ghost use Rattle.terms.specs.Steps.{parameterFills, isAtom, atomRelation, atomFirst};
-ghost use Rattle.atoms.specs.Atoms.{atomSet, atomsEnd};
+ghost use Rattle.atoms.specs.Atoms.{atomSet, atomsEnd, ParamsByKind, ForMoves, fillers, pairs, relationAtoms, storedWord};
 use terms::Move;
-use terms::Param;
+use terms::Objects;
 use terms::Relation;
 use terms::Sections;
 
-fn parameter_fills(book: &[u8], h: Sections, m: Move, r: Relation, i: u8, p: Param) -> bool
-    ensures { λ b. ⌜ b ≡ parameterFills (schema h (now (book .entry))) m r i p ⌝ }
+// A bound fact has no parameter over 4, however many a book says that a move has.
+fn clamped(params: u8) -> u8
+    ensures { λ r. ⌜ r ≡ min params maxParams ⌝ }
 {
-    let places = h.places(book, r);
-    let params = h.params(book, m);
-    let named = h.place_kind(book, r, i);
-    let kind = h.param_kind(book, m, p);
-    let suits = terms::kind_suits(book, h, named, kind);
-    ((i <= places) & (p.0 <= params) & suits) | ((places < i) & (p.0 == 1))
+    if limits::MAX_PARAMS < params {
+        return limits::MAX_PARAMS;
+    }
+    params
 }
 
-// A parameter fills the first place of bound fact n: the same for four numbers, one for each parameter in the second.
-fn first_fills(book: &[u8], h: Sections, m: Move, n: usize) -> bool
-    requires { ⌜ n < maxAtoms ⌝ }
-    ensures { λ r. ⌜ r ≡ parameterFills (schema h (now (book .entry))) m (atomRelation n) 1 (atomFirst n) ⌝ }
+// The table by kind of a move's parameters, taken as the objects that they stand for.
+fn params_by_kind(book: &[u8], h: Sections, m: Move) -> [u32; 256]
+    ensures { λ r. ⌜ ParamsByKind (schema h (now (book .entry))) m r ⌝ }
 {
-    parameter_fills(book, h, m, terms::atom_relation(n), 1, terms::atom_first(n))
+    let count = clamped(h.params(book, m));
+    let at = h.move_at(m) + 1;
+    tables::kinds_of(
+        book,
+        h,
+        book,
+        Objects {
+            count: count,
+            at: at,
+        },
+    )
 }
 
-pub fn is_atom(book: &[u8], h: Sections, m: Move, n: usize) -> bool
-    requires { ⌜ n < maxAtoms ⌝ }
-    ensures { λ r. ⌜ r ≡ isAtom (schema h (now (book .entry))) (m .0) n ⌝ }
+// The parameters that fill a place, as four bits.
+fn fillers(book: &[u8], h: Sections, kinds: &[u32; 256], r: Relation, i: u8) -> u32
+    ensures { λ f. ⌜ ForMoves (schema h (now (book .entry))) (now (kinds .entry)) (λ m. f ≡ fillers (schema h (now (book .entry))) m r i) × (f < 16) ⌝ }
 {
-    let r = terms::atom_relation(n);
-    let first = first_fills(book, h, m, n);
-    let second = parameter_fills(book, h, m, r, 2, terms::atom_second(n));
-    (1 <= m.0) & (m.0 as u16 <= h.moves.count) & (r.0 as u16 <= h.relations.count) & first & second
+    if i <= h.places(book, r) {
+        return objectset::entry(kinds, h.place_kind(book, r, i) as usize) / 2 % 16;
+    }
+    1
+}
+
+// Four bits at a time: the second set where the bit of the first is 1.
+fn pairs(first: u32, second: u32) -> u32
+    requires { ⌜ (first < 16) × (second < 16) ⌝ }
+    ensures { λ r. ⌜ r ≡ pairs first second ⌝ }
+{
+    (first % 2 + first / 2 % 2 * 16 + first / 4 % 2 * 256 + first / 8 * 4096) * second
+}
+
+// The sixteen bits of a relation.
+fn relation_atoms(book: &[u8], h: Sections, kinds: &[u32; 256], r: Relation) -> u32
+    ensures { λ w. ⌜ ForMoves (schema h (now (book .entry))) (now (kinds .entry)) (λ m. w ≡ relationAtoms (schema h (now (book .entry))) m r) ⌝ }
+{
+    pairs(fillers(book, h, kinds, r, 1), fillers(book, h, kinds, r, 2))
+}
+
+fn store_word(set: &mut [u8; 32], n: usize, bits: u32)
+    requires { ⌜ n + 16 ≤ maxAtoms ⌝ }
+    ensures { λ _. ⌜ now (set .exit) ≡ storedWord (now (set .entry)) n bits ⌝ }
+{
+    let k = n / 8;
+    set[k] = (bits % 256) as u8;
+    set[k + 1] = (bits / 256 % 256) as u8;
 }
 
 // From here on there are no bound facts.
@@ -53,18 +84,17 @@ fn atoms_end(relations: u16) -> usize
 pub fn atom_set(book: &[u8], h: Sections, m: Move) -> [u8; 32]
     ensures { λ r. ⌜ r ≡ atomSet (schema h (now (book .entry))) (m .0) ⌝ }
 {
-    let end = atoms_end(h.relations.count);
     let mut set = mask::empty32();
+    if terms::out_of_range(h.moves.count, m.0) {
+        return set;
+    }
+    let kinds = params_by_kind(book, h, m);
+    let end = atoms_end(h.relations.count);
     let mut n = 0;
     while n < end {
-        if !first_fills(book, h, m, n) {
-            n = n / 4 * 4 + 4;
-            continue;
-        }
-        if is_atom(book, h, m, n) {
-            mask::mark32(&mut set, n);
-        }
-        n += 1;
+        let bits = relation_atoms(book, h, &kinds, terms::atom_relation(n));
+        store_word(&mut set, n, bits);
+        n += limits::ATOMS_PER_RELATION;
     }
     set
 }

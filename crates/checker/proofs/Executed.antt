@@ -10,9 +10,10 @@ use Rattle.answer.specs.declared.Answer.the-variants.{Good}
 use Rattle.truth.specs.Bools.{decide}
 use Rattle.answer.specs.Laws.{good-refused}
 use Rattle.terms.specs.declared.Fact.{Fact}
+use Rattle.terms.specs.declared.Param.{Param}
 use Rattle.terms.specs.declared.Step.{Step}
 use Rattle.terms.specs.Schema.{Schema, TypedObjects}
-use Rattle.terms.specs.Steps.{stepAt}
+use Rattle.terms.specs.Steps.{objectOf, stepAt, argumentBad}
 use Rattle.limits.specs.Limits.{maxMoves, maxObjects, stepSize, observedSize}
 use Rattle.format.specs.LookOver.{lookOver}
 use Rattle.format.specs.Order.{GoalEntry, stepCount, stepsAt, orderForm, startFacts, goal, plan, planFrom}
@@ -23,16 +24,17 @@ use Rattle.model.proofs.Impossible.{learned-consistent}
 use Rattle.jobs.specs.Planning.{domain, holding, schemaOf, stepsOfBook, transitionsOf, groundAction, goalEntry, startState, planOf, goalOf}
 use Rattle.jobs.specs.Learn.{learnable, learnedFrom}
 use Rattle.jobs.specs.Check.{planRun, orderRun, runAnswer, endSheet}
-use Rattle.observed.specs.Rules.{ruleSet, observedSet}
+use Rattle.observed.specs.Observed.{alwaysBefore, everBefore, added, deleted}
+use Rattle.observed.specs.Rules.{ruleSet}
 use Rattle.observed.specs.Seen.{Seen, inSet}
 use Rattle.observed.proofs.Observe.{seen-observed}
-use Rattle.observed.proofs.Sheet.{atoms-in, atoms-out}
+use Rattle.observed.proofs.Sheet.{seen-in, seen-out}
 use Rattle.observedright.proofs.ObservedRight.{recorded-faithful}
-use Rattle.wellformed.proofs.Headers.{relations-few, moves-few}
+use Rattle.wellformed.proofs.Headers.{relations-few, moves-few, right-schema}
 use Rattle.wellformed.proofs.Formed.{formed}
 use Rattle.terms.proofs.Atoms.{atom-below}
 use Rattle.wellformed.proofs.Atoms.{ground-below}
-use Rattle.wellformed.proofs.Suits.{move-known}
+use Rattle.wellformed.proofs.Suits.{object-most, move-known, argument-right}
 use Rattle.wellformed.proofs.Orders.{order-right, start-under}
 use Rattle.wellformed.specs.Right.{RightStep, orderTyped, RightOrder}
 use Rattle.wellformed.proofs.Learnable.{inconsistentIn, learnable-inconsistent}
@@ -44,14 +46,14 @@ use Rattle.execution.specs.Execution.{Executable}
 use Rattle.learner.specs.Learner.{observedOf}
 
 -- the sets of a move's rules are its learned ones
-ruled : (sch : Schema) (ts : List Transition) (l : List ℕ) → Seen sch ts l → (a : ℕ) → 1 ≤ a → a ≤ 32 → Ruled (learned (domain sch) ts) a (ruleSet sch l a)
+ruled : (sch : Schema) (ts : List Transition) (l : List ℕ) → Seen sch ts l → (a : ℕ) → 1 ≤ a → a ≤ 32 → Ruled (learned (domain sch) ts) a (ruleSet l a)
 unfolding ruleSet learned domain inSet
 ruled sch ts l seen a h h′ =
     record {
-      positive = atoms-in sch a (observedSet l a 0) (inSet ts 0 a) (λ n. seen .says 0 (omega arith) a h h′ n);
-      negative = atoms-out sch a (observedSet l a 1) (inSet ts 1 a) (λ n. seen .says 1 (omega arith) a h h′ n);
-      added = atoms-in sch a (observedSet l a 4) (inSet ts 4 a) (λ n. seen .says 4 (omega arith) a h h′ n);
-      removed = atoms-in sch a (observedSet l a 5) (inSet ts 5 a) (λ n. seen .says 5 (omega arith) a h h′ n);
+      positive = seen-in sch ts l seen a h h′ alwaysBefore (omega arith);
+      negative = seen-out sch ts l seen a h h′ everBefore (omega arith);
+      added = seen-in sch ts l seen a h h′ added (omega arith);
+      removed = seen-in sch ts l seen a h h′ deleted (omega arith);
     }
 
 -- a book that learns has no conflict
@@ -81,6 +83,12 @@ module _ (s : List ℕ) (n m : ℕ) (good : lookOver s ≡ Good n) (learns : lea
         let (a, b) = move-known (schemaOf s) ob st (right st i) in
         let c = moves-few s n good in
         (a, omega arith)
+
+    objects-few : (st : Step) → Mem st steps → (p : Param) → 1 ≤ p .0 → p .0 ≤ 4 → objectOf (st .binding) p .0 ≤ maxObjects
+    unfolding argumentBad
+    objects-few st i p low high =
+        let most = object-most (schemaOf s) ob _ (objectOf (st .binding) p) _ (argument-right (schemaOf s) ob st (right st i) (p .0) low high) in
+        omega arith
 
     executing : Executing (domain (schemaOf s)) (learnedFrom s) (schemaOf s) (observedOf s .masks) steps
     unfolding observedOf learnedFrom transitionsOf domain groundAction
@@ -118,21 +126,24 @@ module _ (s : List ℕ) (n m : ℕ) (good : lookOver s ≡ Good n) (learns : lea
   -- what an order of good form supplies
   module _ (o : List ℕ) (k : ℕ) (order : orderForm (schemaOf s) o ≡ Good k) where
     right : RightOrder (schemaOf s) o
-    right = order-right (schemaOf s) o k order
+    right = order-right (schemaOf s) (right-schema s n good .falling) o k order
 
     start-in-mask : Under (holding (startFacts o))
     unfolding startState
-    start-in-mask f h = let size = relations-few s n good in start-under (schemaOf s) o k order f (omega arith)
+    start-in-mask f h = let size = relations-few s n good in start-under (schemaOf s) (right-schema s n good .falling) o k order f (omega arith)
 
     pub executable : (l : List ℕ) → length l ≡ observedSize → Executable l o (stepCount o) (stepsAt o)
-    unfolding stepAt plan
+    unfolding plan
     executable l size =
         let g = order-good (schemaOf s) o k order .header in
+        let st : ℕ → Step = λ i. stepAt o (stepsAt o + stepSize * i) in
         record {
-          size = size;
           end = omega (arith, g .size, g .most);
           within = omega (arith, g .size);
-          moves = λ i h. moves-known (orderTyped o) (right .few) (plan o) (right .steps) (stepAt o (stepsAt o + stepSize * i)) (mem-plan o (stepCount o) (stepsAt o) i h);
+          steppable = λ i h.
+              let m = mem-plan o (stepCount o) (stepsAt o) i h in
+              let (low, high) = moves-known (orderTyped o) (right .few) (plan o) (right .steps) (st i) m in
+              record { size = size; counted = low; known = high; bounded = objects-few (orderTyped o) (right .few) (plan o) (right .steps) (st i) m };
         }
 
     pub order-executed : runAnswer (stepCount o) (goalOf o) (orderRun s o) ≡ executedAnswer (stepCount o) (goal o) (execute (schemaOf s) (observedOf s .masks) (plan o) (startMask (startFacts o)) 1)

@@ -1,5 +1,5 @@
--- Schemas that say the same, for planning: their bound facts become the same facts, and they have one domain. Books with the same bytes for
--- relations and moves have such schemas.
+-- Right schemas that say the same, for planning: their bound facts become the same facts, and they have one domain. Books with the same bytes
+-- for relations and moves, and the same parents, have such schemas.
 use Prim.Native.Nat.{ℕ, _+_, _*_, _<_}
 use mathlib.Core.Path.{_≡_}
 use mathlib.Core.Bool.{true}
@@ -8,8 +8,9 @@ use Rattle.input.specs.Bytes.{byteAt}
 use Rattle.limits.specs.Limits.{relationSize, moveSize}
 use Rattle.terms.specs.declared.Binding.{Binding}
 use Rattle.terms.specs.Sections.{sectionsOf}
-use Rattle.terms.specs.Schema.{Schema}
+use Rattle.terms.specs.Schema.{Schema, schema}
 use Rattle.terms.specs.Steps.{atomRelation, isAtom}
+use Rattle.terms.specs.Typing.{RightSchema}
 use Rattle.terms.specs.Agree.{SameSchema}
 use Rattle.terms.proofs.Atoms.{relation-from-1, atom-out}
 use Rattle.terms.proofs.Agree.{same-by-bytes, atoms-same}
@@ -23,21 +24,21 @@ pub fact-same : (S T : Schema) → SameSchema S T → (b : Binding) (a n : ℕ) 
 unfolding factOf objectIn
 fact-same S T h b a n atom = rw (h .places (atomRelation n) (relation-from-1 n) (atom-out S a n atom .relation))
 
-pub domain-same : (S T : Schema) → SameSchema S T → domain S ≡ domain T
+pub domain-same : (S T : Schema) → SameSchema S T → RightSchema S → RightSchema T → domain S ≡ domain T
 unfolding domain
-domain-same S T h =
-    λ i. record { atom = λ a n. atoms-same S T h a n i; atoms = 16 * h .relations i; facts = 256 * h .relations i; actions = h .moves i }
+domain-same S T h right right′ =
+    λ i. record { atom = λ a n. atoms-same S T h right right′ a n i; atoms = 16 * h .relations i; facts = 256 * h .relations i; actions = h .moves i }
 
--- Books of good form with equal relations and moves have schemas that say the same.
+-- Books of good form with equal relations and moves, and the same parents, have schemas that say the same.
 pub same-sections-same-schema : SameSectionsSameSchema
-unfolding schemaOf
+unfolding schemaOf schema
 same-sections-same-schema s t m n good good′ same =
     let h = look-over-good s m good .sections .offsets in
     let k = look-over-good t n good′ .sections .offsets in
-    same-by-bytes (sectionsOf s) (sectionsOf t) s t (same .relations) (same .moves)
-    (λ i l. at i _ _ (omega arith) (omega arith) (omega arith))
-    (λ i l. at (relationSize * sectionsOf s .relations .count + i) _ _ (omega arith) (omega arith) (omega arith))
+    same-by-bytes (sectionsOf s) (sectionsOf t) s t (same .parents) (same .relations) (same .moves)
+    (λ i l. same .bytes i (omega arith))
+    (λ i l. further (relationSize * sectionsOf s .relations .count + i) _ _ (omega (arith, h .moves)) (omega (arith, k .moves, same .relations)) (omega arith))
   where
-    at : (i x y : ℕ) → x ≡ 16 + i → y ≡ 16 + i → i < relationSize * sectionsOf s .relations .count + moveSize * sectionsOf s .moves .count
-        → byteAt s x ≡ byteAt t y
-    at i x y e f l = rw (e, f) (same .bytes i l)
+    further : (i x y : ℕ) → x ≡ sectionsOf s .relations .at + i → y ≡ sectionsOf t .relations .at + i
+        → i < relationSize * sectionsOf s .relations .count + moveSize * sectionsOf s .moves .count → byteAt s x ≡ byteAt t y
+    further i x y e f l = rw (e, f) (same .bytes i l)

@@ -32,6 +32,7 @@ use Rattle.jobs.specs.Learn.{learnable, learnedFrom, learn}
 use Rattle.jobs.specs.Check.{planRun, orderRun, goalAnswer, runAnswer, check, endSheet, checkBytes}
 use Rattle.jobs.specs.Judge.{FitsBook, BookVerdict, OrderVerdict}
 use Rattle.format.proofs.OrderForm.{order-met}
+use Rattle.wellformed.proofs.Headers.{right-schema}
 use Rattle.wellformed.proofs.Headers.{relations-few}
 use Rattle.wellformed.proofs.Formed.{formed}
 use Rattle.wellformed.proofs.Orders.{grounded, plan-under, start-under}
@@ -149,7 +150,7 @@ module _ (s : List ℕ) (n : ℕ) (good : lookOver s ≡ Good n) where
   -- ---- orders of good form
   module _ (o : List ℕ) (m : ℕ) (form : orderForm (schemaOf s) o ≡ Good m) where
     proper : Grounded (domain (schemaOf s)) (planOf (schemaOf s) o)
-    proper = grounded (schemaOf s) o m form
+    proper = grounded (schemaOf s) (right-schema s n good .falling) o m form
 
     check-runs : inconsistentIn s ≡ false → check s o endSheetSize ≡ runAnswer (stepCount o) (goalOf o) (orderRun s o)
     unfolding check
@@ -177,7 +178,7 @@ module _ (s : List ℕ) (n : ℕ) (good : lookOver s ≡ Good n) where
         go (inr e) =
             let few = relations-few s n good in
             let (answer, shown) = pass-shows (startState o) (planOf (schemaOf s) o) (goalOf o) proper e (256 * schemaOf s .relations) (omega arith)
-            (start-under (schemaOf s) o m form) (plan-under (schemaOf s) o m form) (stepCount o) end h in
+            (start-under (schemaOf s) (right-schema s n good .falling) o m form) (plan-under (schemaOf s) (right-schema s n good .falling) o m form) (stepCount o) end h in
             rw (long, check-runs e, answer) shown
 
 pub demand3 : Demand3
@@ -188,6 +189,6 @@ demand3 s n good =
       checking = checking s n good;
       verdict = verdict s n good;
       sheet = sheet s n good;
-      some = λ o m form. some-verdict s n good (startState o) (planOf (schemaOf s) o) (goalOf o) (grounded (schemaOf s) o m form);
+      some = λ o m form. some-verdict s n good (startState o) (planOf (schemaOf s) o) (goalOf o) (grounded (schemaOf s) (right-schema s n good .falling) o m form);
       one = λ o v w. unique (domain (schemaOf s)) (FitsBook s) (planOf (schemaOf s) o) (startState o) (goalOf o) v w;
     }

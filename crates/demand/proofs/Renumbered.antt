@@ -11,6 +11,7 @@ use Rattle.terms.specs.declared.Binding.{Binding}
 use Rattle.terms.specs.declared.Fact.{Fact}
 use Rattle.terms.specs.Schema.{Schema, TypedObjects}
 use Rattle.terms.specs.Steps.{objectOf, atomRelation, atomFirst, atomSecond, isAtom, ground}
+use Rattle.terms.specs.Typing.{RightSchema}
 use Rattle.terms.specs.Agree.{SameSchema}
 use Rattle.terms.proofs.Atoms.{fact-path, first-range, second-range}
 use Rattle.terms.proofs.Agree.{atoms-same}
@@ -19,6 +20,7 @@ use Rattle.format.specs.Decode.{RecordedStep}
 use Rattle.model.specs.Quantify.{Mem, here, there}
 use Rattle.jobs.specs.Planning.{domain, holding, groundAction, transition, schemaOf, stepsOfBook}
 use Rattle.jobs.specs.Learn.{learnedFrom, ruleRows, ruleSheet}
+use Rattle.wellformed.proofs.Headers.{right-schema}
 use Rattle.wellformed.specs.Right.{RightStep, RightState, RightSomewhere}
 use Rattle.wellformed.specs.Grounding.{objectIn, factOf}
 use Rattle.wellformed.proofs.Records.{recorded-right}
@@ -48,7 +50,7 @@ renumbered-fact sch to numbering b c objects n =
     place true p low high = objects (p .0) low high
     place false p low high = numbering .none
 
-module _ (s t : List ℕ) (agree : SameSchema (schemaOf s) (schemaOf t)) where
+module _ (s t : List ℕ) (agree : SameSchema (schemaOf s) (schemaOf t)) (right-s : RightSchema (schemaOf s)) (right-t : RightSchema (schemaOf t)) where
   -- a bound fact holds in a state exactly if it holds in the renumbered one, under the renumbered step
   value-same : (f g : RecordedStep) (h : RenumberedStep f g) → (ob : TypedObjects) → ob .count ≤ maxObjects → RightStep (schemaOf s) ob (f .step)
       → (k : TypedObjects) → k .count ≤ maxObjects → RightStep (schemaOf t) k (g .step)
@@ -57,7 +59,7 @@ module _ (s t : List ℕ) (agree : SameSchema (schemaOf s) (schemaOf t)) where
       → holding fs (ground (schemaOf s) (f .step .binding) n) ≡ holding gs (ground (schemaOf t) (g .step .binding) n)
   value-same f g h ob few right k few′ right′ fs gs state state′ facts n atom =
       let there-atom : isAtom (schemaOf t) (g .step .action .0) n ≡ true =
-      sym (atoms-same (schemaOf s) (schemaOf t) agree (g .step .action .0) n) ∙ subst (λ x. isAtom (schemaOf s) (x .0) n ≡ true) (h .action) atom
+      sym (atoms-same (schemaOf s) (schemaOf t) agree right-s right-t (g .step .action .0) n) ∙ subst (λ x. isAtom (schemaOf s) (x .0) n ≡ true) (h .action) atom
       in
       let fact : renumbered (h .to) (factOf (schemaOf s) (f .step .binding) n) ≡ factOf (schemaOf t) (g .step .binding) n =
       ap (renumbered (h .to)) (fact-same (schemaOf s) (schemaOf t) agree (f .step .binding) (f .step .action .0) n atom)
@@ -75,7 +77,7 @@ module _ (s t : List ℕ) (agree : SameSchema (schemaOf s) (schemaOf t)) where
       let same = renumbered-apart (h .to) (h .numbering) x (factOf (schemaOf s) (f .step .binding) n) (q ∙ sym fact) in
       holds-in (schemaOf s) (f .step .binding) fs n (subst (λ (y : Fact). Mem y fs) same l))
 
-  alike-of-renumbered : (f g : RecordedStep) → RightSomewhere (schemaOf s) f → RightSomewhere (schemaOf t) g → RenumberedStep f g → AlikeRecorded s t agree f g
+  alike-of-renumbered : (f g : RecordedStep) → RightSomewhere (schemaOf s) f → RightSomewhere (schemaOf t) g → RenumberedStep f g → AlikeRecorded s t agree right-s right-t f g
   unfolding transition groundAction domain
   alike-of-renumbered f g (ob, few, right) (k, few′, right′) h =
       record {
@@ -100,14 +102,14 @@ unfolding ruleSheet
 renumbered-same-sheet s t m n good good′ agree steps =
     rows-same (learnedFrom s) (learnedFrom t)
     (λ a.
-    same-row s t agree a
+    same-row s t agree (right-schema s m good) (right-schema t n good′) a
     (record {
       forth = λ f k e.
           let (g, l, h) = renumbered-forth (stepsOfBook s) (stepsOfBook t) steps k in
-          (g, l, alike-of-renumbered s t agree f g (recorded-right s m good f k) (recorded-right t n good′ g l) h);
+          (g, l, alike-of-renumbered s t agree (right-schema s m good) (right-schema t n good′) f g (recorded-right s m good f k) (recorded-right t n good′ g l) h);
       back = λ g k e.
           let (f, l, h) = renumbered-back (stepsOfBook s) (stepsOfBook t) steps k in
-          (f, l, alike-of-renumbered s t agree f g (recorded-right s m good f l) (recorded-right t n good′ g k) h);
+          (f, l, alike-of-renumbered s t agree (right-schema s m good) (right-schema t n good′) f g (recorded-right s m good f l) (recorded-right t n good′ g k) h);
     }))
     (schemaOf s .moves) 1
     ∙ ap (λ (k : ℕ). ruleRows (learnedFrom t) k 1) (agree .moves)

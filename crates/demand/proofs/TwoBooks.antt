@@ -4,6 +4,7 @@ use mathlib.Core.Path.{_≡_, sym, ap, ap₂, _∙_, subst}
 use mathlib.Core.List.{List}
 use native.Mathlib.Omega.{arith}
 use Rattle.terms.specs.Steps.{ground}
+use Rattle.terms.specs.Typing.{RightSchema}
 use Rattle.terms.specs.Agree.{SameSchema}
 use Rattle.terms.proofs.Agree.{ground-same}
 use Rattle.format.specs.Decode.{RecordedStep}
@@ -14,12 +15,13 @@ use Rattle.model.specs.Alike.{Alike, SameRow}
 use Rattle.model.proofs.Row.{alike-sym, precondition-same, effect-same}
 use Rattle.jobs.specs.Planning.{domain, holding, groundAction, transition, schemaOf, stepsOfBook, transitionsOf}
 use Rattle.jobs.specs.Learn.{learnedFrom, ruleRow, ruleSheet}
+use Rattle.wellformed.proofs.Headers.{right-schema}
 use Rattle.wellformed.proofs.Lists.{mem-map-out, mem-map-in}
 use Rattle.demand.specs.TwoBooks.{SameStep, SameSteps, rowOf, SameStepsSameRow}
 use Rattle.demand.proofs.Agree.{domain-same}
 use Rattle.jobs.proofs.Sheet.{row-part, row-same}
 
-module _ (s t : List ℕ) (agree : SameSchema (schemaOf s) (schemaOf t)) where
+module _ (s t : List ℕ) (agree : SameSchema (schemaOf s) (schemaOf t)) (right-s : RightSchema (schemaOf s)) (right-t : RightSchema (schemaOf t)) where
   -- a recorded step of the one book shows what a recorded step of the other shows
   abbrev pub AlikeRecorded : RecordedStep → RecordedStep → Type 0
   AlikeRecorded f g = Alike (domain (schemaOf s)) (transition (schemaOf s) f) (transition (schemaOf t) g)
@@ -58,7 +60,7 @@ module _ (s t : List ℕ) (agree : SameSchema (schemaOf s) (schemaOf t)) where
       let D : Domain = domain (schemaOf s) in
       row-same (learned D (transitionsOf s)) (learned D (transitionsOf t)) a (precondition-same D a (transitionsOf s) (transitionsOf t) row)
       (effect-same D a (transitionsOf s) (transitionsOf t) row)
-      ∙ ap (λ (E : Domain). ruleRow (learned E (transitionsOf t)) a) (domain-same (schemaOf s) (schemaOf t) agree)
+      ∙ ap (λ (E : Domain). ruleRow (learned E (transitionsOf t)) a) (domain-same (schemaOf s) (schemaOf t) agree right-s right-t)
 
   -- ---- the same steps
   alike-of-same : (f g : RecordedStep) → SameStep f g → AlikeRecorded f g
@@ -90,4 +92,4 @@ row-of-sheet s a low high =
 pub same-steps-same-row : SameStepsSameRow
 same-steps-same-row s t m n good good′ agree a low high steps =
     let high′ : a ≤ schemaOf t .moves = omega (arith, agree .moves) in
-    row-of-sheet s a low high ∙ same-row s t agree a (alike-of-steps s t agree a steps) ∙ sym (row-of-sheet t a low high′)
+    row-of-sheet s a low high ∙ same-row s t agree (right-schema s m good) (right-schema t n good′) a (alike-of-steps s t agree (right-schema s m good) (right-schema t n good′) a steps) ∙ sym (row-of-sheet t a low high′)

@@ -9,19 +9,21 @@ use Rattle.terms.specs.declared.Fact.{Fact}
 use Rattle.terms.specs.Sections.{sectionsOf}
 use Rattle.terms.specs.Steps.{objectOf}
 use Rattle.terms.specs.Agree.{SameSchema}
-use Rattle.limits.specs.Limits.{headerSize, relationSize, moveSize, maxParams, ruleSize}
+use Rattle.limits.specs.Limits.{relationSize, moveSize, maxParams, ruleSize}
 use Rattle.format.specs.Decode.{RecordedStep}
 use Rattle.format.specs.LookOver.{lookOver}
 use Rattle.model.specs.Quantify.{Mem}
 use Rattle.jobs.specs.Planning.{schemaOf, stepsOfBook}
 use Rattle.jobs.specs.Learn.{ruleSheet}
 
--- equal relations and moves, byte by byte: their counts, and each byte of the two sections
+-- equal relations and moves, byte by byte: their counts, and each byte of the two sections, wherever they begin; and one parent for each kind
+-- that both books have, so that a book without parents agrees with one whose parents are all 0
 pub record SameSections (s t : List ℕ) : Type 0 where
+  pub parents : (k : ℕ) → 1 ≤ k → k ≤ schemaOf s .kinds → k ≤ schemaOf t .kinds → schemaOf s .parent k ≡ schemaOf t .parent k
   pub relations : sectionsOf s .relations .count ≡ sectionsOf t .relations .count
   pub moves : sectionsOf s .moves .count ≡ sectionsOf t .moves .count
   pub bytes : (i : ℕ) → i < relationSize * sectionsOf s .relations .count + moveSize * sectionsOf s .moves .count
-      → byteAt s (headerSize + i) ≡ byteAt t (headerSize + i)
+      → byteAt s (sectionsOf s .relations .at + i) ≡ byteAt t (sectionsOf t .relations .at + i)
 
 -- Books of good form with such sections have schemas that say the same, which is what the two sentences below ask: bytes are one way to it.
 abbrev pub SameSectionsSameSchema : Type 0

@@ -1,6 +1,6 @@
 // A plan and its goal over a state of facts as a mask of 512 bytes: the start state, the plan by the rules that come from what is observed, and
-// the goal at the end. Uses input, limits, terms, mask, rulesheet and stepping, and the definitions of format and statemask; each contract
-// names its definition.
+// the goal at the end. Uses input, limits, terms, mask and stepping, and the definitions of format and statemask; each contract names its
+// definition.
 ghost use mathlib.Core.Path.{_≡_};
 ghost use Prim.Native.Nat.{_+_, _*_, _≤_, _<_};
 ghost use lib.ListN.{length};
@@ -59,12 +59,10 @@ pub fn execute(
     let mut k: usize = 1;
     while 0 < left {
         let step = Step::read(o, at);
-        let b = step.binding;
-        let rules = rulesheet::rules_of(book, h, observed, step.action);
-        if stepping::is_inapplicable(book, h, b, rules, state) {
+        if stepping::is_inapplicable(book, h, step, observed, state) {
             return k;
         }
-        stepping::advance(book, h, b, rules, state);
+        stepping::advance(book, h, step, observed, state);
         at += limits::STEP_SIZE;
         k += 1;
         left -= 1;

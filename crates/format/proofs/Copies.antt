@@ -20,6 +20,7 @@ use Rattle.terms.specs.declared.Sections.{Sections}
 use Rattle.terms.specs.Schema.{Schema, TypedObjects, schema, typedObjects, outOfRange}
 use Rattle.terms.specs.Facts.{factAt, noFact}
 use Rattle.terms.specs.Steps.{stepAt}
+use Rattle.terms.specs.Typing.{Falling}
 use Rattle.terms.specs.Agree.{SameSchema}
 use Rattle.terms.proofs.Agree.{SameObjects, fact-over, step-over}
 use Rattle.limits.specs.Limits.{headSize, countSize, factSize, stepSize, maxFacts, maxObjects, maxSteps}
@@ -29,6 +30,7 @@ use Rattle.format.specs.LookOver.{stepTotal}
 use Rattle.format.specs.Decode.{RecordedStep, stateEnd, recordedStep, recordedStepsAt, stepsOfRecord, stepsOfRecords}
 use Rattle.format.proofs.States.{fact-good, count-within, state-within, state-end, state-ends}
 use Rattle.format.proofs.Records.{head-limits, head-objects, object-entry, step-good, step-within, step-reach, trajectory-parted, record-good, record-in, record-within}
+use Rattle.format.proofs.Typing.{objects-known}
 use Rattle.format.proofs.Reading.{Copied, Facing, facing-on, byte-copied, two-copied, fact-copied, step-copied, head-copied, end-copied, state-copied}
 
 -- recorded steps with other places
@@ -52,7 +54,7 @@ Beside f g at at′ most = (a b next : ℕ) → Facing at at′ a b → next ≤
 module _ {s t : List ℕ} {at at′ size : ℕ} (c : Copied s at t at′ size) where
   -- ---- within a record that ends at `end`
 
-  module _ (S T : Schema) (same : SameSchema S T) (H K : TypedObjects) (typed : SameObjects H K) (end end′ : ℕ) (ends : Facing at at′ end end′) (short : end ≤ at + size) where
+  module _ (S T : Schema) (same : SameSchema S T) (fall : Falling S) (kinds : S .kinds ≡ T .kinds) (H K : TypedObjects) (typed : SameObjects (S .kinds) H K) (end end′ : ℕ) (ends : Facing at at′ end end′) (short : end ≤ at + size) where
     facts-beside : (n : ℕ) (last : Fact) (a b next : ℕ) → Facing at at′ a b → facts 8 S H s end n last a ≡ Good next
         → (m : ℕ) × Facing at at′ next m × (facts 8 T K t end′ n last b ≡ Good m)
     unfolding facts factRefused cut
@@ -62,7 +64,7 @@ module _ {s t : List ℕ} {at at′ size : ℕ} (c : Copied s at t at′ size) w
         let (reach, right, order) = fact-good S H s end last a test in
         let i = fact-copied c a b f (omega arith) in
         let (m, g, good) = facts-beside n (factAt s a) (a + factSize) (b + factSize) next (facing-on f factSize) rest in
-        (m, g, refuse-unmet _ _ _ _ (rw (i, le-ltb end′ (b + factSize) (omega arith), fact-over S T same H K typed (factAt s a) right, order)) ∙ rw i good)
+        (m, g, refuse-unmet _ _ _ _ (rw (i, le-ltb end′ (b + factSize) (omega arith), fact-over S T same fall (S .kinds) (omega arith) (omega (arith, kinds)) H K typed (factAt s a) right, order)) ∙ rw i good)
 
     state-beside : Beside (state S H s end) (state T K t end′) at at′ end
     unfolding state countBad cut
@@ -82,7 +84,7 @@ module _ {s t : List ℕ} {at at′ size : ℕ} (c : Copied s at t at′ size) w
         let (m, g, good) = state-beside (a + stepSize) (b + stepSize) next (facing-on f stepSize) l behind in (
           m,
           g,
-          refuse-unmet _ _ _ _ (rw (i, le-ltb end′ (b + stepSize) (omega arith), step-over S T same H K typed (stepAt s a) suits))
+          refuse-unmet _ _ _ _ (rw (i, le-ltb end′ (b + stepSize) (omega arith), step-over S T same fall (S .kinds) (omega arith) (omega (arith, kinds)) H K typed (stepAt s a) suits))
               ∙ refuse-unmet _ _ _ _ (rw i different) ∙ good,
         )
 
@@ -112,19 +114,22 @@ module _ {s t : List ℕ} {at at′ size : ℕ} (c : Copied s at t at′ size) w
       rw (x, y, z, le-ltb (length t) (b + headSize) (omega arith), le-ltb (length t) (b + lengthIn s a) (omega arith))
       (rw (le-ltb maxObjects (objectsIn s a) (head-objects s a e), le-ltb maxSteps (stepsIn s a) few, le-ltb (lengthIn s a) headSize long))
 
-  typed-beside : (a b : ℕ) → Facing at at′ a b → a + headSize + objectsIn s a ≤ at + size → objectsIn t b ≡ objectsIn s a
-      → SameObjects (typedObjects (objectsOf s a) s) (typedObjects (objectsOf t b) t)
+  typed-beside : (kinds a b : ℕ) → Facing at at′ a b → a + headSize + objectsIn s a ≤ at + size → objectsIn t b ≡ objectsIn s a
+      → (end last : ℕ) → walk (object kinds s end) (objectsIn s a) (a + headSize) ≡ Good last
+      → SameObjects kinds (typedObjects (objectsOf s a) s) (typedObjects (objectsOf t b) t)
   unfolding typedObjects objectsOf
-  typed-beside a b f l e =
+  typed-beside kinds a b f l e end last good =
       record {
         count = sym e;
+        known = λ x low high. objects-known s kinds end (objectsIn s a) (a + headSize) last good (x .0) low high;
         kind = λ x low high. sym (byte-copied c (a + headSize + (x .0 - 1)) (b + headSize + (x .0 - 1)) (facing-on (facing-on f headSize) (x .0 - 1)) (omega arith));
       }
 
   -- ---- records, in a book whose schema says the same
 
-  module _ (h k : Sections) (kinds : h .kinds ≡ k .kinds) (same : SameSchema (schema h s) (schema k t)) where
+  module _ (h k : Sections) (kinds : h .kinds ≡ k .kinds) (same : SameSchema (schema h s) (schema k t)) (fall : Falling (schema h s)) where
     record-beside : Beside (recordAt h s) (recordAt k t) at at′ (at + size)
+    unfolding schema
     record-beside a b next f l e =
         let g = record-good h s a next e in
         let place = g .end in
@@ -137,11 +142,11 @@ module _ {s t : List ℕ} {at at′ size : ℕ} (c : Copied s at t at′ size) w
         let first : Facing at at′ (a + headSize + objectsIn s a) (b + headSize + objectsIn t b) = record { low = omega arith; level = omega arith } in
         let after = state-end _ _ s end _ (g .after) (g .start) in
         let within = state-within _ _ s end _ (g .after) (g .start) in
-        let typed = typed-beside a b f (omega arith) x in
+        let typed = typed-beside (h .kinds) a b f (omega arith) x end _ (g .objects) in
         let objects = objects-beside (h .kinds) end end′ ends short (objectsIn s a) (a + headSize) (b + headSize) _ (facing-on f headSize) (g .objects) in
-        let (m₂, f₂, start) = state-beside _ _ same _ _ typed end end′ ends short _ _ (g .after) first within (g .start) in
+        let (m₂, f₂, start) = state-beside _ _ same fall kinds _ _ typed end end′ ends short _ _ (g .after) first within (g .start) in
         let reach = walk-within _ end (step-within _ _ s end) (stepsIn s a) (g .after) (g .last) within (g .steps) in
-        let (m₃, f₃, steps) = steps-beside _ _ same _ _ typed end end′ ends short (stepsIn s a) (g .after) m₂ (g .last) f₂ reach (g .steps) in
+        let (m₃, f₃, steps) = steps-beside _ _ same fall kinds _ _ typed end end′ ends short (stepsIn s a) (g .after) m₂ (g .last) f₂ reach (g .steps) in
         let full : end ≤ g .last = ltb-false (g .last) end (g .full) in (
           end′,
           rw (g .end) ends,

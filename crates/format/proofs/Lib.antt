@@ -5,6 +5,7 @@ pub mod Header
 pub mod Reading
 pub mod States
 pub mod Records
+pub mod Typing
 pub mod Copies
 pub mod LookOver
 pub mod Orders

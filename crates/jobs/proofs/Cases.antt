@@ -1,14 +1,14 @@
--- Every marked case is as the paper says: the checker computes them, but for the two books at the limit of 60,000 bytes.
+-- Every case is as the paper says: the checker computes them, but for the two books at the limit of 60,000 bytes.
 use mathlib.Core.Path.{refl}
 use Rattle.answer.specs.Answer.{_>>=_, refuse, number, place, kept}
 use Rattle.answer.specs.Walk.{walk}
 use Rattle.input.specs.Bytes.{byteAt, two}
 use Rattle.output.specs.Written.{twoBytes}
 use Rattle.terms.specs.Sections.{sectionsOf}
-use Rattle.terms.specs.Schema.{outOfRange, relationAt, moveAt, schema, typedObjects, kindSuits, objectBad}
+use Rattle.terms.specs.Schema.{outOfRange, parentAt, relationAt, moveAt, schema, typedObjects, suitsWithin, kindSuits, objectBad}
 use Rattle.terms.specs.Facts.{factAt, factBad, precedes, noFact, factNumber}
 use Rattle.terms.specs.Steps.{objectOf, stepAt, argumentBad, stepBad, samePair, repeats, atomRelation, atomFirst, atomSecond, parameterFills, isAtom, placed, ground}
-use Rattle.format.specs.Header.{lengthBad, countsBad, offsetsBad, kindBad, relationBad, moveBad, relation, move, sections}
+use Rattle.format.specs.Header.{lengthBad, countsBad, offsetsBad, parentBad, kindBad, relationBad, moveBad, parent, relation, move, sections}
 use Rattle.format.specs.States.{cut, countBad, factRefused, facts, state}
 use Rattle.format.specs.Records.{objectsIn, stepsIn, lengthIn, headBad, object, stepRefused, step, objectsOf, trajectory, closed, body, recordAt}
 use Rattle.format.specs.LookOver.{stepTotal, allRecords, lookOverBy, lookOver}
@@ -28,5 +28,5 @@ use Rattle.jobs.specs.Cases.{cases, AllRight}
 use Rattle.jobs.proofs.LongBook.{long-right, longer-right}
 
 pub cases-right : AllRight cases
-unfolding _>>=_ refuse number place walk byteAt two sectionsOf outOfRange relationAt moveAt schema typedObjects kindSuits objectBad factAt factBad precedes noFact factNumber objectOf stepAt argumentBad stepBad samePair repeats atomRelation atomFirst atomSecond parameterFills isAtom placed ground lengthBad countsBad offsetsBad kindBad relationBad moveBad relation move sections cut countBad factRefused facts state objectsIn stepsIn lengthIn headBad object stepRefused step objectsOf trajectory closed body recordAt stepTotal allRecords lookOverBy lookOver factsAt stateAt stateEnd recordedStep recordedStepsAt stepsOfRecord stepsOfRecords recordedSteps objectCount startCount goalCount stepCount startAt goalAt stepsAt orderCountsBad orderOffsetsBad orderHeaderBad orderObjects orderObject entryBad entries planStepBad planStep fromGoal fromStart orderForm startFacts entryAt goalFrom goal planFrom plan maskOf same below any has later first least image inapplicable next run wrong saw before after turned learned unboundEffect conflicting domain holding groundAction transition goalEntry schemaOf stepsOfBook transitionsOf startState planOf goalOf unboundEffects conflictAnswer conflictingMove learnable ruleRow ruleRows learnedFrom ruleSheet learn kept learnBytes planRun orderRun goalAnswer runAnswer check endSheet checkBytes twoBytes added add addBytes digits decimal refusedLine needLetter effectLetter paramShown atomFront atomLine lineIfAtom atomLines moveLines countsLine rulesLines rulesPrinted planLine planPrinted
-cases-right = (refl, (refl, (refl, (refl, (refl, (refl, (refl, (refl, (refl, (refl, (refl, (refl, (refl, (refl, (refl, (refl, (refl, (refl, (refl, (refl, (long-right, (longer-right, tt))))))))))))))))))))))
+unfolding _>>=_ refuse number place walk byteAt two sectionsOf outOfRange parentAt relationAt moveAt schema typedObjects suitsWithin kindSuits objectBad factAt factBad precedes noFact factNumber objectOf stepAt argumentBad stepBad samePair repeats atomRelation atomFirst atomSecond parameterFills isAtom placed ground lengthBad countsBad offsetsBad parentBad kindBad relationBad moveBad parent relation move sections cut countBad factRefused facts state objectsIn stepsIn lengthIn headBad object stepRefused step objectsOf trajectory closed body recordAt stepTotal allRecords lookOverBy lookOver factsAt stateAt stateEnd recordedStep recordedStepsAt stepsOfRecord stepsOfRecords recordedSteps objectCount startCount goalCount stepCount startAt goalAt stepsAt orderCountsBad orderOffsetsBad orderHeaderBad orderObjects orderObject entryBad entries planStepBad planStep fromGoal fromStart orderForm startFacts entryAt goalFrom goal planFrom plan maskOf same below any has later first least image inapplicable next run wrong saw before after turned learned unboundEffect conflicting domain holding groundAction transition goalEntry schemaOf stepsOfBook transitionsOf startState planOf goalOf unboundEffects conflictAnswer conflictingMove learnable ruleRow ruleRows learnedFrom ruleSheet learn kept learnBytes planRun orderRun goalAnswer runAnswer check endSheet checkBytes twoBytes added add addBytes digits decimal refusedLine needLetter effectLetter paramShown atomFront atomLine lineIfAtom atomLines moveLines countsLine rulesLines rulesPrinted planLine planPrinted
+cases-right = (refl, (refl, (refl, (refl, (refl, (refl, (refl, (refl, (refl, (refl, (refl, (refl, (refl, (refl, (refl, (refl, (refl, (refl, (refl, (refl, (long-right, (longer-right, (refl, (refl, (refl, (refl, (refl, (refl, (refl, (refl, (refl, (refl, (refl, (refl, (refl, (refl, (refl, (refl, (refl, (refl, tt))))))))))))))))))))))))))))))))))))))))

@@ -1,4 +1,4 @@
--- Laws of the definitions in specs/: the rule sheet of a model and what its bits say, in Sheet; the marked cases as one theorem, in Cases;
+-- Laws of the definitions in specs/: the rule sheet of a model and what its bits say, in Sheet; the cases as one theorem, in Cases;
 -- LongBook has the two cases that are not computed.
 pub mod Sheet
 pub mod LongBook

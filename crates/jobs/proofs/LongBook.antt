@@ -16,10 +16,12 @@ use Rattle.answer.specs.Walk.{walk}
 use Rattle.input.specs.Bytes.{byteAt, two}
 use Rattle.terms.specs.declared.Sections.{Sections}
 use Rattle.terms.specs.Sections.{sectionsOf}
-use Rattle.terms.specs.Schema.{outOfRange, relationAt, moveAt, schema, typedObjects, kindSuits, objectBad}
+use Rattle.terms.specs.Schema.{outOfRange, relationAt, moveAt, schema, typedObjects, suitsWithin, kindSuits, objectBad}
 use Rattle.terms.specs.Facts.{factAt, factBad, precedes, noFact}
 use Rattle.terms.specs.Steps.{objectOf, stepAt, argumentBad, stepBad, samePair, repeats}
+use Rattle.terms.specs.Typing.{Falling}
 use Rattle.terms.specs.Agree.{SameSchema}
+use Rattle.terms.proofs.Atoms.{parent-none}
 use Rattle.terms.proofs.Agree.{same-by-bytes}
 use Rattle.format.specs.Header.{lengthBad, countsBad, offsetsBad, kindBad, relationBad, moveBad, relation, move, sections}
 use Rattle.format.specs.States.{cut, countBad, factRefused, facts, state}
@@ -50,7 +52,7 @@ length-copies zero r = sym (mul-zero (length r))
 length-copies (suc n) r = length-append r (copies n r) ∙ rw (length-copies n r, mul-suc) (omega arith)
 
 -- a record that is good after x, and a book t whose schema says the same
-module _ (h k : Sections) (x r t : List ℕ) (kinds : h .kinds ≡ k .kinds) (same : SameSchema (schema h (x ++ (r ++ []))) (schema k t)) (good : recordAt h (x ++ (r ++ [])) (length x) ≡ Good (length x + length r)) where
+module _ (h k : Sections) (x r t : List ℕ) (kinds : h .kinds ≡ k .kinds) (same : SameSchema (schema h (x ++ (r ++ []))) (schema k t)) (fall : Falling (schema h (x ++ (r ++ [])))) (good : recordAt h (x ++ (r ++ [])) (length x) ≡ Good (length x + length r)) where
   -- copies of it to the end of t are good, and each has its steps
   copies-good : (n : ℕ) (front : List ℕ) → t ≡ front ++ copies n r
       → (walk (recordAt k t) n (length front) ≡ Good (length t)) × (stepTotal t n (length front) ≡ stepsIn (x ++ (r ++ [])) (length x) * n)
@@ -62,7 +64,7 @@ module _ (h k : Sections) (x r t : List ℕ) (kinds : h .kinds ≡ k .kinds) (sa
       subst (λ (u : List ℕ). Copied s (length x) u (length front) (length r)) (sym e) (part-copied r x [] front (copies n r)) in
       let (ends, within) = record-within h s (length x) _ good in
       let one : recordAt k t (length front) ≡ Good (length (front ++ r)) =
-      record-copied c h k kinds same _ good (omega arith) ∙ ap Good (omega (arith, length-append front r)) in
+      record-copied c h k kinds same fall _ good (omega arith) ∙ ap Good (omega (arith, length-append front r)) in
       let (rest, total) = copies-good n (front ++ r) (e ∙ sym (append-assoc front r (copies n r))) in
       let limits = head-limits s (length x) (record-good h s (length x) _ good .head) in
       let (objects, steps, size) = head-copied c (length x) (length front) (record { low = omega arith; level = omega arith }) (omega arith) in
@@ -76,14 +78,21 @@ abbrev single : List ℕ
 single = longHeader 1 969 ++ (longSections ++ (longRecord ++ []))
 
 one-good : recordAt (sectionsOf single) single 32 ≡ Good 969
-unfolding _>>=_ refuse walk byteAt two sectionsOf outOfRange relationAt moveAt schema typedObjects kindSuits objectBad factAt factBad precedes noFact objectOf stepAt argumentBad stepBad samePair repeats cut countBad factRefused facts state objectsIn stepsIn lengthIn headBad object stepRefused step objectsOf trajectory closed body recordAt
+unfolding _>>=_ refuse walk byteAt two sectionsOf outOfRange relationAt moveAt schema typedObjects suitsWithin kindSuits objectBad factAt factBad precedes noFact objectOf stepAt argumentBad stepBad samePair repeats cut countBad factRefused facts state objectsIn stepsIn lengthIn headBad object stepRefused step objectsOf trajectory closed body recordAt
 one-good = refl
+
+-- neither book has parents
+falling : Falling (schema (sectionsOf single) single)
+unfolding sectionsOf byteAt two schema
+falling = record { few = omega arith; smaller = λ k low high. rw (parent-none (sectionsOf single) single k _ refl (omega arith)) low }
 
 same-schema : SameSchema (schema (sectionsOf single) single) (schema (sectionsOf long) long)
 unfolding sectionsOf byteAt two
 same-schema =
     let c = part-copied longSections (longHeader 1 969) (longRecord ++ []) (longHeader 64 60000) (copies 64 longRecord) in
-    same-by-bytes (sectionsOf single) (sectionsOf long) single long refl refl
+    same-by-bytes (sectionsOf single) (sectionsOf long) single long
+    (λ k low high high′. parent-none (sectionsOf single) single k _ refl (omega arith) ∙ sym (parent-none (sectionsOf long) long k _ refl (omega arith)))
+    refl refl
     (λ i l. sym (c .bytes i (omega arith)))
     (λ i l. sym (byte-copied c (20 + i) (20 + i) (record { low = omega arith; level = refl }) (omega arith)))
 
@@ -95,13 +104,13 @@ long-length =
 long-sections : sections (sectionsOf long) long ≡ Good 32
 unfolding _>>=_ refuse walk byteAt two sectionsOf outOfRange countsBad offsetsBad kindBad relationBad moveBad relation move
 long-sections =
-    sections-in (sectionsOf long) long 20 32 (length-in long (omega (arith, long-length)) (omega (arith, long-length))) refl
-    (subst (λ (n : ℕ). offsetsBad (sectionsOf long) n ≡ false) (sym long-length) refl) refl refl
+    sections-in (sectionsOf long) long 16 20 32 (length-in long (omega (arith, long-length)) (omega (arith, long-length))) refl
+    (subst (λ (n : ℕ). offsetsBad (sectionsOf long) n ≡ false) (sym long-length) refl) refl refl refl
 
 long-good : lookOver long ≡ Good 192
 unfolding sectionsOf byteAt two stepsIn
 long-good =
-    let (records, total) = copies-good (sectionsOf single) (sectionsOf long) (longHeader 1 969 ++ longSections) longRecord long refl same-schema one-good 64 (longHeader 64 60000 ++ longSections) refl in
+    let (records, total) = copies-good (sectionsOf single) (sectionsOf long) (longHeader 1 969 ++ longSections) longRecord long refl same-schema falling one-good 64 (longHeader 64 60000 ++ longSections) refl in
     look-over-in long 32 long-sections records ∙ ap Good total
 
 -- ---- as cases

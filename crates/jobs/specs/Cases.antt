@@ -1,15 +1,16 @@
--- The marked cases M1 to M10 of the paper and its limits, as one list of what the definitions give and what the paper says.
+-- The marked cases M1 to M10 of the paper and its limits, and cases of kinds under kinds, as one list of what the definitions give and what
+-- the paper says.
 -- proofs/Cases.antt has the one theorem that covers it.
 use Prim.Native.Nat.{ℕ, zero, suc, _+_, _/_, _%_}
 use mathlib.Core.Path.{_≡_}
 use mathlib.Core.Bool.{cond}
 use mathlib.Core.List.{List, [], _∷_, _++_, map}
-use lib.ListN.{take, replicate}
+use lib.ListN.{length, take, replicate}
 use Rattle.limits.specs.Limits.{ruleSize, endSheetSize}
 use Rattle.answer.specs.declared.Answer.{Answer}
 use Rattle.answer.specs.Answer.{number, place}
 use Rattle.format.specs.LookOver.{lookOver}
-use Rattle.jobs.specs.Learn.{learn}
+use Rattle.jobs.specs.Learn.{learn, learnBytes}
 use Rattle.jobs.specs.Check.{orderRun, check, checkBytes}
 use Rattle.jobs.specs.Listing.{rulesPrinted}
 use Rattle.model.specs.Model.{Run, stopped, ended}
@@ -49,13 +50,16 @@ book9 =
 
 -- The orders have bank 1 and spots 2, 3, 4, the bank at 2, spots 3 and 4 clear, if not said otherwise.
 
--- roll 1 2 3, roll 1 3 4; goal bank at 4
-abbrev order2 : List ℕ
-order2 =
+-- roll 1 2 3, roll 1 3 4; goal object 1 at 4. It is told the kind of object 1
+abbrev rollsOf : ℕ → List ℕ
+rollsOf kind =
     0x00 ∷ 0x04 ∷ 0x00 ∷ 0x03 ∷ 0x00 ∷ 0x01 ∷ 0x00 ∷ 0x02 ∷ 0x00 ∷ 0x10 ∷ 0x00 ∷ 0x14
-    ∷ 0x00 ∷ 0x1d ∷ 0x00 ∷ 0x21 ∷ 0x01 ∷ 0x02 ∷ 0x02 ∷ 0x02 ∷ 0x01 ∷ 0x01 ∷ 0x02 ∷ 0x02
+    ∷ 0x00 ∷ 0x1d ∷ 0x00 ∷ 0x21 ∷ kind ∷ 0x02 ∷ 0x02 ∷ 0x02 ∷ 0x01 ∷ 0x01 ∷ 0x02 ∷ 0x02
     ∷ 0x03 ∷ 0x00 ∷ 0x02 ∷ 0x04 ∷ 0x00 ∷ 0x01 ∷ 0x01 ∷ 0x01 ∷ 0x04 ∷ 0x01 ∷ 0x01 ∷ 0x02
     ∷ 0x03 ∷ 0x00 ∷ 0x01 ∷ 0x01 ∷ 0x03 ∷ 0x04 ∷ 0x00 ∷ []
+
+abbrev order2 : List ℕ
+order2 = rollsOf 1
 
 -- the same, with spot 2 also clear at the start
 abbrev order3 : List ℕ
@@ -168,8 +172,52 @@ copies (suc n) r = r ++ copies n r
 abbrev pub long : List ℕ
 long = longHeader 64 60000 ++ (longSections ++ copies 64 longRecord)
 
-abbrev pub cases : List Case
-cases =
+-- The small hall with parents between header and relations: the count of kinds, the parents, the kind that the roll's first parameter names,
+-- and the kind of the object that the record rolls. Kind 3 is a wagon.
+abbrev under : ℕ → List ℕ → ℕ → ℕ → List ℕ
+under kinds parents named kind =
+    (0x00 ∷ kinds ∷ 0x00 ∷ 0x02 ∷ 0x00 ∷ 0x01 ∷ 0x00 ∷ 0x01 ∷ 0x00 ∷ (0x10 + length parents) ∷ 0x00 ∷ (0x18 + length parents)
+    ∷ 0x00 ∷ (0x1e + length parents) ∷ 0x00 ∷ (0x3a + length parents) ∷ [])
+    ++ parents
+    ++ (0x02 ∷ 0x01 ∷ 0x02 ∷ 0x00 ∷ 0x01 ∷ 0x02 ∷ 0x00 ∷ 0x00 ∷ 0x03 ∷ named ∷ 0x02 ∷ 0x02 ∷ 0x00 ∷ 0x00 ∷ [])
+    ++ (0x03 ∷ 0x01 ∷ 0x00 ∷ 0x1c ∷ kind ∷ 0x02 ∷ 0x02 ∷ 0x00 ∷ 0x02 ∷ 0x01 ∷ 0x01 ∷ 0x02 ∷ 0x02 ∷ 0x03 ∷ 0x00
+    ∷ 0x01 ∷ 0x01 ∷ 0x02 ∷ 0x03 ∷ 0x00 ∷ 0x00 ∷ 0x02 ∷ 0x01 ∷ 0x01 ∷ 0x03 ∷ 0x02 ∷ 0x02 ∷ 0x00 ∷ [])
+
+-- a wagon is a bank; and a kind below the wagon is one too
+abbrev wagons : List ℕ
+wagons = under 3 (0 ∷ 0 ∷ 1 ∷ []) 1 3
+
+abbrev belowWagons : List ℕ
+belowWagons = under 4 (0 ∷ 0 ∷ 1 ∷ 3 ∷ []) 1 4
+
+-- a wagon is a bank, and relation 3 says of a wagon that it is coupled: object 1 is when the roll begins, and the book is told what the last
+-- state says of it, and the kind of object 1
+abbrev coupled : ℕ → List ℕ → List ℕ
+coupled kind last =
+    (0x00 ∷ 0x03 ∷ 0x00 ∷ 0x03 ∷ 0x00 ∷ 0x01 ∷ 0x00 ∷ 0x01 ∷ 0x00 ∷ 0x13 ∷ 0x00 ∷ 0x1f ∷ 0x00 ∷ 0x25 ∷ 0x00 ∷ (0x44 + length last) ∷ [])
+    ++ (0x00 ∷ 0x00 ∷ 0x01 ∷ [])
+    ++ (0x02 ∷ 0x01 ∷ 0x02 ∷ 0x00 ∷ 0x01 ∷ 0x02 ∷ 0x00 ∷ 0x00 ∷ 0x01 ∷ 0x03 ∷ 0x00 ∷ 0x00 ∷ 0x03 ∷ 0x01 ∷ 0x02 ∷ 0x02 ∷ 0x00 ∷ 0x00 ∷ [])
+    ++ (0x03 ∷ 0x01 ∷ 0x00 ∷ (0x1f + length last) ∷ kind ∷ 0x02 ∷ 0x02 ∷ 0x00 ∷ 0x03 ∷ 0x01 ∷ 0x01 ∷ 0x02 ∷ 0x02 ∷ 0x03 ∷ 0x00
+    ∷ 0x03 ∷ 0x01 ∷ 0x00 ∷ 0x01 ∷ 0x01 ∷ 0x02 ∷ 0x03 ∷ 0x00 ∷ 0x00 ∷ (0x02 + length last / 3) ∷ 0x01 ∷ 0x01 ∷ 0x03 ∷ 0x02 ∷ 0x02 ∷ 0x00 ∷ [])
+    ++ last
+
+-- object 1 is coupled
+abbrev isCoupled : List ℕ
+isCoupled = 0x03 ∷ 0x01 ∷ 0x00 ∷ []
+
+-- M1 as a rule sheet, and an output lent for it
+abbrev rules : List ℕ
+rules =
+    (0x02 ∷ 0x00 ∷ 0x00 ∷ 0x01 ∷ replicate 28 0)
+    ++ (0x04 ∷ 0x00 ∷ 0x10 ∷ 0x00 ∷ replicate 28 0)
+    ++ (0x04 ∷ 0x00 ∷ 0x10 ∷ 0x00 ∷ replicate 28 0)
+    ++ (0x02 ∷ 0x00 ∷ 0x00 ∷ 0x01 ∷ replicate 28 0)
+
+abbrev lentRules : List ℕ
+lentRules = replicate ruleSize 0xff
+
+abbrev marked : List Case
+marked =
     record { gives = rulesPrinted book; wanted = printed }
     ∷ record { gives = said (check book order2 endSheetSize); wanted = 0 ∷ 2 ∷ [] }
     ∷ record { gives = valuesAt (orderRun book order2) (1 ∷ 2 ∷ 3 ∷ 272 ∷ 288 ∷ 304 ∷ []); wanted = 0 ∷ 0 ∷ 1 ∷ 1 ∷ 1 ∷ 0 ∷ [] }
@@ -193,6 +241,34 @@ cases =
     ∷ record { gives = said (lookOver long); wanted = 0 ∷ 192 ∷ [] }
     ∷ record { gives = said (lookOver (long ++ (0 ∷ []))); wanted = 1 ∷ 0 ∷ [] }
     ∷ []
+
+-- kinds under kinds: parents of 0 change nothing; a wagon rolls as a bank does, and only if it lies below one; a move over wagons has bound
+-- facts over banks, and no bank makes it; a fact of wagons alone is no bank's, and no bound fact of a roll of banks: a roll may not change it
+-- and does not need it; then a parent as large as its kind, and an offset that has no room for the parents
+abbrev kindsUnder : List Case
+kindsUnder =
+    record { gives = learnBytes book lentRules; wanted = rules }
+    ∷ record { gives = learnBytes (under 2 (0 ∷ 0 ∷ []) 1 1) lentRules; wanted = rules }
+    ∷ record { gives = learnBytes wagons lentRules; wanted = rules }
+    ∷ record { gives = rulesPrinted wagons; wanted = printed }
+    ∷ record { gives = said (check wagons (rollsOf 3) endSheetSize); wanted = 0 ∷ 2 ∷ [] }
+    ∷ record { gives = said (check wagons (rollsOf 1) endSheetSize); wanted = 0 ∷ 2 ∷ [] }
+    ∷ record { gives = rulesPrinted belowWagons; wanted = printed }
+    ∷ record { gives = said (check belowWagons (rollsOf 4) endSheetSize); wanted = 0 ∷ 2 ∷ [] }
+    ∷ record { gives = said (lookOver (under 3 (0 ∷ 0 ∷ 0 ∷ []) 1 3)); wanted = 8 ∷ 42 ∷ [] }
+    ∷ record { gives = rulesPrinted (under 3 (0 ∷ 0 ∷ 1 ∷ []) 3 3); wanted = printed }
+    ∷ record { gives = said (check (under 3 (0 ∷ 0 ∷ 1 ∷ []) 3 3) (rollsOf 1) endSheetSize); wanted = 18 ∷ 33 ∷ [] }
+    ∷ record { gives = said (lookOver (coupled 1 isCoupled)); wanted = 8 ∷ 52 ∷ [] }
+    ∷ record { gives = said (lookOver (coupled 3 [])); wanted = 0 ∷ 1 ∷ [] }
+    ∷ record { gives = said (learn (coupled 3 []) ruleSize); wanted = 11 ∷ 55 ∷ [] }
+    ∷ record { gives = rulesPrinted (coupled 3 isCoupled); wanted = printed }
+    ∷ record { gives = said (check (coupled 3 isCoupled) (rollsOf 3) endSheetSize); wanted = 0 ∷ 2 ∷ [] }
+    ∷ record { gives = said (lookOver (under 2 (0 ∷ 2 ∷ []) 1 1)); wanted = 21 ∷ 17 ∷ [] }
+    ∷ record { gives = said (lookOver (under 2 (0 ∷ []) 1 1)); wanted = 3 ∷ 0 ∷ [] }
+    ∷ []
+
+abbrev pub cases : List Case
+cases = marked ++ kindsUnder
 
 abbrev pub AllRight : List Case → Type 0
 AllRight [] = Unit {0}

@@ -59,11 +59,11 @@ module _ (s : List ℕ) (h : Sections) (own : h ≡ sectionsOf s) where
 
   -- what is observed after all records of a book
   pub all-observed : (first bytes : List ℕ) (w : Walked) (m : ℕ)
-      → first ≡ nothingSeen .masks
+      → first ≡ nothingSeen (schema h s) .masks
       → RecordsScanned h s (h .records .count) (h .records .at) true (record { masks = first; named = 0 }) bytes w
       → w .answer ≡ Good m
       → IsObserved (observedOf s) bytes (w .named)
-  unfolding observedOf stepsOfBook recordedSteps nothingSeen
+  unfolding observedOf schemaOf stepsOfBook recordedSteps nothingSeen
   all-observed first bytes w m e r f = rw (e, own) at (r .observes refl m f)
 
   -- the records by the header that was read
@@ -76,7 +76,7 @@ module _ (s : List ℕ) (h : Sections) (own : h ≡ sectionsOf s) where
       → a ≡ sections h s
       → b ≡ isRefused a
       → b ≡ false
-      → first ≡ nothingSeen .masks
+      → first ≡ nothingSeen (schema h s) .masks
       → RecordsScanned h s (h .records .count) (h .records .at) true (record { masks = first; named = 0 }) bytes w
       → FormObserved s bytes w
   at-records first bytes w a b p q r e n =
@@ -125,10 +125,10 @@ module _ (s bytes : List ℕ) (w : Walked) (form : FormObserved s bytes w) (b : 
       at-unbound t = refused-book s bytes c b₂ told₂ t (part-stays _ conflicting c b₂ row11 told₂ t ∙ sym rest)
 
       module _ (left₂ : b₂ ≡ false) (h : Sections) (own : h ≡ sectionsOf s) (d : Answer) (b₃ : Bool)
-          (e₃ : d ≡ conflictAmong (schema h s) bytes (h .moves .count)) (told₃ : b₃ ≡ isRefused d) where
+          (e₃ : d ≡ conflictAmong bytes (h .moves .count)) (told₃ : b₃ ≡ isRefused d) where
         row12 : d ≡ conflictingMove (schemaOf s) (transitionsOf s)
         unfolding observedOf transitionsOf
-        row12 = e₃ ∙ rw (schema-own s h own, moves-own s h own, observes .masks) (observed-right s _ formed .row12)
+        row12 = e₃ ∙ rw (moves-own s h own, observes .masks) (observed-right s _ formed .row12)
 
         behind : (conflictingMove (schemaOf s) (transitionsOf s) >>= λ _. Good total) ≡ learnable s
         unfolding conflicting
@@ -168,11 +168,11 @@ module _ (s old : List ℕ) (m : ℕ) (good : learnable s ≡ Good m) where
 
 -- the sheet from what is observed
 pub sheet-by : (s : List ℕ) (m : ℕ) (h : Sections) (bytes new : List ℕ) → h ≡ sectionsOf s → learnable s ≡ Good m → bytes ≡ observedOf s .masks
-    → new ≡ sheetObserved (schema h s) bytes (h .moves .count) 1 → new ≡ ruleSheet s
+    → new ≡ sheetObserved bytes (h .moves .count) 1 → new ≡ ruleSheet s
 unfolding observedOf learnable transitionsOf learnedFrom ruleSheet
 sheet-by s m h bytes new own good e f =
     let p = parted (lookOver s) m _ good in
-    f ∙ rw (schema-own s h own, moves-own s h own, e) (observed-right s (p .0) (p .1) .sheet)
+    f ∙ rw (moves-own s h own, e) (observed-right s (p .0) (p .1) .sheet)
 
 -- a book that learns is of good form
 pub form-good : (s : List ℕ) (m : ℕ) → learnable s ≡ Good m → (n : ℕ) × (lookOver s ≡ Good n)

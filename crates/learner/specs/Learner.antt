@@ -8,13 +8,13 @@ use Rattle.answer.specs.declared.Answer.the-variants.{Good}
 use Rattle.format.specs.LookOver.{lookOver}
 use Rattle.observed.specs.Observed.{Observed, observeAll, nothingSeen}
 use Rattle.notes.specs.Notes.{IsObserved}
-use Rattle.jobs.specs.Planning.{stepsOfBook}
+use Rattle.jobs.specs.Planning.{schemaOf, stepsOfBook}
 use Rattle.jobs.specs.Learn.{learnable, learn, learnBytes}
 use Rattle.scan.specs.declared.Walked.{Walked}
 
 -- what is observed after all steps of a book
 unfoldable pub observedOf : List ℕ → Observed
-observedOf s = observeAll (stepsOfBook s) nothingSeen
+observedOf s = observeAll (stepsOfBook s) (nothingSeen (schemaOf s))
 
 -- rows 1 to 10, and what is observed where they are good
 pub record FormObserved (s bytes : List ℕ) (w : Walked) : Type 0 where

@@ -5,14 +5,14 @@ use answer::Answer;
 use scan::Walked;
 use terms::Sections;
 ghost use mathlib.Core.Path.{_≡_};
-ghost use lib.ListN.{length};
 ghost use Rattle.limits.specs.Limits.{observedSize};
+ghost use Rattle.mask.specs.Sets.{empty};
 ghost use Rattle.learner.specs.Learner.{FormObserved, BookObserved, LearnOutcome};
 ghost use Rattle.terms.specs.Sections.{sectionsOf};
 
 // Rows 1 to 10: the book looked over and observed in one walk.
 fn observe_form(s: &[u8], h: Sections, observed: &mut [u8]) -> Walked
-    requires { ⌜ (h ≡ sectionsOf (now s)) × (length (now observed) ≡ observedSize) ⌝ }
+    requires { ⌜ (h ≡ sectionsOf (now s)) × (now observed ≡ empty observedSize) ⌝ }
     ensures { λ r. ⌜ FormObserved (now (s .entry)) (now (observed .exit)) r ⌝ }
 {
     let a = sections::sections(s, h);
@@ -22,7 +22,7 @@ fn observe_form(s: &[u8], h: Sections, observed: &mut [u8]) -> Walked
             named: 0,
         };
     }
-    notes::nothing_seen(observed);
+    notes::nothing_seen(s, h, observed);
     scan::records(
         s,
         h.records.count as usize,
@@ -34,7 +34,7 @@ fn observe_form(s: &[u8], h: Sections, observed: &mut [u8]) -> Walked
 
 // Rows 1 to 12: then what rows 11 and 12 say of what is observed.
 pub fn observe_book(s: &[u8], h: Sections, observed: &mut [u8]) -> Answer
-    requires { ⌜ (h ≡ sectionsOf (now s)) × (length (now observed) ≡ observedSize) ⌝ }
+    requires { ⌜ (h ≡ sectionsOf (now s)) × (now observed ≡ empty observedSize) ⌝ }
     ensures { λ r. ⌜ BookObserved (now (s .entry)) (now (observed .exit)) r ⌝ }
 {
     let w = observe_form(s, h, observed);
@@ -46,7 +46,7 @@ pub fn observe_book(s: &[u8], h: Sections, observed: &mut [u8]) -> Answer
     if answer::is_refused(b) {
         return b;
     }
-    let c = conflicts::conflict_among(s, h, observed);
+    let c = conflicts::conflict_among(h.moves.count, observed);
     if answer::is_refused(c) {
         return c;
     }
@@ -66,6 +66,6 @@ pub fn learn(s: &[u8], sheet: &mut [u8]) -> Answer
     if sheet.len() != limits::RULE_SIZE * h.moves.count as usize {
         return Answer::Refused(13, 0);
     }
-    rulesheet::write_sheet(s, h, &observed, sheet);
+    rulesheet::write_sheet(h.moves.count, &observed, sheet);
     a
 }

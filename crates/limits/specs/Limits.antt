@@ -86,15 +86,15 @@ sheetMax = 4096
 
 -- ---- what the learner has observed
 
--- six sets of bound facts for each move, in bytes
+-- seven sets of bound facts for each move, in bytes
 abbrev pub observedSets : ℕ
-observedSets = 6
+observedSets = 7
 
 abbrev pub observedPerMove : ℕ
-observedPerMove = 192
+observedPerMove = 224
 
 abbrev pub observedSize : ℕ
-observedSize = 6144
+observedSize = 7168
 
 -- ---- the numbers of bound facts and of facts: each is below the greatest, and a relation has so many
 

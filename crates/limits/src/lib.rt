@@ -62,8 +62,8 @@ pub const SHEET_MAX: usize = 32 * RULE_SIZE;
 
 // ---- what the learner has observed
 
-// Six sets of bound facts for each move, in bytes.
-pub const OBSERVED_SETS: usize = 6;
+// Seven sets of bound facts for each move, in bytes.
+pub const OBSERVED_SETS: usize = 7;
 
 pub const OBSERVED_PER_MOVE: usize = OBSERVED_SETS * SET_SIZE;
 

@@ -6,6 +6,9 @@ use mathlib.Core.List.{List, _++_, append-nil}
 use Rattle.terms.specs.declared.Sections.{Sections}
 use Rattle.terms.specs.Schema.{Schema, schema}
 use Rattle.terms.specs.Steps.{isAtom}
+use Rattle.mask.specs.Bits.{testBit}
+use Rattle.mask.proofs.Whole.{test-maskOf}
+use Rattle.atoms.specs.Atoms.{atomSet}
 use Rattle.jobs.specs.Planning.{schemaOf}
 use Rattle.jobs.specs.Learn.{learnedFrom, ruleSheet}
 use Rattle.jobs.specs.SheetBits.{modelOn}
@@ -28,6 +31,11 @@ module _ (s : List ℕ) (h : Sections) (sheet : List ℕ) (l : SheetOf s h sheet
   line-shown : (a n : ℕ) → 1 ≤ a → a ≤ h .moves .count → n < 256 → atomLine (schema h s) (modelOn sheet) a n ≡ atomLine (schemaOf s) (learnedFrom s) a n
   unfolding schemaOf schema
   line-shown a n p q k = rw (l .own, l .bytes) (line-learned s (schemaOf s) a n p (rw (l .own) at q) k)
+
+  -- what the set of the move's bound facts says of a number
+  pub told : (a n : ℕ) (atoms : List ℕ) (b : Bool) → n < 256 → atoms ≡ atomSet (schema h s) a → b ≡ testBit atoms n → b ≡ isAtom (schema h s) a n
+  unfolding atomSet
+  told a n atoms b k e f = f ∙ ap (λ (m : List ℕ). testBit m n) e ∙ test-maskOf 32 (isAtom (schema h s) a) n k
 
   -- a number's line is there or not, by what the test says
   module _ (text : List ℕ) (a n : ℕ) (b : Bool) (e : b ≡ isAtom (schema h s) a n) where

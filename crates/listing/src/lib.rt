@@ -1,6 +1,6 @@
 // What the program `rules` prints of a book, put into a buffer that the caller lends: the first line and, by move and then number, the
 // line of every bound fact; or the refused line. The whole is proved to be jobs' rulesPrinted.
-// Uses learner for the sheet, atoms for what is a bound fact, lines for each line, answer, terms and limits.
+// Uses learner for the sheet, atoms for the bound facts of a move, mask for a set, lines for each line, answer, terms and limits.
 ghost use mathlib.Core.Path.{_≡_};
 ghost use mathlib.Core.List.{_++_};
 ghost use Prim.Native.Nat.{_+_, _*_, _≤_, _<_};
@@ -9,6 +9,8 @@ ghost use Rattle.io.specs.Counts.{Counts};
 ghost use Rattle.answer.specs.declared.Answer.the-variants.{Good};
 ghost use Rattle.limits.specs.Limits.{maxMoves, ruleSize, sheetMax, maxAtoms, atomsPerRelation};
 ghost use Rattle.terms.specs.Sections.{sectionsOf};
+ghost use Rattle.terms.specs.Schema.{schema};
+ghost use Rattle.atoms.specs.Atoms.{atomSet};
 ghost use Rattle.jobs.specs.Planning.{schemaOf};
 ghost use Rattle.jobs.specs.Learn.{learnedFrom};
 ghost use Rattle.jobs.specs.Listing.{lineIfAtom, atomLines, moveLines, rulesLines, rulesPrinted};
@@ -30,21 +32,22 @@ pub const ROOM: usize = LINE_ROOM
 
 // ---- the lines of a move, and of all moves
 
-// The line of a number, none where it is no bound fact of the move.
+// The line of a number, none where it is not in the set of the move's bound facts.
 fn line_if_atom(
     book: &[u8],
     h: Sections,
     sheet: &[u8],
+    atoms: &[u8],
     m: Move,
     n: usize,
     out: &mut [u8],
     at: usize,
 ) -> usize
-    requires { ⌜ SheetOf (now book) h (now sheet) × (1 ≤ m .0) × (m .0 ≤ h .moves .count) × (n < maxAtoms) × (at + lineRoom ≤ length (now out)) ⌝ }
+    requires { ⌜ SheetOf (now book) h (now sheet) × (1 ≤ m .0) × (m .0 ≤ h .moves .count) × (n < maxAtoms) × (at + lineRoom ≤ length (now out)) × (now atoms ≡ atomSet (schema h (now book)) (m .0)) ⌝ }
     ensures { λ r. ⌜ (r ≤ at + lineSize) × Counts r (now (out .exit)) ⌝ }
     ensures { λ r. ⌜ take r (now (out .exit)) ≡ take at (now (out .entry)) ++ lineIfAtom (schemaOf (now (book .entry))) (learnedFrom (now (book .entry))) (m .0) n ⌝ }
 {
-    if atoms::is_atom(book, h, m, n) {
+    if mask::test_bit(atoms, n) {
         return lines::atom_line(book, h, sheet, m, n, out, at);
     }
     at
@@ -56,9 +59,10 @@ fn atom_lines(book: &[u8], h: Sections, sheet: &[u8], m: Move, out: &mut [u8], f
     ensures { λ r. ⌜ take r (now (out .exit)) ≡ take from (now (out .entry)) ++ atomLines (schemaOf (now (book .entry))) (learnedFrom (now (book .entry))) (m .0) (atomsPerRelation * h .relations .count) 0 ⌝ }
 {
     let end = limits::ATOMS_PER_RELATION * h.relations.count as usize;
+    let atoms = atoms::atom_set(book, h, m);
     let mut at = from;
     for n in 0..end {
-        at = line_if_atom(book, h, sheet, m, n, out, at);
+        at = line_if_atom(book, h, sheet, &atoms, m, n, out, at);
     }
     at
 }

@@ -5,19 +5,19 @@ use mathlib.Core.Bool.{Bool, true, false, cond, _&&_, _||_, not}
 use mathlib.Core.List.{List}
 use native.Mathlib.Decide.{ℕ-discrete}
 use native.Mathlib.Omega.{arith}
-use borrow.Author.Tests.{eq-eqb, ne-eqb, leb-true, leb-false}
+use borrow.Author.Tests.{eq-eqb, ne-eqb, leb-true, leb-false, le-leb, lt-leb}
 use lib.Dec.{eqb, leb}
 use lib.ListN.{length, getD, set, length-set, length-replicate, getD-replicate}
-use lib.Seq.{getD-set-same, getD-set-other}
-use Rattle.truth.specs.Bools.{clash}
-use Rattle.mask.specs.Bits.{setBit}
+use lib.Seq.{getD-set-same, getD-set-other, ext-getD}
+use Rattle.truth.specs.Bools.{clash, is-true, is-false, and-out}
+use Rattle.mask.specs.Bits.{testBit, setBit}
 use Rattle.terms.specs.declared.Object.{Object}
 use Rattle.terms.specs.declared.Binding.{Binding}
 use Rattle.terms.specs.declared.Fact.{Fact}
 use Rattle.terms.specs.Steps.{objectOf}
 use Rattle.observed.specs.Inverse.{gives, paramOf, placeBound, factBound, atomOf, mark}
 use Rattle.observed.proofs.Params.{param-most}
-use Rattle.marks.specs.Marks.{digit, pairOf, noDigits, Inverts}
+use Rattle.marks.specs.Marks.{digit, placesOf, pairOf, markedAs, noDigits, Inverts}
 
 -- ---- the table
 
@@ -29,6 +29,9 @@ record Table (t : List ℕ) (f : ℕ → ℕ) : Type 0 where
 table-none : Table noDigits (λ x. 16)
 unfolding noDigits
 table-none = record { long = length-replicate {A = ℕ} 256 16; has = λ x h. getD-replicate {A = ℕ} 256 x 16 0 h }
+
+pub digits-long : (t : List ℕ) → t ≡ noDigits → length t ≡ 256
+digits-long t e = ap length e ∙ table-none .long
 
 put-at : (l : List ℕ) (i v x : ℕ) → x < length l → getD (set l i v) x 0 ≡ cond (eqb i x) v (getD l x 0)
 put-at l i v x h = go (ℕ-discrete i x)
@@ -93,21 +96,65 @@ inverts-by b o₁ o₂ o₃ o₄ t₀ t₁ t₂ t₃ t₄ t i₁ i₂ i₃ i₄ 
       gives = λ x h. w .has x h ∙ rw (i₁, i₂, i₃, i₄, eqb-flip 0 x) (sym (digit-is b (record { 0 = x })));
     }
 
+-- and taken out again
+pub restores-by : (b : Binding) (o₁ o₂ o₃ o₄ : Object) (t₀ t₁ t₂ t₃ t₄ t : List ℕ)
+    → o₁ ≡ objectOf b (record { 0 = 1 })
+    → o₂ ≡ objectOf b (record { 0 = 2 })
+    → o₃ ≡ objectOf b (record { 0 = 3 })
+    → o₄ ≡ objectOf b (record { 0 = 4 })
+    → Inverts b t₀
+    → t₁ ≡ set t₀ (o₄ .0) 16
+    → t₂ ≡ set t₁ (o₃ .0) 16
+    → t₃ ≡ set t₂ (o₂ .0) 16
+    → t₄ ≡ set t₃ (o₁ .0) 16
+    → t ≡ set t₄ 0 16
+    → t ≡ noDigits
+unfolding gives
+restores-by b o₁ o₂ o₃ o₄ t₀ t₁ t₂ t₃ t₄ t i₁ i₂ i₃ i₄ e₀ e₁ e₂ e₃ e₄ e =
+    let w₀ : Table t₀ (λ x. digit b (record { 0 = x })) = record { long = e₀ .long; has = e₀ .gives } in
+    let w₃ = table-put (table-put (table-put w₀ t₁ (o₄ .0) 16 e₁) t₂ (o₃ .0) 16 e₂) t₃ (o₂ .0) 16 e₃ in
+    let w = table-put (table-put w₃ t₄ (o₁ .0) 16 e₄) t 0 16 e in
+    ext-getD 0 t noDigits (w .long ∙ sym (table-none .long))
+    (λ x h.
+    let l : x < 256 = omega (arith, w .long) in
+    w .has x l ∙ rw (i₁, i₂, i₃, i₄, eqb-flip 0 x, digit-is b (record { 0 = x })) (none (eqb x 0) (gives b 1 (record { 0 = x })) (gives b 2 (record { 0 = x })) (gives b 3 (record { 0 = x })) (gives b 4 (record { 0 = x })))
+    ∙ sym (table-none .has x l))
+  where
+    none : (z g₁ g₂ g₃ g₄ : Bool)
+        → _≡_ {A = ℕ} (cond z 16 (cond g₁ 16 (cond g₂ 16 (cond g₃ 16 (cond g₄ 16 (cond z 0 (cond g₁ 0 (cond g₂ 1 (cond g₃ 2 (cond g₄ 3 16)))))))))) 16
+    none true g₁ g₂ g₃ g₄ = refl
+    none false true g₂ g₃ g₄ = refl
+    none false false true g₃ g₄ = refl
+    none false false false true g₄ = refl
+    none false false false false true = refl
+    none false false false false false = refl
+
 -- ---- a fact
-pub pair-by : (b : Binding) (f : Fact) (t : List ℕ) (m n : ℕ)
+pub places-by : (b : Binding) (f : Fact) (t : List ℕ) (m n : ℕ)
     → Inverts b t
     → m ≡ getD t (f .first .0) 0
     → n ≡ getD t (f .second .0) 0
     → f .first .0 < 256
     → f .second .0 < 256
-    → 4 * m + n ≡ pairOf b f
-unfolding pairOf
-pair-by b f t m n w d e h k = rw (d, e, w .gives (f .first .0) h, w .gives (f .second .0) k)
+    → 4 * m + n ≡ placesOf b f
+unfolding placesOf
+places-by b f t m n w d e h k = rw (d, e, w .gives (f .first .0) h, w .gives (f .second .0) k)
+
+pub as-unbound : (m : List ℕ) (f : Fact) (x : ℕ) → 16 ≤ x → m ≡ markedAs m f x
+unfolding markedAs
+as-unbound m f x h = rw (le-leb 16 x h)
+
+pub as-bound : (m : List ℕ) (f : Fact) (x n : ℕ) → x < 16 → n ≡ 16 * (f .relation .0 - 1) + x → setBit m n ≡ markedAs m f x
+unfolding markedAs
+as-bound m f x n h e = rw (lt-leb 16 x h, e)
 
 module _ (b : Binding) (f : Fact) where
-  -- the places of a bound fact
-  filled : factBound b f ≡ true → pairOf b f ≡ 4 * (paramOf b (f .first) - 1) + (paramOf b (f .second) - 1)
-  unfolding factBound pairOf digit
+  abbrev bothBound : Bool
+  bothBound = placeBound b (f .first) && placeBound b (f .second)
+
+  -- places that are both the binding's
+  filled : bothBound ≡ true → placesOf b f ≡ 4 * (paramOf b (f .first) - 1) + (paramOf b (f .second) - 1)
+  unfolding placesOf digit
   filled e = go (placeBound b (f .first)) (placeBound b (f .second)) e
     where
       go : (m n : Bool) → (m && n) ≡ true
@@ -116,8 +163,8 @@ module _ (b : Binding) (f : Fact) where
       go true false d = clash false d refl
       go false n d = clash false d refl
 
-  unfilled : factBound b f ≡ false → 16 ≤ pairOf b f
-  unfolding factBound pairOf digit
+  unfilled : bothBound ≡ false → 16 ≤ placesOf b f
+  unfolding placesOf digit
   unfilled e = go (placeBound b (f .first)) (placeBound b (f .second)) e
     where
       go : (m n : Bool) → (m && n) ≡ false → 16 ≤ 4 * cond m (paramOf b (f .first) - 1) 16 + cond n (paramOf b (f .second) - 1) 16
@@ -125,35 +172,70 @@ module _ (b : Binding) (f : Fact) where
       go true false d = omega arith
       go false n d = omega arith
 
-  module _ (x : ℕ) (is : x ≡ pairOf b f) where
-    pub place-bound : x < 16 → factBound b f ≡ true
-    place-bound h = go (factBound b f) refl
-      where
-        go : (t : Bool) → factBound b f ≡ t → t ≡ true
-        go true e = refl
-        go false e = absurd (omega (arith, unfilled e))
+  filled-less : bothBound ≡ true → placesOf b f < 16
+  filled-less e = omega (arith, filled e, param-most b (f .first), param-most b (f .second))
 
-    pub place-unbound : 16 ≤ x → factBound b f ≡ false
-    place-unbound h = go (factBound b f) refl
-      where
-        go : (t : Bool) → factBound b f ≡ t → t ≡ false
-        go true e = absurd (omega (arith, filled e, param-most b (f .first), param-most b (f .second)))
-        go false e = refl
+  -- the number of the bound fact
+  number-by : bothBound ≡ true → (x : ℕ) → x ≡ placesOf b f → (n : ℕ) → n ≡ 16 * (f .relation .0 - 1) + x → n ≡ atomOf b f
+  unfolding atomOf
+  number-by e x is n d = omega (arith, filled e)
 
-    pub pair-test : leb 16 x ≡ not (factBound b f)
-    pair-test = go (leb 16 x) refl
-      where
-        go : (t : Bool) → leb 16 x ≡ t → t ≡ not (factBound b f)
-        go true e = ap not (sym (place-unbound (leb-true 16 x e)))
-        go false e = ap not (sym (place-bound (leb-false 16 x e)))
+  module _ (atoms : List ℕ) where
+    -- ---- what `pair` returns, by its tests
+    module _ (x : ℕ) (is : x ≡ placesOf b f) where
+      pub pair-none : 16 ≤ x → 16 ≡ pairOf atoms b f
+      unfolding pairOf factBound
+      pair-none h = go bothBound refl
+        where
+          go : (t : Bool) → bothBound ≡ t → 16 ≡ cond (t && testBit atoms (atomOf b f)) (placesOf b f) 16
+          go true e = absurd (omega (arith, filled-less e))
+          go false e = refl
 
-    pub mark-unbound : (m : List ℕ) → 16 ≤ x → m ≡ mark b m f
-    unfolding mark
-    mark-unbound m h = rw (place-unbound h)
+      pub pair-some : x < 16 → (n : ℕ) → n ≡ 16 * (f .relation .0 - 1) + x → (t : Bool) → t ≡ testBit atoms n → cond t x 16 ≡ pairOf atoms b f
+      unfolding pairOf factBound
+      pair-some h n d t told = go bothBound refl
+        where
+          go : (u : Bool) → bothBound ≡ u → cond t x 16 ≡ cond (u && testBit atoms (atomOf b f)) (placesOf b f) 16
+          go true e =
+              let q = number-by e x is n d in
+              rw (← q, ← told, is)
+          go false e = absurd (omega (arith, unfilled e))
 
-    pub mark-bound : (m : List ℕ) (n : ℕ) → x < 16 → n ≡ 16 * (f .relation .0 - 1) + x → setBit m n ≡ mark b m f
-    unfolding mark atomOf
-    mark-bound m n h e =
-        let d = place-bound h in
-        let a : n ≡ 16 * (f .relation .0 - 1) + 4 * (paramOf b (f .first) - 1) + (paramOf b (f .second) - 1) = omega (arith, filled d) in
-        rw (d, a)
+    -- ---- what a pair says
+    bound-both : factBound atoms b f ≡ true → bothBound ≡ true
+    unfolding factBound
+    bound-both e = and-out bothBound _ e .0
+
+    module _ (x : ℕ) (is : x ≡ pairOf atoms b f) where
+      bound-less : factBound atoms b f ≡ true → (x ≡ placesOf b f) × (x < 16)
+      unfolding pairOf
+      bound-less e =
+          let p : x ≡ placesOf b f = is ∙ rw e in
+          (p, omega (arith, filled-less (bound-both e)))
+
+      unbound-is : factBound atoms b f ≡ false → x ≡ 16
+      unfolding pairOf
+      unbound-is e = is ∙ rw e
+
+      pub place-bound : x < 16 → factBound atoms b f ≡ true
+      place-bound h = is-true _ (λ e. omega (arith, unbound-is e))
+
+      pub place-unbound : 16 ≤ x → factBound atoms b f ≡ false
+      place-unbound h = is-false _ (λ e. omega (arith, bound-less e .1))
+
+      pub pair-test : leb 16 x ≡ not (factBound atoms b f)
+      pair-test = go (leb 16 x) refl
+        where
+          go : (t : Bool) → leb 16 x ≡ t → t ≡ not (factBound atoms b f)
+          go true e = ap not (sym (place-unbound (leb-true 16 x e)))
+          go false e = ap not (sym (place-bound (leb-false 16 x e)))
+
+      pub marked-as : (m : List ℕ) → markedAs m f x ≡ mark atoms b m f
+      unfolding markedAs mark
+      marked-as m = go (factBound atoms b f) refl
+        where
+          go : (t : Bool) → factBound atoms b f ≡ t → cond (leb 16 x) m (setBit m (16 * (f .relation .0 - 1) + x)) ≡ cond t (setBit m (atomOf b f)) m
+          go true e =
+              let (p, l) = bound-less e in
+              rw (lt-leb 16 x l, number-by (bound-both e) x p _ refl)
+          go false e = rw (le-leb 16 x (omega (arith, unbound-is e)))

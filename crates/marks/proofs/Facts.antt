@@ -14,10 +14,10 @@ use Rattle.terms.specs.declared.Fact.{Fact}
 use Rattle.terms.specs.Facts.{factAt}
 use Rattle.limits.specs.Limits.{factSize, nearCeiling}
 use Rattle.format.specs.Decode.{factsAt, stateAt, stateEnd}
-use Rattle.observed.specs.Inverse.{mark, marks, unbound, sameFacts, unboundChanged}
+use Rattle.observed.specs.Inverse.{marks, unbound, sameFacts, unboundChanged}
 use Rattle.marks.specs.declared.Cursor.{Cursor}
-use Rattle.marks.specs.Marks.{pairOf, rest, Ahead, next, Comes}
-use Rattle.marks.proofs.Atoms.{pair-test}
+use Rattle.marks.specs.Marks.{pairOf, markedAs, rest, Ahead, next, Comes}
+use Rattle.marks.proofs.Atoms.{pair-test, marked-as}
 use Rattle.marks.proofs.Unbound.{none-more}
 
 module _ (s : List ℕ) where
@@ -44,34 +44,34 @@ module _ (s : List ℕ) where
         less = omega arith;
       }
 
--- the cursor c with the set m, past the fact f that is marked
-abbrev pub Passes : Binding → Fact → Cursor → List ℕ → Cursor → List ℕ → Type 0
-Passes b f c m c′ m′ = (m′ ≡ mark b m f) × (c′ ≡ next c)
+-- the cursor c with the set m, past the fact f that is marked by its pair x
+abbrev pub Passes : Fact → ℕ → Cursor → List ℕ → Cursor → List ℕ → Type 0
+Passes f x c m c′ m′ = (m′ ≡ markedAs m f x) × (c′ ≡ next c)
 
-module _ (s : List ℕ) (b : Binding) where
+module _ (s atoms : List ℕ) (b : Binding) where
   -- what that leaves to come
   pub record Passed (f : Fact) (c : Cursor) (m : List ℕ) (c′ : Cursor) (m′ : List ℕ) : Type 0 where
     pub first : rest s c ≡ f ∷ rest s c′
     pub ahead : Ahead s c′
     pub less : c′ .left < c .left
-    pub marked : marks b m′ (rest s c′) ≡ marks b m (rest s c)
+    pub marked : marks atoms b m′ (rest s c′) ≡ marks atoms b m (rest s c)
 
-  pub passed-by : {f : Fact} {c c′ : Cursor} {m m′ : List ℕ} → Comes s c f → Passes b f c m c′ m′ → Passed f c m c′ m′
+  pub passed-by : {f : Fact} {x : ℕ} {c c′ : Cursor} {m m′ : List ℕ} → x ≡ pairOf atoms b f → Comes s c f → Passes f x c m c′ m′ → Passed f c m c′ m′
   unfolding marks
-  passed-by e p =
+  passed-by {f} {x} {c} {c′} {m} is e p =
       record {
         first = rw (p .1) (e .first);
         ahead = rw (p .1) (e .ahead);
         less = rw (p .1) (e .less);
-        marked = rw (p .0, p .1, e .first);
+        marked = rw (p .0, marked-as b f atoms x is m, p .1, e .first);
       }
 
   -- Where the loop stands: from c₀ on, marked up to c.
   pub record Marked (m₀ : List ℕ) (c₀ : Cursor) (m : List ℕ) (c : Cursor) (changed : Bool) : Type 0 where
     pub ahead : Ahead s c
     pub long : length m ≡ length m₀
-    pub marked : marks b m (rest s c) ≡ marks b m₀ (rest s c₀)
-    pub met : (changed || unboundChanged b [] (rest s c)) ≡ unboundChanged b [] (rest s c₀)
+    pub marked : marks atoms b m (rest s c) ≡ marks atoms b m₀ (rest s c₀)
+    pub met : (changed || unboundChanged atoms b [] (rest s c)) ≡ unboundChanged atoms b [] (rest s c₀)
 
   pub marked-none : (m : List ℕ) (c : Cursor) → Ahead s c → Marked m c m c false
   marked-none m c w = record { ahead = w; long = refl; marked = refl; met = refl }
@@ -79,24 +79,24 @@ module _ (s : List ℕ) (b : Binding) where
   module _ {m₀ : List ℕ} {c₀ : Cursor} {m : List ℕ} {c : Cursor} {changed : Bool} (w : Marked m₀ c₀ m c changed) where
     pub marked-next : (f : Fact) (x : ℕ) (m′ : List ℕ) (c′ : Cursor)
         → Comes s c f
-        → x ≡ pairOf b f
-        → Passes b f c m c′ m′
+        → x ≡ pairOf atoms b f
+        → Passes f x c m c′ m′
         → length m′ ≡ length m
         → Marked m₀ c₀ m′ c′ (changed || leb 16 x)
     marked-next f x m′ c′ e d p l =
-        let t = passed-by e p in
+        let t = passed-by d e p in
         record {
           ahead = t .ahead;
           long = l ∙ w .long;
           marked = t .marked ∙ w .marked;
           met =
-              or-assoc changed (leb 16 x) (unboundChanged b [] (rest s c′))
-              ∙ ap (λ (y : Bool). changed || y) (none-more b f (rest s c′) (leb 16 x) (pair-test b f x d) ∙ ap (unboundChanged b []) (sym (t .first)))
+              or-assoc changed (leb 16 x) (unboundChanged atoms b [] (rest s c′))
+              ∙ ap (λ (y : Bool). changed || y) (none-more atoms b f (rest s c′) (leb 16 x) (pair-test b f atoms x d) ∙ ap (unboundChanged atoms b []) (sym (t .first)))
               ∙ w .met;
         }
 
-    pub marked-all : c .left ≡ 0 → (m ≡ marks b m₀ (rest s c₀)) × (changed ≡ unboundChanged b [] (rest s c₀))
+    pub marked-all : c .left ≡ 0 → (m ≡ marks atoms b m₀ (rest s c₀)) × (changed ≡ unboundChanged atoms b [] (rest s c₀))
     unfolding marks unboundChanged unbound sameFacts
     marked-all e =
         let n = rest-none s c e in
-        (ap (marks b m) (sym n) ∙ w .marked, sym (or-false changed) ∙ ap (λ (fs : List Fact). changed || unboundChanged b [] fs) (sym n) ∙ w .met)
+        (ap (marks atoms b m) (sym n) ∙ w .marked, sym (or-false changed) ∙ ap (λ (fs : List Fact). changed || unboundChanged atoms b [] fs) (sym n) ∙ w .met)

@@ -26,68 +26,68 @@ both-left m n e =
     let d = and-out _ _ e in
     (ltb-true 0 m (d .0), ltb-true 0 n (d .1))
 
-module _ (s : List ℕ) (b : Binding) where
+module _ (s atoms : List ℕ) (b : Binding) where
   -- ---- one turn: f comes next before
   module _ (w : Walk) (f : Fact) (m n : List ℕ) (now-f : Comes s (w .pre) f) where
     -- a bound fact that does not come next after
-    pub turned-before : Ahead s (w .post) → (x : ℕ) → x ≡ pairOf b f → x < 16 → (p : Cursor) (m′ : List ℕ) → Passes b f (w .pre) m p m′
-        → Turned s b w m n (record { pre = p; post = w .post; changed = w .changed }) m′ n
+    pub turned-before : Ahead s (w .post) → (x : ℕ) → x ≡ pairOf atoms b f → x < 16 → (p : Cursor) (m′ : List ℕ) → Passes f x (w .pre) m p m′
+        → Turned s atoms b w m n (record { pre = p; post = w .post; changed = w .changed }) m′ n
     unfolding says
     turned-before a x is u p m′ d =
-        let i = passed-by s b now-f d in
+        let i = passed-by s atoms b is now-f d in
         record {
           ahead = i .ahead;
           aheadAfter = a;
           before = i .marked;
           after = refl;
-          same = ap (λ (y : Bool). w .changed || y) (rw (i .first) (sym (before-more b f (rest s p) (rest s (w .post)) (place-bound b f x is u))));
+          same = ap (λ (y : Bool). w .changed || y) (rw (i .first) (sym (before-more atoms b f (rest s p) (rest s (w .post)) (place-bound b f atoms x is u))));
           less = omega (arith, i .less);
         }
 
     -- g comes next after
     module _ (g : Fact) (now-g : Comes s (w .post) g) (t : Bool) (is-t : t ≡ sameFact f g) where
-      pub turned-both : t ≡ true
+      pub turned-both : (x : ℕ) → x ≡ pairOf atoms b f → t ≡ true
           → (p q : Cursor) (m′ n′ : List ℕ)
-          → Passes b f (w .pre) m p m′
-          → Passes b f (w .post) n q n′
-          → Turned s b w m n (record { pre = p; post = q; changed = w .changed }) m′ n′
+          → Passes f x (w .pre) m p m′
+          → Passes f x (w .post) n q n′
+          → Turned s atoms b w m n (record { pre = p; post = q; changed = w .changed }) m′ n′
       unfolding says
-      turned-both u p q m′ n′ d e =
+      turned-both x is u p q m′ n′ d e =
           let h : f ≡ g = same-fact f g (sym is-t ∙ u) in
           let k : sameFact f f ≡ true = ap (sameFact f) h ∙ sym is-t ∙ u in
-          let i = passed-by s b now-f d in
-          let j = passed-by s b (rw h now-g) e in
+          let i = passed-by s atoms b is now-f d in
+          let j = passed-by s atoms b is (rw h now-g) e in
           record {
             ahead = i .ahead;
             aheadAfter = j .ahead;
             before = i .marked;
             after = j .marked;
-            same = ap (λ (y : Bool). w .changed || y) (rw (i .first, j .first) (sym (both-more b f (rest s p) (rest s q) k)));
+            same = ap (λ (y : Bool). w .changed || y) (rw (i .first, j .first) (sym (both-more atoms b f (rest s p) (rest s q) k)));
             less = omega (arith, i .less, j .less);
           }
 
       -- f is no bound fact and differs, so g is a bound fact or a change
       pub turned-after : Ahead s (w .pre) → t ≡ false
           → (x y : ℕ)
-          → x ≡ pairOf b f
+          → x ≡ pairOf atoms b f
           → 16 ≤ x
-          → y ≡ pairOf b g
+          → y ≡ pairOf atoms b g
           → (q : Cursor) (n′ : List ℕ)
-          → Passes b g (w .post) n q n′
-          → Turned s b w m n (record { pre = w .pre; post = q; changed = w .changed || leb 16 y }) m n′
+          → Passes g y (w .post) n q n′
+          → Turned s atoms b w m n (record { pre = w .pre; post = q; changed = w .changed || leb 16 y }) m n′
       unfolding says
       turned-after a u x y is v is′ q n′ e =
-          let j = passed-by s b now-g e in
-          let h = place-unbound b f x is v in
+          let j = passed-by s atoms b is′ now-g e in
+          let h = place-unbound b f atoms x is v in
           record {
             ahead = a;
             aheadAfter = j .ahead;
             before = refl;
             after = j .marked;
             same =
-                or-assoc (w .changed) (leb 16 y) (unboundChanged b (rest s (w .pre)) (rest s q))
+                or-assoc (w .changed) (leb 16 y) (unboundChanged atoms b (rest s (w .pre)) (rest s q))
                 ∙ ap (λ (z : Bool). w .changed || z)
-                (rw (now-f .first, j .first) (changed-more b f _ g (rest s q) (leb 16 y) (sym is-t ∙ u) h (pair-test b g y is′)));
+                (rw (now-f .first, j .first) (changed-more atoms b f _ g (rest s q) (leb 16 y) (sym is-t ∙ u) h (pair-test b g atoms y is′)));
             less = omega (arith, j .less);
           }
 
@@ -95,16 +95,16 @@ module _ (s : List ℕ) (b : Binding) where
 
   -- at the end of one state, what is left of the other decides
   end-says : (p q : Cursor) → (ltb 0 (p .left) && ltb 0 (q .left)) ≡ false
-      → (unboundChanged b [] (rest s p) || unboundChanged b [] (rest s q)) ≡ unboundChanged b (rest s p) (rest s q)
+      → (unboundChanged atoms b [] (rest s p) || unboundChanged atoms b [] (rest s q)) ≡ unboundChanged atoms b (rest s p) (rest s q)
   unfolding unboundChanged unbound sameFacts
   end-says p q u = go (ltb 0 (p .left)) (ltb 0 (q .left)) refl refl u
     where
       go : (x y : Bool) → ltb 0 (p .left) ≡ x → ltb 0 (q .left) ≡ y → (x && y) ≡ false
-          → (unboundChanged b [] (rest s p) || unboundChanged b [] (rest s q)) ≡ unboundChanged b (rest s p) (rest s q)
+          → (unboundChanged atoms b [] (rest s p) || unboundChanged atoms b [] (rest s q)) ≡ unboundChanged atoms b (rest s p) (rest s q)
       go true true d e v = clash true refl v
       go true false d e v =
           let k : q .left ≡ 0 = omega (arith, ltb-false 0 (q .left) e) in
-          rw (rest-none s q k) (or-false (unboundChanged b [] (rest s p)) ∙ none-after b (rest s p))
+          rw (rest-none s q k) (or-false (unboundChanged atoms b [] (rest s p)) ∙ none-after atoms b (rest s p))
       go false y d e v =
           let k : p .left ≡ 0 = omega (arith, ltb-false 0 (p .left) d) in
           rw (rest-none s p k)
@@ -113,9 +113,9 @@ module _ (s : List ℕ) (b : Binding) where
   pub record Stands (pre post : List Fact) (w : Walk) (m n : List ℕ) : Type 0 where
     pub ahead : Ahead s (w .pre)
     pub aheadAfter : Ahead s (w .post)
-    pub before : marks b m (rest s (w .pre)) ≡ atomsIn b pre
-    pub after : marks b n (rest s (w .post)) ≡ atomsIn b post
-    pub same : says s b w ≡ unboundChanged b pre post
+    pub before : marks atoms b m (rest s (w .pre)) ≡ atomsIn atoms b pre
+    pub after : marks atoms b n (rest s (w .post)) ≡ atomsIn atoms b post
+    pub same : says s atoms b w ≡ unboundChanged atoms b pre post
 
   pub stands-first : (pre post : List Fact) (p q : Cursor) (m n : List ℕ)
       → (rest s p ≡ pre) × Ahead s p
@@ -128,7 +128,7 @@ module _ (s : List ℕ) (b : Binding) where
       record { ahead = d .1; aheadAfter = e .1; before = rw (i, d .0); after = rw (j, e .0); same = rw (d .0, e .0) }
 
   module _ {pre post : List Fact} {w : Walk} {m n : List ℕ} (i : Stands pre post w m n) where
-    pub stands-next : {v : Walk} {m′ n′ : List ℕ} → Turned s b w m n v m′ n′ → Stands pre post v m′ n′
+    pub stands-next : {v : Walk} {m′ n′ : List ℕ} → Turned s atoms b w m n v m′ n′ → Stands pre post v m′ n′
     stands-next t =
         record {
           ahead = t .ahead;
@@ -140,9 +140,9 @@ module _ (s : List ℕ) (b : Binding) where
 
     pub stands-end : (ltb 0 (w .pre .left) && ltb 0 (w .post .left)) ≡ false
         → (m′ n′ : List ℕ) (only-before only-after : Bool)
-        → (m′ ≡ marks b m (rest s (w .pre))) × (only-before ≡ unboundChanged b [] (rest s (w .pre)))
-        → (n′ ≡ marks b n (rest s (w .post))) × (only-after ≡ unboundChanged b [] (rest s (w .post)))
-        → StepMarked b pre post m′ n′ (w .changed || only-before || only-after)
+        → (m′ ≡ marks atoms b m (rest s (w .pre))) × (only-before ≡ unboundChanged atoms b [] (rest s (w .pre)))
+        → (n′ ≡ marks atoms b n (rest s (w .post))) × (only-after ≡ unboundChanged atoms b [] (rest s (w .post)))
+        → StepMarked atoms b pre post m′ n′ (w .changed || only-before || only-after)
     unfolding says
     stands-end u m′ n′ only-before only-after d e =
         record {

@@ -4,13 +4,15 @@ use Prim.Native.Nat.{ℕ, _+_, _-_, _*_, _<_, _≤_}
 use mathlib.Core.Path.{_≡_}
 use mathlib.Core.Bool.{Bool, cond, _||_}
 use mathlib.Core.List.{List, _∷_}
+use lib.Dec.{leb}
 use lib.ListN.{length, getD, replicate}
+use Rattle.mask.specs.Bits.{setBit}
 use Rattle.terms.specs.declared.Object.{Object}
 use Rattle.terms.specs.declared.Binding.{Binding}
 use Rattle.terms.specs.declared.Fact.{Fact}
 use Rattle.limits.specs.Limits.{factSize, atomsPerRelation, farCeiling}
 use Rattle.format.specs.Decode.{factsAt}
-use Rattle.observed.specs.Inverse.{paramOf, placeBound, marks, atomsIn, unboundChanged}
+use Rattle.observed.specs.Inverse.{paramOf, placeBound, factBound, marks, atomsIn, unboundChanged}
 use Rattle.marks.specs.declared.Cursor.{Cursor}
 use Rattle.marks.specs.declared.Walk.{Walk}
 
@@ -21,9 +23,17 @@ use Rattle.marks.specs.declared.Walk.{Walk}
 unfoldable pub digit : Binding → Object → ℕ
 digit b x = cond (placeBound b x) (paramOf b x - 1) atomsPerRelation
 
--- the number of the pair of parameters in both places, below that number for a bound fact alone
-unfoldable pub pairOf : Binding → Fact → ℕ
-pairOf b f = 4 * digit b (f .first) + digit b (f .second)
+-- the number of the pair of parameters in both places, below that number where both are the binding's
+unfoldable pub placesOf : Binding → Fact → ℕ
+placesOf b f = 4 * digit b (f .first) + digit b (f .second)
+
+-- the same of a bound fact, and that number of any other fact
+unfoldable pub pairOf : List ℕ → Binding → Fact → ℕ
+pairOf atoms b f = cond (factBound atoms b f) (placesOf b f) atomsPerRelation
+
+-- a set with the bound fact put in that a fact is by its pair, if it is one
+unfoldable pub markedAs : List ℕ → Fact → ℕ → List ℕ
+markedAs m f pair = cond (leb atomsPerRelation pair) m (setBit m (atomsPerRelation * (f .relation .0 - 1) + pair))
 
 unfoldable pub noDigits : List ℕ
 noDigits = replicate 256 atomsPerRelation
@@ -60,20 +70,20 @@ abbrev pub toCome : Walk → ℕ
 toCome w = w .pre .left + w .post .left
 
 -- row 11 of two states, by what was seen and what is yet to come
-unfoldable pub says : List ℕ → Binding → Walk → Bool
-says s b w = w .changed || unboundChanged b (rest s (w .pre)) (rest s (w .post))
+unfoldable pub says : List ℕ → List ℕ → Binding → Walk → Bool
+says s atoms b w = w .changed || unboundChanged atoms b (rest s (w .pre)) (rest s (w .post))
 
 -- From v with the sets m and n to w with m′ and n′: nearer to the end, and what is yet to come leads to the same.
-pub record Turned (s : List ℕ) (b : Binding) (v : Walk) (m n : List ℕ) (w : Walk) (m′ n′ : List ℕ) : Type 0 where
+pub record Turned (s atoms : List ℕ) (b : Binding) (v : Walk) (m n : List ℕ) (w : Walk) (m′ n′ : List ℕ) : Type 0 where
   pub ahead : Ahead s (w .pre)
   pub aheadAfter : Ahead s (w .post)
-  pub before : marks b m′ (rest s (w .pre)) ≡ marks b m (rest s (v .pre))
-  pub after : marks b n′ (rest s (w .post)) ≡ marks b n (rest s (v .post))
-  pub same : says s b w ≡ says s b v
+  pub before : marks atoms b m′ (rest s (w .pre)) ≡ marks atoms b m (rest s (v .pre))
+  pub after : marks atoms b n′ (rest s (w .post)) ≡ marks atoms b n (rest s (v .post))
+  pub same : says s atoms b w ≡ says s atoms b v
   pub less : toCome w < toCome v
 
 -- the bound facts of two states, and row 11 of them
-pub record StepMarked (b : Binding) (pre post : List Fact) (m n : List ℕ) (r : Bool) : Type 0 where
-  pub before : m ≡ atomsIn b pre
-  pub after : n ≡ atomsIn b post
-  pub unbound : r ≡ unboundChanged b pre post
+pub record StepMarked (atoms : List ℕ) (b : Binding) (pre post : List Fact) (m n : List ℕ) (r : Bool) : Type 0 where
+  pub before : m ≡ atomsIn atoms b pre
+  pub after : n ≡ atomsIn atoms b post
+  pub unbound : r ≡ unboundChanged atoms b pre post

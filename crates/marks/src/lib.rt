@@ -7,8 +7,8 @@ ghost use lib.ListN.{length, set};
 ghost use Rattle.limits.specs.Limits.{setSize, nearCeiling, farCeiling};
 ghost use Rattle.mask.specs.Sets.{empty};
 ghost use Rattle.format.specs.Decode.{stateAt, stateEnd};
-ghost use Rattle.observed.specs.Inverse.{mark, marks, sameFact, unboundChanged};
-ghost use Rattle.marks.specs.Marks.{noDigits, Inverts, pairOf, rest, next, Ahead, Comes, Turned, StepMarked};
+ghost use Rattle.observed.specs.Inverse.{marks, sameFact, unboundChanged};
+ghost use Rattle.marks.specs.Marks.{noDigits, Inverts, placesOf, pairOf, markedAs, rest, next, Ahead, Comes, Turned, StepMarked};
 use terms::Binding;
 use terms::Fact;
 use terms::Object;
@@ -20,8 +20,8 @@ const UNBOUND: usize = limits::ATOMS_PER_RELATION;
 
 // ---- from a fact to its bound fact
 
-// A table with no parameter's object in it.
-fn no_digits() -> [u8; 256]
+// A table with no parameter's object in it. One serves many steps: each puts its objects in and takes them out.
+pub fn no_digits() -> [u8; 256]
     ensures { λ r. ⌜ r ≡ noDigits ⌝ }
 {
     [16u8; 256]
@@ -50,23 +50,53 @@ fn invert(t: &mut [u8], b: Binding)
     give(t, Object(0), 0);
 }
 
+// What a table has for an object of no parameter.
+const NO_DIGIT: u8 = 16;
+
+// The table without the objects that `invert` put in.
+fn restore(t: &mut [u8], b: Binding)
+    requires { ⌜ Inverts b (now t) ⌝ }
+    ensures { λ _. ⌜ now (t .exit) ≡ noDigits ⌝ }
+{
+    give(t, b.object(Param(4)), NO_DIGIT);
+    give(t, b.object(Param(3)), NO_DIGIT);
+    give(t, b.object(Param(2)), NO_DIGIT);
+    give(t, b.object(Param(1)), NO_DIGIT);
+    give(t, Object(0), NO_DIGIT);
+}
+
 fn wide(n: u8) -> usize
     ensures { λ r. ⌜ (r ≡ n) × (r < 256) ⌝ }
 {
     n as usize
 }
 
-// What both places add, UNBOUND or more for a fact that is no bound fact. The table `t` is that of the binding `b`, here and below.
-fn pair(t: &[u8], b: Binding, f: Fact) -> usize
+// What both places add, UNBOUND or more where an object is no parameter's. The table `t` is that of the binding `b`, here and below.
+fn places(t: &[u8], b: Binding, f: Fact) -> usize
     requires { ⌜ Inverts b (now t) ⌝ }
-    ensures { λ r. ⌜ r ≡ pairOf b f ⌝ }
+    ensures { λ r. ⌜ r ≡ placesOf b f ⌝ }
 {
     4 * wide(t[f.first.0 as usize]) + wide(t[f.second.0 as usize])
 }
 
-fn mark(m: &mut [u8], b: Binding, f: Fact, pair: usize)
-    requires { ⌜ pair ≡ pairOf b f ⌝ }
-    ensures { λ _. ⌜ now (m .exit) ≡ mark b (now (m .entry)) f ⌝ }
+// What both places of a bound fact add, UNBOUND for any other fact. `atoms` is the set of the move's bound facts, here and below.
+fn pair(t: &[u8], atoms: &[u8], b: Binding, f: Fact) -> usize
+    requires { ⌜ Inverts b (now t) ⌝ }
+    ensures { λ r. ⌜ r ≡ pairOf (now (atoms .entry)) b f ⌝ }
+{
+    let x = places(t, b, f);
+    if UNBOUND <= x {
+        return UNBOUND;
+    }
+    if mask::test_bit(atoms, UNBOUND * terms::index(f.relation.0) + x) {
+        return x;
+    }
+    UNBOUND
+}
+
+// Marks the bound fact that the fact `f` is by its pair.
+fn mark(m: &mut [u8], f: Fact, pair: usize)
+    ensures { λ _. ⌜ now (m .exit) ≡ markedAs (now (m .entry)) f pair ⌝ }
 {
     if UNBOUND <= pair {
         return;
@@ -107,11 +137,11 @@ impl Cursor {
     }
 
     // Past the next fact `f`, which is marked.
-    fn pass(self, m: &mut [u8], b: Binding, f: Fact, pair: usize) -> Cursor
-        requires { ⌜ (pair ≡ pairOf b f) × (0 < self .left) × (self .at ≤ farCeiling) ⌝ }
-        ensures { λ r. ⌜ (now (m .exit) ≡ mark b (now (m .entry)) f) × (r ≡ next self) ⌝ }
+    fn pass(self, m: &mut [u8], f: Fact, pair: usize) -> Cursor
+        requires { ⌜ (0 < self .left) × (self .at ≤ farCeiling) ⌝ }
+        ensures { λ r. ⌜ (now (m .exit) ≡ markedAs (now (m .entry)) f pair) × (r ≡ next self) ⌝ }
     {
-        mark(m, b, f, pair);
+        mark(m, f, pair);
         Cursor {
             at: self.at + limits::FACT_SIZE,
             left: self.left - 1,
@@ -120,16 +150,16 @@ impl Cursor {
 }
 
 // Marks the facts to come, and says whether any is no bound fact: row 11 of them and no facts.
-fn mark_rest(m: &mut [u8], s: &[u8], t: &[u8], b: Binding, from: Cursor) -> bool
+fn mark_rest(m: &mut [u8], s: &[u8], t: &[u8], atoms: &[u8], b: Binding, from: Cursor) -> bool
     requires { ⌜ Inverts b (now t) × Ahead (now s) from ⌝ }
-    ensures { λ r. ⌜ (now (m .exit) ≡ marks b (now (m .entry)) (rest (now (s .entry)) from)) × (r ≡ unboundChanged b [] (rest (now (s .entry)) from)) ⌝ }
+    ensures { λ r. ⌜ (now (m .exit) ≡ marks (now (atoms .entry)) b (now (m .entry)) (rest (now (s .entry)) from)) × (r ≡ unboundChanged (now (atoms .entry)) b [] (rest (now (s .entry)) from)) ⌝ }
 {
     let mut c = from;
     let mut changed = false;
     while 0 < c.left {
         let f = c.fact(s);
-        let x = pair(t, b, f);
-        c = c.pass(m, b, f, x);
+        let x = pair(t, atoms, b, f);
+        c = c.pass(m, f, x);
         changed = changed | (UNBOUND <= x);
     }
     changed
@@ -147,40 +177,50 @@ struct Walk {
 // One fact more of a state, or of both. Facts stand in order, so what is no bound fact stayed as it was if it comes in the same order in
 // both states: where the next ones differ and neither is a bound fact, a fact changed, whatever follows. A fact that comes next in both is
 // looked up once.
-fn turn(before: &mut [u8], after: &mut [u8], s: &[u8], t: &[u8], b: Binding, w: Walk) -> Walk
+fn turn(
+    before: &mut [u8],
+    after: &mut [u8],
+    s: &[u8],
+    t: &[u8],
+    atoms: &[u8],
+    b: Binding,
+    w: Walk,
+) -> Walk
     requires { ⌜ Inverts b (now t) × Ahead (now s) (w .pre) × Ahead (now s) (w .post) × (0 < w .pre .left) × (0 < w .post .left) ⌝ }
-    ensures { λ r. ⌜ Turned (now (s .entry)) b w (now (before .entry)) (now (after .entry)) r (now (before .exit)) (now (after .exit)) ⌝ }
+    ensures { λ r. ⌜ Turned (now (s .entry)) (now (atoms .entry)) b w (now (before .entry)) (now (after .entry)) r (now (before .exit)) (now (after .exit)) ⌝ }
 {
     let p = w.pre;
     let q = w.post;
     let f = p.fact(s);
     let g = q.fact(s);
-    let x = pair(t, b, f);
+    let x = pair(t, atoms, b, f);
     if same_fact(f, g) {
         return Walk {
-            pre: p.pass(before, b, f, x),
-            post: q.pass(after, b, f, x),
+            pre: p.pass(before, f, x),
+            post: q.pass(after, f, x),
             changed: w.changed,
         };
     }
     if x < UNBOUND {
         return Walk {
-            pre: p.pass(before, b, f, x),
+            pre: p.pass(before, f, x),
             post: q,
             changed: w.changed,
         };
     }
-    let y = pair(t, b, g);
+    let y = pair(t, atoms, b, g);
     Walk {
         pre: p,
-        post: q.pass(after, b, g, y),
+        post: q.pass(after, g, y),
         changed: w.changed | (UNBOUND <= y),
     }
 }
 
-// Row 11 of the step with the binding `b`, and its bound facts in the states at `pre` and `post`.
+// Row 11 of the step with the binding `b`, and its bound facts in the states at `pre` and `post`. The table `t` is lent for the step.
 pub fn mark_step(
     s: &[u8],
+    t: &mut [u8],
+    atoms: &[u8],
     b: Binding,
     pre: usize,
     post: usize,
@@ -188,22 +228,23 @@ pub fn mark_step(
     after: &mut [u8],
 ) -> bool
     requires { ⌜ (pre ≤ nearCeiling) × (post ≤ nearCeiling) × (stateEnd (now s) pre ≤ length (now s)) × (stateEnd (now s) post ≤ length (now s)) ⌝ }
-    requires { ⌜ (now before ≡ empty setSize) × (now after ≡ empty setSize) ⌝ }
-    ensures { λ r. ⌜ StepMarked b (stateAt (now (s .entry)) pre) (stateAt (now (s .entry)) post) (now (before .exit)) (now (after .exit)) r ⌝ }
+    requires { ⌜ (now t ≡ noDigits) × (now before ≡ empty setSize) × (now after ≡ empty setSize) ⌝ }
+    ensures { λ _. ⌜ now (t .exit) ≡ noDigits ⌝ }
+    ensures { λ r. ⌜ StepMarked (now (atoms .entry)) b (stateAt (now (s .entry)) pre) (stateAt (now (s .entry)) post) (now (before .exit)) (now (after .exit)) r ⌝ }
 {
-    let mut t = no_digits();
-    invert(&mut t, b);
+    invert(t, b);
     let mut w = Walk {
         pre: Cursor::of_state(s, pre),
         post: Cursor::of_state(s, post),
         changed: false,
     };
     while (0 < w.pre.left) & (0 < w.post.left) {
-        w = turn(before, after, s, &t, b, w);
+        w = turn(before, after, s, t, atoms, b, w);
     }
     let p = w.pre;
     let q = w.post;
-    let only_before = mark_rest(before, s, &t, b, p);
-    let only_after = mark_rest(after, s, &t, b, q);
+    let only_before = mark_rest(before, s, t, atoms, b, p);
+    let only_after = mark_rest(after, s, t, atoms, b, q);
+    restore(t, b);
     w.changed | only_before | only_after
 }

@@ -124,9 +124,6 @@ bit-complement (suc k) y (suc j) h l =
     ∙ bit-complement k (y / 2) j (omega (arith, pow-suc 2 k)) (omega arith)
     ∙ ap not (sym (bit-suc y j))
 
-pub bit-all : (j : ℕ) → j < 8 → bitOf 255 j ≡ true
-bit-all j h = bit-complement 8 0 j (lit< tt) h ∙ ap not (bit-none j)
-
 -- what `x & !y` computes of two bytes
 pub and-not : (x y : ℕ) → x < 256 → y < 256 → bitAnd x (255 - y) ≡ without x y
 and-not x y p q =

@@ -1,6 +1,6 @@
--- Sets in the bytes of what is observed: a part that was lent and came back, and a step's six sets. Uses the definitions of observed, and the kit's for
+-- Sets in the bytes of what is observed: a part that was lent and came back, a step's six sets, and a move's first ones. Uses the definitions of observed, and the kit's for
 -- a part of a slice.
-use Prim.Native.Nat.{ℕ, _+_, _-_, _*_}
+use Prim.Native.Nat.{ℕ, _+_, _-_}
 use mathlib.Core.Path.{_≡_, sym}
 use mathlib.Core.List.{List, append-assoc}
 use native.Mathlib.Omega.{arith}
@@ -8,8 +8,8 @@ use borrow.Rule.Slice.PartMut.{midOf, putMid}
 use lib.ListN.{take, drop}
 use lib.Seq.{drop-drop}
 use Rattle.mask.specs.Sets.{intersection, union, difference}
-use Rattle.observed.specs.Observed.{alwaysBefore, everBefore, alwaysAfter, everAfter, added, deleted, setAt, onSet, noted}
-use Rattle.notes.specs.Notes.{narrowed, widened}
+use Rattle.observed.specs.Observed.{alwaysBefore, everBefore, alwaysAfter, everAfter, added, deleted, bound, setAt, onSet, noted}
+use Rattle.notes.specs.Notes.{narrowed, widened, firstSets}
 
 set-back : (f : List ℕ → List ℕ) (at k : ℕ) (l m : List ℕ) → k ≡ 32 → m ≡ f (midOf at k l) → putMid at k l m ≡ onSet at f l
 unfolding onSet
@@ -26,21 +26,30 @@ module _ (at : ℕ) (l m other : List ℕ) where
   unfolding widened
   widened-back e = set-back (λ x. union x other) at (at + 32 - at) l m (omega arith) e
 
-set-place : (a at k : ℕ) → at ≡ 192 * (a - 1) → at + 32 * k ≡ setAt a k
-unfolding setAt
-set-place a at k e = omega arith
-
-module _ (a : ℕ) (before after l l₁ l₂ l₃ l₄ l₅ l₆ : List ℕ) where
-  pub noted-by : (at : ℕ)
-      → at ≡ 192 * (a - 1)
-      → l₁ ≡ narrowed (at + 32 * alwaysBefore) before l
-      → l₂ ≡ widened (at + 32 * everBefore) before l₁
-      → l₃ ≡ narrowed (at + 32 * alwaysAfter) after l₂
-      → l₄ ≡ widened (at + 32 * everAfter) after l₃
-      → l₅ ≡ widened (at + 32 * added) (difference after before) l₄
-      → l₆ ≡ widened (at + 32 * deleted) (difference before after) l₅
+module _ (a : ℕ) (before after l l₁ l₂ l₃ l₄ l₅ l₆ : List ℕ) (at₁ at₂ at₃ at₄ at₅ at₆ : ℕ) where
+  pub noted-by : at₁ ≡ setAt a alwaysBefore
+      → at₂ ≡ setAt a everBefore
+      → at₃ ≡ setAt a alwaysAfter
+      → at₄ ≡ setAt a everAfter
+      → at₅ ≡ setAt a added
+      → at₆ ≡ setAt a deleted
+      → l₁ ≡ narrowed at₁ before l
+      → l₂ ≡ widened at₂ before l₁
+      → l₃ ≡ narrowed at₃ after l₂
+      → l₄ ≡ widened at₄ after l₃
+      → l₅ ≡ widened at₅ (difference after before) l₄
+      → l₆ ≡ widened at₆ (difference before after) l₅
       → l₆ ≡ noted a before after l
   unfolding noted narrowed widened
-  noted-by at e e₁ e₂ e₃ e₄ e₅ e₆ =
-      let place : (k : ℕ) → at + 32 * k ≡ setAt a k = λ k. set-place a at k e in
-      rw (e₆, e₅, e₄, e₃, e₂, e₁, place deleted, place added, place everAfter, place alwaysAfter, place everBefore, place alwaysBefore)
+  noted-by p₁ p₂ p₃ p₄ p₅ p₆ e₁ e₂ e₃ e₄ e₅ e₆ = rw (e₆, e₅, e₄, e₃, e₂, e₁, p₁, p₂, p₃, p₄, p₅, p₆)
+
+module _ (a : ℕ) (atoms l l₁ l₂ l₃ : List ℕ) (at₁ at₂ at₃ : ℕ) where
+  pub first-by : at₁ ≡ setAt a alwaysBefore
+      → at₂ ≡ setAt a alwaysAfter
+      → at₃ ≡ setAt a bound
+      → l₁ ≡ widened at₁ atoms l
+      → l₂ ≡ widened at₂ atoms l₁
+      → l₃ ≡ widened at₃ atoms l₂
+      → l₃ ≡ firstSets a atoms l
+  unfolding firstSets
+  first-by p₁ p₂ p₃ e₁ e₂ e₃ = rw (e₃, e₂, e₁, p₁, p₂, p₃)

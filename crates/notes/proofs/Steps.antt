@@ -1,22 +1,32 @@
 -- What is observed after a step, from the step's bound facts and row 11 of it. Uses the definitions of observed, and what marks says of a step.
-use Prim.Native.Nat.{ℕ, _+_}
+use Prim.Native.Nat.{ℕ, _+_, _-_}
+use native.Mathlib.Omega.{arith}
 use mathlib.Core.Path.{_≡_, _∙_}
 use mathlib.Core.Bool.{Bool}
 use mathlib.Core.List.{List}
+use borrow.Rule.Slice.PartMut.{midOf}
 use Rattle.terms.specs.declared.Step.{Step}
 use Rattle.terms.specs.Steps.{stepAt}
 use Rattle.limits.specs.Limits.{stepSize}
 use Rattle.format.specs.Decode.{stateAt, recordedStep}
-use Rattle.observed.specs.Observed.{noted, observe, firstNamed}
+use Rattle.observed.specs.Observed.{bound, setAt, observedSet, noted, observeBy, observe, firstNamed}
 use Rattle.marks.specs.Marks.{StepMarked}
 use Rattle.notes.specs.Notes.{observedStep, IsObserved}
 
-pub observed-by : (s : List ℕ) (pre at : ℕ) (masks : List ℕ) (named : ℕ) (step : Step) (before after new : List ℕ) (unbound : Bool) (offset : ℕ)
+-- the part that is lent to `mark_step` is the set of the move's bound facts
+pub bound-part : (l : List ℕ) (a at : ℕ) → at ≡ setAt a bound → midOf at (at + 32 - at) l ≡ observedSet l a bound
+unfolding observedSet
+bound-part l a at e =
+    let w : at + 32 - at ≡ 32 = omega arith in
+    rw (w, e)
+
+pub observed-by : (s : List ℕ) (pre at : ℕ) (masks : List ℕ) (named : ℕ) (step : Step) (atoms before after new : List ℕ) (unbound : Bool) (offset : ℕ)
     → step ≡ stepAt s at
-    → StepMarked (step .binding) (stateAt s pre) (stateAt s (at + stepSize)) before after unbound
+    → atoms ≡ observedSet masks (step .action .0) bound
+    → StepMarked atoms (step .binding) (stateAt s pre) (stateAt s (at + stepSize)) before after unbound
     → new ≡ noted (step .action .0) before after masks
     → offset ≡ firstNamed named unbound at
     → IsObserved (observedStep s pre at masks named) new offset
-unfolding observedStep observe recordedStep
-observed-by s pre at masks named step before after new unbound offset is m n f =
-    record { masks = n ∙ rw (m .before, m .after, is); named = f ∙ rw (m .unbound, is) }
+unfolding observedStep observe observeBy recordedStep
+observed-by s pre at masks named step atoms before after new unbound offset is own m n f =
+    record { masks = n ∙ rw (m .before, m .after, own, is); named = f ∙ rw (m .unbound, own, is) }

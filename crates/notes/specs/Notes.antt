@@ -1,13 +1,10 @@
 -- What is observed after a step, in the parts that the functions compute. `IsObserved` and `observedStep` are for callers. Uses the definitions of observed and format.
-use Prim.Native.Nat.{ℕ, _/_, _%_}
+use Prim.Native.Nat.{ℕ}
 use mathlib.Core.Path.{_≡_}
-use mathlib.Core.Bool.{cond, _||_}
 use mathlib.Core.List.{List}
-use lib.Dec.{eqb}
-use Rattle.limits.specs.Limits.{setSize, observedSets}
 use Rattle.mask.specs.Sets.{intersection, union}
 use Rattle.format.specs.Decode.{recordedStep}
-use Rattle.observed.specs.Observed.{alwaysBefore, alwaysAfter, Observed, onSet, observe}
+use Rattle.observed.specs.Observed.{alwaysBefore, alwaysAfter, bound, Observed, setAt, onSet, observe}
 
 -- the set at an offset, intersected and united with another
 unfoldable pub narrowed : ℕ → List ℕ → List ℕ → List ℕ
@@ -25,6 +22,6 @@ pub record IsObserved (h : Observed) (bytes : List ℕ) (offset : ℕ) : Type 0 
   pub masks : bytes ≡ h .masks
   pub named : offset ≡ h .named
 
--- byte i of what is observed before any record: the two sets of each move that hold what is so at every step have everything
-unfoldable pub firstByte : ℕ → ℕ
-firstByte i = cond (eqb (i / setSize % observedSets) alwaysBefore || eqb (i / setSize % observedSets) alwaysAfter) 255 0
+-- the sets of a move before any record, where nothing was in them: what is so at every one of no steps is every bound fact
+unfoldable pub firstSets : ℕ → List ℕ → List ℕ → List ℕ
+firstSets a atoms l = widened (setAt a bound) atoms (widened (setAt a alwaysAfter) atoms (widened (setAt a alwaysBefore) atoms l))

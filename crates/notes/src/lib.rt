@@ -1,15 +1,19 @@
-// What the learner has observed after a step: six sets of bound facts (lifted atoms) for each move, and the first step that row 11 names.
-// Uses marks for the bound facts of a step, mask for the sets, terms, limits, and the numbers of the sets from observed; the contracts cite observed and format, and specs/Notes.antt for the parts.
+// What the learner has observed, before any record and after a step: seven sets of bound facts (lifted atoms) for each move, and the first step
+// that row 11 names. Uses atoms for the bound facts of a move, marks for those of a step, mask for the sets, terms, limits, and where the sets
+// stand from observed; the contracts cite observed and format, and specs/Notes.antt for the parts.
 ghost use mathlib.Core.Path.{_≡_};
 ghost use Prim.Native.Nat.{_+_, _≤_};
 ghost use lib.ListN.{length};
 ghost use Rattle.limits.specs.Limits.{maxLength, maxMoves, stepSize, setSize, observedSize};
-ghost use Rattle.mask.specs.Sets.{difference};
+ghost use Rattle.mask.specs.Sets.{difference, empty};
+ghost use Rattle.terms.specs.Schema.{schema};
 ghost use Rattle.terms.specs.Steps.{stepAt};
 ghost use Rattle.format.specs.Decode.{stateEnd};
 ghost use Rattle.observed.specs.Observed.{noted, nothingSeen, firstNamed};
-ghost use Rattle.notes.specs.Notes.{narrowed, widened, observedStep, IsObserved, firstByte};
+ghost use Rattle.marks.specs.Marks.{noDigits};
+ghost use Rattle.notes.specs.Notes.{narrowed, widened, observedStep, IsObserved, firstSets};
 use terms::Move;
+use terms::Sections;
 use terms::Step;
 
 // ---- after a step: its sets come by value, so that they share no memory with what is observed
@@ -39,20 +43,31 @@ fn widen_by_change(observed: &mut [u8], at: usize, from: [u8; 32], to: [u8; 32])
     mask::unite_difference(&mut observed[at..end], &to, &from);
 }
 
-const SET: usize = limits::SET_SIZE;
-
-// One step of a move, by its bound facts before and after it, in the move's six sets.
+// One step of a move, by its bound facts before and after it, in the move's six sets of what is seen.
 fn note(observed: &mut [u8], a: Move, before: [u8; 32], after: [u8; 32])
     requires { ⌜ (1 ≤ a .0) × (a .0 ≤ maxMoves) × (length (now observed) ≡ observedSize) ⌝ }
     ensures { λ _. ⌜ now (observed .exit) ≡ noted (a .0) before after (now (observed .entry)) ⌝ }
 {
-    let at = limits::OBSERVED_PER_MOVE * (a.0 as usize - 1);
-    narrow(observed, at + SET * observed::ALWAYS_BEFORE, before);
-    widen(observed, at + SET * observed::EVER_BEFORE, before);
-    narrow(observed, at + SET * observed::ALWAYS_AFTER, after);
-    widen(observed, at + SET * observed::EVER_AFTER, after);
-    widen_by_change(observed, at + SET * observed::ADDED, before, after);
-    widen_by_change(observed, at + SET * observed::DELETED, after, before);
+    narrow(
+        observed,
+        observed::set_at(a, observed::ALWAYS_BEFORE),
+        before,
+    );
+    widen(observed, observed::set_at(a, observed::EVER_BEFORE), before);
+    narrow(observed, observed::set_at(a, observed::ALWAYS_AFTER), after);
+    widen(observed, observed::set_at(a, observed::EVER_AFTER), after);
+    widen_by_change(
+        observed,
+        observed::set_at(a, observed::ADDED),
+        before,
+        after,
+    );
+    widen_by_change(
+        observed,
+        observed::set_at(a, observed::DELETED),
+        after,
+        before,
+    );
 }
 
 // The offset of the first step that row 11 names, 0 for none: `named` of the steps before, and the step at `at` if it is `unbound`.
@@ -68,41 +83,67 @@ fn first_named(named: usize, unbound: bool, at: usize) -> usize
     0
 }
 
-// What is observed after the step at `at`, before which the state at `pre` stands: returns the offset of the first step that row 11 names, 0 for none.
-pub fn observe(s: &[u8], pre: usize, at: usize, observed: &mut [u8], named: usize) -> usize
-    requires { ⌜ (pre ≤ maxLength) × (at ≤ maxLength) × (length (now observed) ≡ observedSize) ⌝ }
+// What is observed after the step at `at`, before which the state at `pre` stands; the table `t` is lent for the step (`marks`). Returns the offset of the first step that row 11 names, 0 for none.
+pub fn observe(
+    s: &[u8],
+    pre: usize,
+    at: usize,
+    t: &mut [u8],
+    observed: &mut [u8],
+    named: usize,
+) -> usize
+    requires { ⌜ (pre ≤ maxLength) × (at ≤ maxLength) × (length (now observed) ≡ observedSize) × (now t ≡ noDigits) ⌝ }
     requires { ⌜ (1 ≤ stepAt (now s) at .action .0) × (stepAt (now s) at .action .0 ≤ maxMoves) ⌝ }
     requires { ⌜ (stateEnd (now s) pre ≤ length (now s)) × (stateEnd (now s) (at + stepSize) ≤ length (now s)) ⌝ }
+    ensures { λ _. ⌜ now (t .exit) ≡ noDigits ⌝ }
     ensures { λ r. ⌜ IsObserved (observedStep (now (s .entry)) pre at (now (observed .entry)) named) (now (observed .exit)) r ⌝ }
 {
     let step = Step::read(s, at);
     let post = at + limits::STEP_SIZE;
+    let bound = observed::set_at(step.action, observed::BOUND);
+    let end = bound + limits::SET_SIZE;
     let mut before = mask::empty32();
     let mut after = mask::empty32();
-    let unbound = marks::mark_step(s, step.binding, pre, post, &mut before, &mut after);
+    let unbound = marks::mark_step(
+        s,
+        t,
+        &observed[bound..end],
+        step.binding,
+        pre,
+        post,
+        &mut before,
+        &mut after,
+    );
     note(observed, step.action, before, after);
     first_named(named, unbound, at)
 }
 
 // ---- before any record
 
-fn first_byte(i: usize) -> u8
-    ensures { λ r. ⌜ r ≡ firstByte i ⌝ }
+// The sets of a move: what is so at every one of no steps is every bound fact.
+fn first_sets(observed: &mut [u8], a: Move, atoms: [u8; 32])
+    requires { ⌜ (1 ≤ a .0) × (a .0 ≤ maxMoves) × (length (now observed) ≡ observedSize) ⌝ }
+    ensures { λ _. ⌜ now (observed .exit) ≡ firstSets (a .0) atoms (now (observed .entry)) ⌝ }
 {
-    let set = i / limits::SET_SIZE % limits::OBSERVED_SETS;
-    if (set == observed::ALWAYS_BEFORE) | (set == observed::ALWAYS_AFTER) {
-        return 255;
-    }
-    0
+    widen(
+        observed,
+        observed::set_at(a, observed::ALWAYS_BEFORE),
+        atoms,
+    );
+    widen(observed, observed::set_at(a, observed::ALWAYS_AFTER), atoms);
+    widen(observed, observed::set_at(a, observed::BOUND), atoms);
 }
 
-pub fn nothing_seen(observed: &mut [u8])
-    requires { ⌜ length (now observed) ≡ observedSize ⌝ }
-    ensures { λ _. ⌜ now (observed .exit) ≡ nothingSeen .masks ⌝ }
+// The bound facts of all moves are made here, once for a book.
+pub fn nothing_seen(book: &[u8], h: Sections, observed: &mut [u8])
+    requires { ⌜ (now observed ≡ empty observedSize) × (h .moves .count ≤ maxMoves) ⌝ }
+    ensures { λ _. ⌜ now (observed .exit) ≡ nothingSeen (schema h (now (book .entry))) .masks ⌝ }
 {
+    let count = h.moves.count as usize;
     let mut i = 0;
-    while i < observed.len() {
-        observed[i] = first_byte(i);
+    while i < count {
+        let a = Move((i + 1) as u8);
+        first_sets(observed, a, atoms::atom_set(book, h, a));
         i += 1;
     }
 }

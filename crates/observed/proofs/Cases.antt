@@ -3,9 +3,9 @@
 use Prim.Native.Nat.{ℕ}
 use mathlib.Core.Path.{_≡_, refl}
 use mathlib.Core.Bool.{true, false}
-use mathlib.Core.List.{[], _∷_, _++_}
+use mathlib.Core.List.{List, [], _∷_, _++_}
 use lib.ListN.{replicate}
-use Rattle.mask.specs.Bits.{setBit}
+use Rattle.mask.specs.Bits.{bitOf, testBit, setBit}
 use Rattle.mask.specs.Sets.{empty}
 use Rattle.terms.specs.declared.Binding.{Binding}
 use Rattle.terms.specs.declared.Fact.{Fact}
@@ -18,12 +18,23 @@ roll bank from to = record { objects = record { 0 = bank } ∷ record { 0 = from
 abbrev fact : ℕ → ℕ → ℕ → Fact
 fact r x y = record { relation = record { 0 = r }; first = record { 0 = x }; second = record { 0 = y } }
 
+-- a move that has every bound fact, and one that lacks number 24, as where "spot clear" is of a kind below the third parameter's
+abbrev everything : List ℕ
+everything = replicate 32 255
+
+abbrev lacking : List ℕ
+lacking = (255 ∷ 255 ∷ 255 ∷ 254 ∷ []) ++ replicate 28 255
+
 -- bank at the first spot, the second clear: bound facts 1 and 24, in a hall of bank 1 and spots 2, 3 and in one of bank 3 and spots 1, 2;
--- a third spot that is clear is no bound fact, and row 11 is met where it is so before the step alone
+-- a third spot that is clear is no bound fact, and row 11 is met where it is so before the step alone; so is a fact over the step's own objects
+-- that the move has no bound fact for
 roll-right :
-    (atomsIn (roll 1 2 3) (fact 1 1 2 ∷ fact 2 3 0 ∷ fact 2 4 0 ∷ []) ≡ (2 ∷ 0 ∷ 0 ∷ 1 ∷ []) ++ replicate 28 0)
-    × (atomsIn (roll 3 1 2) (fact 1 3 1 ∷ fact 2 2 0 ∷ fact 2 4 0 ∷ []) ≡ (2 ∷ 0 ∷ 0 ∷ 1 ∷ []) ++ replicate 28 0)
-    × (unboundChanged (roll 1 2 3) (fact 1 1 2 ∷ fact 2 3 0 ∷ fact 2 4 0 ∷ []) (fact 1 1 3 ∷ fact 2 2 0 ∷ fact 2 4 0 ∷ []) ≡ false)
-    × (unboundChanged (roll 1 2 3) (fact 1 1 2 ∷ fact 2 3 0 ∷ fact 2 4 0 ∷ []) (fact 1 1 3 ∷ fact 2 2 0 ∷ []) ≡ true)
-unfolding objectOf setBit empty gives paramOf placeBound factBound atomOf mark marks atomsIn unbound sameFact sameFacts unboundChanged
-roll-right = (refl, refl, refl, refl)
+    (atomsIn everything (roll 1 2 3) (fact 1 1 2 ∷ fact 2 3 0 ∷ fact 2 4 0 ∷ []) ≡ (2 ∷ 0 ∷ 0 ∷ 1 ∷ []) ++ replicate 28 0)
+    × (atomsIn everything (roll 3 1 2) (fact 1 3 1 ∷ fact 2 2 0 ∷ fact 2 4 0 ∷ []) ≡ (2 ∷ 0 ∷ 0 ∷ 1 ∷ []) ++ replicate 28 0)
+    × (unboundChanged everything (roll 1 2 3) (fact 1 1 2 ∷ fact 2 3 0 ∷ fact 2 4 0 ∷ []) (fact 1 1 3 ∷ fact 2 2 0 ∷ fact 2 4 0 ∷ []) ≡ false)
+    × (unboundChanged everything (roll 1 2 3) (fact 1 1 2 ∷ fact 2 3 0 ∷ fact 2 4 0 ∷ []) (fact 1 1 3 ∷ fact 2 2 0 ∷ []) ≡ true)
+    × (atomsIn lacking (roll 1 2 3) (fact 1 1 2 ∷ fact 2 3 0 ∷ []) ≡ (2 ∷ []) ++ replicate 31 0)
+    × (unboundChanged lacking (roll 1 2 3) (fact 1 1 2 ∷ fact 2 3 0 ∷ []) (fact 1 1 3 ∷ fact 2 2 0 ∷ []) ≡ true)
+    × (unboundChanged lacking (roll 1 2 3) (fact 1 1 2 ∷ fact 2 3 0 ∷ []) (fact 1 1 3 ∷ fact 2 2 0 ∷ fact 2 3 0 ∷ []) ≡ false)
+unfolding objectOf bitOf testBit setBit empty gives paramOf placeBound factBound atomOf mark marks atomsIn unbound sameFact sameFacts unboundChanged
+roll-right = (refl, refl, refl, refl, refl, refl, refl)

@@ -10,8 +10,8 @@ use borrow.Author.Tests.{eqb-true, not-false}
 use Rattle.truth.specs.Bools.{clash, is-false, is-true, bool-eq, and-out, neither}
 use Rattle.mask.specs.Bits.{testBit, Bytes}
 use Rattle.mask.specs.Sets.{maskOf, intersection, union, difference, empty}
-use Rattle.mask.proofs.Laws.{test-empty, length-empty, bytes-empty, test-intersection, length-intersection, test-union, test-difference, length-difference}
-use Rattle.mask.proofs.Whole.{length-maskOf, bytes-maskOf, test-maskOf, mask-ext}
+use Rattle.mask.proofs.Laws.{test-empty, length-empty, bytes-empty, test-intersection, length-intersection, bytes-intersection, test-union, length-union, bytes-union, test-difference, length-difference, bytes-difference}
+use Rattle.mask.proofs.Whole.{length-maskOf, bytes-maskOf, test-maskOf, is-maskOf, mask-ext}
 use Rattle.terms.specs.Schema.{Schema}
 use Rattle.terms.specs.Steps.{isAtom}
 use Rattle.terms.proofs.Atoms.{atom-below}
@@ -21,11 +21,11 @@ use Rattle.model.specs.Learned.{after, turned, conflicting}
 use Rattle.model.proofs.Quantify.{below-in, below-out, below-cong, below-wide, least-same}
 use Rattle.jobs.specs.Planning.{domain}
 use Rattle.jobs.specs.Learn.{conflictAnswer, conflictingMove}
-use Rattle.observed.specs.Observed.{alwaysAfter, everAfter, added, deleted}
-use Rattle.observed.specs.Rules.{observedSet, conflictObserved, conflictAmong, inUse, conflictSet}
+use Rattle.observed.specs.Observed.{alwaysAfter, everAfter, added, deleted, setAt, observedSet}
+use Rattle.observed.specs.Rules.{conflictObserved, conflictAmong, inUse, conflictSet}
 use Rattle.observed.specs.Seen.{inSet, Seen}
+use Rattle.observed.proofs.Parts.{part-bytes}
 use Rattle.observed.proofs.Noted.{length-observedSet}
-use Rattle.observed.proofs.Sheet.{atoms-in}
 
 -- ---- a byte that is not 0 is a bit that is set
 abbrev used : ℕ → Bool
@@ -63,36 +63,53 @@ any-maskOf q =
     any-used (maskOf 32 q) (bytes-maskOf 32 q) ∙ ap (λ (k : ℕ). below (8 * k) (testBit (maskOf 32 q))) (length-maskOf 32 q)
     ∙ below-cong 256 _ q (λ k l. test-maskOf 32 q k l)
 
+-- a bound fact that one set has, and another has or lacks
+gather : (i a b c d : Bool) → (i && a && not (i && not b) || i && c && (i && d)) ≡ (i && (a && b || c && d))
+gather true a b c d = rw Bool·not-not
+gather false a b c d = refl
+
 module _ (sch : Schema) (few : sch .relations ≤ 16) (ts : List Transition) (l : List ℕ) (seen : Seen sch ts l) where
   -- A move has a conflict by what is observed exactly if it has one by its transitions,
-  pub conflicting-observed : (a : ℕ) → 1 ≤ a → a ≤ 32 → conflictObserved sch l a ≡ conflicting (domain sch) ts a
-  unfolding conflictObserved inUse conflictSet conflicting domain inSet
+  pub conflicting-observed : (a : ℕ) → 1 ≤ a → a ≤ 32 → conflictObserved l a ≡ conflicting (domain sch) ts a
+  unfolding conflictObserved inUse conflictSet conflicting domain inSet observedSet
   conflicting-observed a h h′ =
-      ap (any used) (atoms-in sch a _ clashes says) ∙ any-maskOf _
+      ap (any used) found ∙ any-maskOf _
       ∙ below-wide 256 (16 * sch .relations) _ (omega arith) (λ n e. atom-below sch a n (and-out _ _ e .0))
     where
       clashes : ℕ → Bool
       clashes n = turned ts true a n && after ts false a n || turned ts false a n && after ts true a n
 
-      sized : (k : ℕ) → k < 6 → length (observedSet l a k) ≡ 32
-      sized k hk = length-observedSet l a k (seen .sized) h h′ hk
+      set : ℕ → List ℕ
+      set k = observedSet l a k
 
-      says : (n : ℕ) → n < 256 → isAtom sch a n ≡ true
-          → testBit (union (difference (observedSet l a added) (observedSet l a alwaysAfter)) (intersection (observedSet l a deleted) (observedSet l a everAfter))) n ≡ clashes n
-      says n hn atom =
-          test-union (difference (observedSet l a added) (observedSet l a alwaysAfter)) (intersection (observedSet l a deleted) (observedSet l a everAfter)) n
-          (omega (arith, length-difference (observedSet l a added) (observedSet l a alwaysAfter), length-intersection (observedSet l a deleted) (observedSet l a everAfter), sized added (omega arith), sized deleted (omega arith)))
+      long : length (union (difference (set added) (set alwaysAfter)) (intersection (set deleted) (set everAfter))) ≡ 32
+      long =
+          length-union (difference (set added) (set alwaysAfter)) (intersection (set deleted) (set everAfter)) ∙ length-difference (set added) (set alwaysAfter) ∙ length-observedSet l a added (seen .sized) h h′ (omega arith)
+
+      within : Bytes (union (difference (set added) (set alwaysAfter)) (intersection (set deleted) (set everAfter)))
+      within =
+          bytes-union (difference (set added) (set alwaysAfter)) (intersection (set deleted) (set everAfter))
+          (bytes-difference (set added) (set alwaysAfter) (part-bytes l (setAt a added) (seen .bytes)))
+          (bytes-intersection (set deleted) (set everAfter) (part-bytes l (setAt a deleted) (seen .bytes)))
+
+      says : (n : ℕ) → n < 256 → testBit (union (difference (set added) (set alwaysAfter)) (intersection (set deleted) (set everAfter))) n ≡ (isAtom sch a n && clashes n)
+      says n hn =
+          test-union (difference (set added) (set alwaysAfter)) (intersection (set deleted) (set everAfter)) n
+          (omega (arith, length-difference (set added) (set alwaysAfter), length-intersection (set deleted) (set everAfter), length-observedSet l a added (seen .sized) h h′ (omega arith), length-observedSet l a deleted (seen .sized) h h′ (omega arith)))
           ∙ rw (
             test-difference,
             test-intersection,
-            seen .says alwaysAfter (omega arith) a h h′ n hn atom,
-            seen .says everAfter (omega arith) a h h′ n hn atom,
-            seen .says added (omega arith) a h h′ n hn atom,
-            seen .says deleted (omega arith) a h h′ n hn atom,
-            Bool·not-not,
+            seen .says alwaysAfter (omega arith) a h h′ n hn,
+            seen .says everAfter (omega arith) a h h′ n hn,
+            seen .says added (omega arith) a h h′ n hn,
+            seen .says deleted (omega arith) a h h′ n hn,
           )
+          (gather (isAtom sch a n) (turned ts true a n) (after ts false a n) (turned ts false a n) (after ts true a n))
+
+      found : conflictSet l a ≡ maskOf 32 (λ n. isAtom sch a n && clashes n)
+      found = is-maskOf _ 32 _ long within says
 
   -- and so the smallest such move is the same.
-  pub conflicting-same : sch .moves ≤ 32 → conflictAmong sch l (sch .moves) ≡ conflictingMove sch ts
+  pub conflicting-same : sch .moves ≤ 32 → conflictAmong l (sch .moves) ≡ conflictingMove sch ts
   unfolding conflictAmong conflictingMove
   conflicting-same moves = ap conflictAnswer (least-same (sch .moves) _ _ (λ a h h′. conflicting-observed a h (omega arith)))

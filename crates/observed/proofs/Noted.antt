@@ -1,18 +1,18 @@
--- What a step makes of the masks: each of its move's six sets is changed in its own way, and those of every other move stay.
+-- What a step makes of the masks: each of its move's six sets of what is seen is changed in its own way; the set of its bound facts stays, and so
+-- do those of every other move.
 use Prim.Native.Nat.{ℕ, zero, suc, _+_, _≤_, _<_}
 use native.Mathlib.Decide.{decLt, ℕ-discrete}
 use native.Mathlib.Omega.{arith}
 use mathlib.Core.Path.{_≡_, refl, sym, ap, _∙_}
 use mathlib.Core.Logic.{_⊎_, inl, inr}
-use mathlib.Core.Bool.{Bool, _&&_, _||_, not}
+use mathlib.Core.Bool.{Bool, true, false, _&&_, _||_, not}
 use mathlib.Core.List.{List}
 use lib.ListN.{length}
 use Rattle.limits.specs.Limits.{observedSize}
 use Rattle.mask.specs.Bits.{testBit, Bytes}
 use Rattle.mask.specs.Sets.{intersection, union, difference}
 use Rattle.mask.proofs.Laws.{test-intersection, length-intersection, bytes-intersection, test-union, length-union, bytes-union, test-difference, length-difference, bytes-difference}
-use Rattle.observed.specs.Observed.{setAt, onSet, noted}
-use Rattle.observed.specs.Rules.{observedSet}
+use Rattle.observed.specs.Observed.{setAt, observedSet, onSet, noted}
 use Rattle.observed.proofs.Parts.{part-length, part-bytes, length-onSet, bytes-onSet, onSet-in, onSet-out}
 
 -- set k after a step with the bound facts x before and y after it
@@ -33,6 +33,17 @@ changed (suc (suc (suc zero))) x y b = b || y
 changed (suc (suc (suc (suc zero)))) x y b = b || y && not x
 changed (suc (suc (suc (suc (suc k))))) x y b = b || x && not y
 
+-- what is no bound fact stays out
+pub changed-within : (k : ℕ) (i x y b : Bool) → changed k (i && x) (i && y) (i && b) ≡ (i && changed k x y b)
+unfolding changed
+changed-within k true x y b = refl
+changed-within zero false x y b = refl
+changed-within (suc zero) false x y b = refl
+changed-within (suc (suc zero)) false x y b = refl
+changed-within (suc (suc (suc zero))) false x y b = refl
+changed-within (suc (suc (suc (suc zero)))) false x y b = refl
+changed-within (suc (suc (suc (suc (suc k))))) false x y b = refl
+
 -- the first sets of a move changed, so many of them
 changes : ℕ → (ℕ → List ℕ → List ℕ) → ℕ → List ℕ → List ℕ
 changes a f zero l = l
@@ -43,11 +54,11 @@ unfolding noted changes change
 noted-changes a x y l = refl
 
 -- ---- where the sets stand
-set-fits : (a k : ℕ) → 1 ≤ a → a ≤ 32 → k < 6 → setAt a k + 32 ≤ observedSize
+pub set-fits : (a k : ℕ) → 1 ≤ a → a ≤ 32 → k < 7 → setAt a k + 32 ≤ observedSize
 unfolding setAt
 set-fits a k h h′ hk = omega arith
 
-sets-apart : (a j b k : ℕ) → 1 ≤ a → 1 ≤ b → j < 6 → k < 6 → (b ≡ a → ⊥) ⊎ (k ≡ j → ⊥)
+pub sets-apart : (a j b k : ℕ) → 1 ≤ a → 1 ≤ b → j < 7 → k < 7 → (b ≡ a → ⊥) ⊎ (k ≡ j → ⊥)
     → (setAt b k + 32 ≤ setAt a j) ⊎ (setAt a j + 32 ≤ setAt b k)
 unfolding setAt
 sets-apart a j b k ha hb hj hk other = go (decLt b a) (decLt a b) (decLt k j) other
@@ -80,21 +91,21 @@ module _ (a : ℕ) (counted : 1 ≤ a) (known : a ≤ 32) (l : List ℕ) (sized 
       (stay n _ (part-bytes (changes a f n l) (setAt a n) deeper)) deeper
 
   -- one turn, at another set
-  turn-out : (n : ℕ) → n < 6 → (b k : ℕ) → 1 ≤ b → b ≤ 32 → k < 6 → (b ≡ a → ⊥) ⊎ (k ≡ n → ⊥)
+  turn-out : (n : ℕ) → n < 6 → (b k : ℕ) → 1 ≤ b → b ≤ 32 → k < 7 → (b ≡ a → ⊥) ⊎ (k ≡ n → ⊥)
       → observedSet (changes a f (suc n) l) b k ≡ observedSet (changes a f n l) b k
   unfolding changes observedSet
   turn-out n hn b k hb hb′ hk other =
       let e = length-changes n (omega arith) in
-      onSet-out (setAt a n) (f n) (changes a f n l) (omega (arith, e, set-fits a n counted known hn)) (keeps n _)
-      (setAt b k) (sets-apart a n b k counted hb hn hk other) (omega (arith, e, set-fits b k hb hb′ hk))
+      onSet-out (setAt a n) (f n) (changes a f n l) (omega (arith, e, set-fits a n counted known (omega arith))) (keeps n _)
+      (setAt b k) (sets-apart a n b k counted hb (omega arith) hk other) (omega (arith, e, set-fits b k hb hb′ hk))
 
   turn-in : (n : ℕ) → n < 6 → observedSet (changes a f (suc n) l) a n ≡ f n (observedSet (changes a f n l) a n)
   unfolding changes observedSet
   turn-in n hn =
       let e = length-changes n (omega arith) in
-      onSet-in (setAt a n) (f n) (changes a f n l) (omega (arith, e, set-fits a n counted known hn)) (keeps n _)
+      onSet-in (setAt a n) (f n) (changes a f n l) (omega (arith, e, set-fits a n counted known (omega arith))) (keeps n _)
 
-  changes-out : (n : ℕ) → n ≤ 6 → (b k : ℕ) → 1 ≤ b → b ≤ 32 → k < 6 → (b ≡ a → ⊥) ⊎ (n ≤ k) → observedSet (changes a f n l) b k ≡ observedSet l b k
+  changes-out : (n : ℕ) → n ≤ 6 → (b k : ℕ) → 1 ≤ b → b ≤ 32 → k < 7 → (b ≡ a → ⊥) ⊎ (n ≤ k) → observedSet (changes a f n l) b k ≡ observedSet l b k
   unfolding changes
   changes-out zero hn b k hb hb′ hk other = refl
   changes-out (suc n) hn b k hb hb′ hk other =
@@ -113,7 +124,7 @@ module _ (a : ℕ) (counted : 1 ≤ a) (known : a ≤ 32) (l : List ℕ) (sized 
   changes-in (suc n) hn k hk = go (ℕ-discrete k n) (changes-in n (omega arith) k)
     where
       go : Dec (k ≡ n) → (k < n → observedSet (changes a f n l) a k ≡ f k (observedSet l a k)) → observedSet (changes a f (suc n) l) a k ≡ f k (observedSet l a k)
-      go (yes e) deeper = rw e (turn-in n hn ∙ ap (f n) (changes-out n (omega arith) a n counted known hn (inr (omega arith))))
+      go (yes e) deeper = rw e (turn-in n hn ∙ ap (f n) (changes-out n (omega arith) a n counted known (omega arith) (inr (omega arith))))
       go (no d) deeper = turn-out n hn a k counted known (omega arith) (inr d) ∙ deeper (omega arith)
 
 -- ---- the change of one set
@@ -149,7 +160,7 @@ test-change (suc (suc (suc zero))) x y m n hx hy = test-union m y n (omega arith
 test-change (suc (suc (suc (suc zero)))) x y m n hx hy = test-gain m y x n hy
 test-change (suc (suc (suc (suc (suc k))))) x y m n hx hy = test-gain m x y n hx
 
-pub length-observedSet : (l : List ℕ) (a k : ℕ) → length l ≡ observedSize → 1 ≤ a → a ≤ 32 → k < 6 → length (observedSet l a k) ≡ 32
+pub length-observedSet : (l : List ℕ) (a k : ℕ) → length l ≡ observedSize → 1 ≤ a → a ≤ 32 → k < 7 → length (observedSet l a k) ≡ 32
 unfolding observedSet
 length-observedSet l a k e h h′ hk = part-length l (setAt a k) (omega (arith, e, set-fits a k h h′ hk))
 
@@ -163,14 +174,19 @@ module _ (a : ℕ) (counted : 1 ≤ a) (known : a ≤ 32) (x y l : List ℕ) (si
       rw noted-changes (bytes-changes a counted known l sized _ (λ k m. length-change k x y m) (λ k m. bytes-change k x y m hx hy) h 6 (omega arith))
 
   -- another move's sets stay
-  pub noted-other : (b k : ℕ) → 1 ≤ b → b ≤ 32 → k < 6 → (b ≡ a → ⊥) → observedSet (noted a x y l) b k ≡ observedSet l b k
+  pub noted-other : (b k : ℕ) → 1 ≤ b → b ≤ 32 → k < 7 → (b ≡ a → ⊥) → observedSet (noted a x y l) b k ≡ observedSet l b k
   noted-other b k hb hb′ hk d =
       rw noted-changes (changes-out a counted known l sized _ (λ k m. length-change k x y m) 6 (omega arith) b k hb hb′ hk (inl d))
+
+  -- the bound facts of every move stay
+  pub noted-bound : (b : ℕ) → 1 ≤ b → b ≤ 32 → observedSet (noted a x y l) b 6 ≡ observedSet l b 6
+  noted-bound b hb hb′ =
+      rw noted-changes (changes-out a counted known l sized _ (λ k m. length-change k x y m) 6 (omega arith) b 6 hb hb′ (omega arith) (inr (omega arith)))
 
   -- each of the move's own sets changes, bound fact by bound fact
   pub noted-own : length x ≡ 32 → length y ≡ 32 → (k n : ℕ) → k < 6
       → testBit (observedSet (noted a x y l) a k) n ≡ changed k (testBit x n) (testBit y n) (testBit (observedSet l a k) n)
   noted-own hx hy k n hk =
-      let e = length-observedSet l a k sized counted known hk in
+      let e = length-observedSet l a k sized counted known (omega arith) in
       rw (noted-changes, changes-in a counted known l sized (λ k. change k x y) (λ k m. length-change k x y m) 6 (omega arith) k hk)
       (test-change k x y (observedSet l a k) n (hx ∙ sym e) (hy ∙ sym e))

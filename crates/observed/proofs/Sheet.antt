@@ -1,13 +1,11 @@
 -- The sheet from what is observed is the learned model's.
 use Prim.Native.Nat.{ℕ, zero, suc, _+_, _≤_, _<_}
 use native.Mathlib.Omega.{arith}
-use mathlib.Core.Path.{_≡_, refl, ap, ap₂, _∙_}
-use mathlib.Core.Bool.{Bool, true, _&&_, not}
+use mathlib.Core.Path.{_≡_, refl, ap₂, _∙_}
+use mathlib.Core.Bool.{Bool, true, false, _&&_, not}
 use mathlib.Core.List.{List, _++_}
-use Rattle.truth.specs.Bools.{guarded}
-use Rattle.mask.specs.Bits.{testBit}
-use Rattle.mask.specs.Sets.{maskOf, intersection, difference}
-use Rattle.mask.proofs.Laws.{test-intersection, length-intersection, bytes-intersection, test-difference, length-difference, bytes-difference}
+use Rattle.mask.specs.Sets.{maskOf, difference}
+use Rattle.mask.proofs.Laws.{test-difference, length-difference, bytes-difference}
 use Rattle.mask.proofs.Whole.{length-maskOf, bytes-maskOf, test-maskOf, is-maskOf}
 use Rattle.terms.specs.Schema.{Schema}
 use Rattle.terms.specs.Steps.{isAtom}
@@ -16,38 +14,47 @@ use Rattle.model.specs.Learned.{learned}
 use Rattle.jobs.specs.Planning.{domain}
 use Rattle.jobs.specs.Learn.{ruleRow, ruleRows}
 use Rattle.atoms.specs.Atoms.{atomSet}
-use Rattle.observed.specs.Observed.{alwaysBefore, everBefore, added, deleted}
-use Rattle.observed.specs.Rules.{observedSet, ruleSet, rulesObserved, sheetObserved}
+use Rattle.observed.specs.Observed.{alwaysBefore, everBefore, added, deleted, bound, setAt, observedSet}
+use Rattle.observed.specs.Rules.{ruleSet, rulesObserved, sheetObserved}
 use Rattle.observed.specs.Seen.{inSet, Seen}
+use Rattle.observed.proofs.Parts.{part-bytes}
+use Rattle.observed.proofs.Noted.{length-observedSet}
 
--- ---- a set of masks cut down to the bound facts of the move: those in it, and those not in it
-module _ (sch : Schema) (a : ℕ) (m : List ℕ) (p : ℕ → Bool) (says : (n : ℕ) → n < 256 → isAtom sch a n ≡ true → testBit m n ≡ p n) where
-  pub atoms-in : intersection (atomSet sch a) m ≡ maskOf 32 (λ n. isAtom sch a n && p n)
+module _ (sch : Schema) (ts : List Transition) (l : List ℕ) (seen : Seen sch ts l) (a : ℕ) (h : 1 ≤ a) (h′ : a ≤ 32) where
+  -- ---- a set of a move, as a set of its bound facts: those in it, and those not in it
+  pub seen-in : (k : ℕ) → k < 6 → observedSet l a k ≡ maskOf 32 (λ n. isAtom sch a n && inSet ts k a n)
+  unfolding observedSet
+  seen-in k hk =
+      is-maskOf _ 32 _ (length-observedSet l a k (seen .sized) h h′ (omega arith)) (part-bytes l (setAt a k) (seen .bytes))
+      (λ n hn. seen .says k hk a h h′ n hn)
+
+  pub seen-out : (k : ℕ) → k < 6 → difference (observedSet l a bound) (observedSet l a k) ≡ maskOf 32 (λ n. isAtom sch a n && not (inSet ts k a n))
   unfolding atomSet
-  atoms-in =
-      is-maskOf _ 32 _ (length-intersection _ m ∙ length-maskOf 32 _) (bytes-intersection _ m (bytes-maskOf 32 _))
-      (λ n h. test-intersection _ m n ∙ ap (λ (b : Bool). b && testBit m n) (test-maskOf 32 (isAtom sch a) n h) ∙ guarded (isAtom sch a n) _ _ (says n h))
+  seen-out k hk =
+      rw (seen .atoms a h h′)
+      (is-maskOf _ 32 _ (length-difference _ (observedSet l a k) ∙ length-maskOf 32 _) (bytes-difference _ (observedSet l a k) (bytes-maskOf 32 _))
+      (λ n hn. test-difference _ (observedSet l a k) n
+      ∙ rw (test-maskOf 32 (isAtom sch a) n hn, seen .says k hk a h h′ n hn) (without-within (isAtom sch a n) (inSet ts k a n))))
+    where
+      without-within : (i x : Bool) → (i && not (i && x)) ≡ (i && not x)
+      without-within true x = refl
+      without-within false x = refl
 
-  pub atoms-out : difference (atomSet sch a) m ≡ maskOf 32 (λ n. isAtom sch a n && not (p n))
-  unfolding atomSet
-  atoms-out =
-      is-maskOf _ 32 _ (length-difference _ m ∙ length-maskOf 32 _) (bytes-difference _ m (bytes-maskOf 32 _))
-      (λ n h. test-difference _ m n ∙ ap (λ (b : Bool). b && not (testBit m n)) (test-maskOf 32 (isAtom sch a) n h)
-      ∙ guarded (isAtom sch a n) _ _ (λ atom. ap not (says n h atom)))
-
-module _ (sch : Schema) (ts : List Transition) (l : List ℕ) (seen : Seen sch ts l) where
-  -- The four sets of a move are its learned ones,
-  pub rules-row : (a : ℕ) → 1 ≤ a → a ≤ 32 → rulesObserved sch l a ≡ ruleRow (learned (domain sch) ts) a
+  -- The four sets of a move are its learned ones.
+  pub rules-row : rulesObserved l a ≡ ruleRow (learned (domain sch) ts) a
   unfolding rulesObserved ruleSet ruleRow learned domain inSet
-  rules-row a h h′ = rw (
-    atoms-in sch a (observedSet l a alwaysBefore) (inSet ts alwaysBefore a) (λ n. seen .says alwaysBefore (omega arith) a h h′ n),
-    atoms-out sch a (observedSet l a everBefore) (inSet ts everBefore a) (λ n. seen .says everBefore (omega arith) a h h′ n),
-    atoms-in sch a (observedSet l a added) (inSet ts added a) (λ n. seen .says added (omega arith) a h h′ n),
-    atoms-in sch a (observedSet l a deleted) (inSet ts deleted a) (λ n. seen .says deleted (omega arith) a h h′ n),
-  )
+  rules-row =
+      rw (
+        seen-in alwaysBefore (omega arith),
+        seen-out everBefore (omega arith),
+        seen-in added (omega arith),
+        seen-in deleted (omega arith),
+      )
 
-  -- and so is the whole sheet.
-  pub sheet-rows : (n a : ℕ) → 1 ≤ a → a + n ≤ 33 → sheetObserved sch l n a ≡ ruleRows (learned (domain sch) ts) n a
-  unfolding sheetObserved ruleRows
-  sheet-rows zero a h h′ = refl
-  sheet-rows (suc n) a h h′ = ap₂ (λ (r s : List ℕ). r ++ s) (rules-row a h (omega arith)) (sheet-rows n (suc a) (omega arith) (omega arith))
+-- And so is the whole sheet.
+pub sheet-rows : (sch : Schema) (ts : List Transition) (l : List ℕ) → Seen sch ts l → (n a : ℕ) → 1 ≤ a → a + n ≤ 33
+    → sheetObserved l n a ≡ ruleRows (learned (domain sch) ts) n a
+unfolding sheetObserved ruleRows
+sheet-rows sch ts l seen zero a h h′ = refl
+sheet-rows sch ts l seen (suc n) a h h′ =
+    ap₂ (λ (r s : List ℕ). r ++ s) (rules-row sch ts l seen a h (omega arith)) (sheet-rows sch ts l seen n (suc a) (omega arith) (omega arith))

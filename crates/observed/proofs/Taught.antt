@@ -2,7 +2,7 @@
 use Prim.Native.Nat.{_≤_}
 use native.Mathlib.Omega.{arith}
 use mathlib.Core.Path.{_≡_, refl}
-use mathlib.Core.List.{List, map}
+use mathlib.Core.List.{List, [], map}
 use Rattle.terms.specs.Schema.{Schema}
 use Rattle.format.specs.Decode.{RecordedStep}
 use Rattle.model.specs.Quantify.{Mem}
@@ -10,23 +10,23 @@ use Rattle.jobs.specs.Planning.{transition}
 use Rattle.observed.specs.Observed.{observeAll, nothingSeen}
 use Rattle.observed.specs.Faithful.{Faithful}
 use Rattle.observed.specs.Taught.{Taught}
-use Rattle.observed.proofs.Observe.{seen-observed}
+use Rattle.observed.proofs.Observe.{seen-nothing, seen-observed}
 use Rattle.observed.proofs.Sheet.{sheet-rows}
 use Rattle.observed.proofs.Conflicts.{conflicting-same}
 use Rattle.observed.proofs.Unbound.{unbound-observed}
 
-none-named : nothingSeen .named ≡ 0
+none-named : (sch : Schema) → nothingSeen sch .named ≡ 0
 unfolding nothingSeen
-none-named = refl
+none-named sch = refl
 
 pub taught : (sch : Schema) → sch .relations ≤ 16 → sch .moves ≤ 32 → (fs : List RecordedStep) → ((f : RecordedStep) → Mem f fs → Faithful sch f)
-    → Taught sch fs (observeAll fs nothingSeen)
+    → Taught sch fs (observeAll fs (nothingSeen sch))
 taught sch relations moves fs all =
     let seen = seen-observed sch moves fs all in
     record {
       sized = seen .sized;
       bytes = seen .bytes;
-      row11 = unbound-observed sch fs all nothingSeen none-named;
-      row12 = conflicting-same sch relations (map (transition sch) fs) (observeAll fs nothingSeen .masks) seen moves;
-      sheet = sheet-rows sch (map (transition sch) fs) (observeAll fs nothingSeen .masks) seen (sch .moves) 1 (omega arith) (omega arith);
+      row11 = unbound-observed sch moves fs all [] (nothingSeen sch) (seen-nothing sch) (none-named sch);
+      row12 = conflicting-same sch relations (map (transition sch) fs) (observeAll fs (nothingSeen sch) .masks) seen moves;
+      sheet = sheet-rows sch (map (transition sch) fs) (observeAll fs (nothingSeen sch) .masks) seen (sch .moves) 1 (omega arith) (omega arith);
     }

@@ -1,7 +1,7 @@
 -- What learning asks of one step as recorded: that the bound facts found from the facts are those that the step's grounding means. Good form gives it.
 use Prim.Native.Nat.{ℕ, _≤_, _<_}
 use mathlib.Core.Path.{_≡_}
-use mathlib.Core.Bool.{true}
+use mathlib.Core.Bool.{_&&_}
 use mathlib.Core.List.{List}
 use Rattle.limits.specs.Limits.{maxAtoms}
 use Rattle.mask.specs.Bits.{testBit}
@@ -9,15 +9,17 @@ use Rattle.terms.specs.declared.Fact.{Fact}
 use Rattle.terms.specs.declared.Step.{Step}
 use Rattle.terms.specs.Schema.{Schema}
 use Rattle.terms.specs.Steps.{isAtom, ground}
+use Rattle.atoms.specs.Atoms.{atomSet}
 use Rattle.format.specs.Decode.{RecordedStep}
 use Rattle.model.specs.Learned.{unboundEffect}
 use Rattle.jobs.specs.Planning.{domain, holding, transition}
 use Rattle.observed.specs.Inverse.{atomsIn, unboundChanged}
 
--- at each of the step's atoms, the set found from the facts has the value that the state gives the atom's fact
+-- the set found from the facts has those of the step's atoms whose facts hold in the state
 abbrev pub Found : Schema → Step → List Fact → Type 0
 Found sch st fs =
-    (n : ℕ) → n < maxAtoms → isAtom sch (st .action .0) n ≡ true → testBit (atomsIn (st .binding) fs) n ≡ holding fs (ground sch (st .binding) n)
+    (n : ℕ) → n < maxAtoms
+    → testBit (atomsIn (atomSet sch (st .action .0)) (st .binding) fs) n ≡ (isAtom sch (st .action .0) n && holding fs (ground sch (st .binding) n))
 
 pub record Faithful (sch : Schema) (f : RecordedStep) : Type 0 where
   pub counted : 1 ≤ f .step .action .0
@@ -25,4 +27,4 @@ pub record Faithful (sch : Schema) (f : RecordedStep) : Type 0 where
   pub placed : 1 ≤ f .place
   pub was : Found sch (f .step) (f .pre)
   pub got : Found sch (f .step) (f .post)
-  pub unboundEffects : unboundChanged (f .step .binding) (f .pre) (f .post) ≡ unboundEffect (domain sch) (transition sch f)
+  pub unboundEffects : unboundChanged (atomSet sch (f .step .action .0)) (f .step .binding) (f .pre) (f .post) ≡ unboundEffect (domain sch) (transition sch f)

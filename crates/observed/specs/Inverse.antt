@@ -1,10 +1,11 @@
 -- From a fact back to the bound fact (lifted atom) that it is under a binding: the facts of a state as a set of a step's atoms, and those left over.
+-- `atoms` is the set of the bound facts of the step's move.
 use Prim.Native.Nat.{ℕ, _+_, _-_, _*_}
 use mathlib.Core.Bool.{Bool, true, false, cond, _&&_, _||_, not}
 use mathlib.Core.List.{List, [], _∷_}
 use lib.Dec.{eqb}
 use Rattle.limits.specs.Limits.{setSize}
-use Rattle.mask.specs.Bits.{setBit}
+use Rattle.mask.specs.Bits.{testBit, setBit}
 use Rattle.mask.specs.Sets.{empty}
 use Rattle.terms.specs.declared.Object.{Object}
 use Rattle.terms.specs.declared.Binding.{Binding}
@@ -24,28 +25,30 @@ paramOf b x =
 unfoldable pub placeBound : Binding → Object → Bool
 placeBound b x = eqb (x .0) 0 || not (eqb (paramOf b x) 0)
 
-unfoldable pub factBound : Binding → Fact → Bool
-factBound b f = placeBound b (f .first) && placeBound b (f .second)
-
--- the number n of the bound fact
+-- the number n of the parameters that have the objects of a fact, with its relation
 unfoldable pub atomOf : Binding → Fact → ℕ
 atomOf b f = 16 * (f .relation .0 - 1) + 4 * (paramOf b (f .first) - 1) + (paramOf b (f .second) - 1)
 
-unfoldable pub mark : Binding → List ℕ → Fact → List ℕ
-mark b m f = cond (factBound b f) (setBit m (atomOf b f)) m
+-- A fact is a bound fact of the step: its objects are the binding's, and the move has the bound fact. Objects of a kind below their parameters'
+-- may suit where the parameters do not.
+unfoldable pub factBound : List ℕ → Binding → Fact → Bool
+factBound atoms b f = placeBound b (f .first) && placeBound b (f .second) && testBit atoms (atomOf b f)
 
-unfoldable pub marks : Binding → List ℕ → List Fact → List ℕ
-marks b m [] = m
-marks b m (f ∷ fs) = marks b (mark b m f) fs
+unfoldable pub mark : List ℕ → Binding → List ℕ → Fact → List ℕ
+mark atoms b m f = cond (factBound atoms b f) (setBit m (atomOf b f)) m
+
+unfoldable pub marks : List ℕ → Binding → List ℕ → List Fact → List ℕ
+marks atoms b m [] = m
+marks atoms b m (f ∷ fs) = marks atoms b (mark atoms b m f) fs
 
 -- the bound facts of a step that hold in a state
-unfoldable pub atomsIn : Binding → List Fact → List ℕ
-atomsIn b fs = marks b (empty setSize) fs
+unfoldable pub atomsIn : List ℕ → Binding → List Fact → List ℕ
+atomsIn atoms b fs = marks atoms b (empty setSize) fs
 
 -- the facts that are no bound facts of the step
-unfoldable pub unbound : Binding → List Fact → List Fact
-unbound b [] = []
-unbound b (f ∷ fs) = cond (factBound b f) (unbound b fs) (f ∷ unbound b fs)
+unfoldable pub unbound : List ℕ → Binding → List Fact → List Fact
+unbound atoms b [] = []
+unbound atoms b (f ∷ fs) = cond (factBound atoms b f) (unbound atoms b fs) (f ∷ unbound atoms b fs)
 
 unfoldable pub sameFact : Fact → Fact → Bool
 sameFact f g = eqb (f .relation .0) (g .relation .0) && eqb (f .first .0) (g .first .0) && eqb (f .second .0) (g .second .0)
@@ -57,5 +60,5 @@ sameFacts (f ∷ fs) [] = false
 sameFacts (f ∷ fs) (g ∷ gs) = sameFact f g && sameFacts fs gs
 
 -- row 11, for facts in order: what is no bound fact did not stay as it was
-unfoldable pub unboundChanged : Binding → List Fact → List Fact → Bool
-unboundChanged b pre post = not (sameFacts (unbound b pre) (unbound b post))
+unfoldable pub unboundChanged : List ℕ → Binding → List Fact → List Fact → Bool
+unboundChanged atoms b pre post = not (sameFacts (unbound atoms b pre) (unbound atoms b post))

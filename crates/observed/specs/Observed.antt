@@ -1,15 +1,18 @@
--- What the learner has observed: six sets of bound facts for each move, 192 bytes a move, and the offset of the first step that row 11 names.
+-- What the learner has observed: seven sets of bound facts for each move, 224 bytes a move, and the offset of the first step that row 11 names.
+-- One of the seven is made before any record and stays: all bound facts of the move. Uses terms for these.
 use Prim.Native.Nat.{ℕ, _+_, _-_, _*_, _/_, _%_}
-use mathlib.Core.Bool.{Bool, cond, _||_}
+use mathlib.Core.Bool.{Bool, cond, _&&_, _||_}
 use mathlib.Core.List.{List, [], _∷_, _++_}
 use lib.ListN.{take, drop}
 use lib.Dec.{eqb}
 use Rattle.limits.specs.Limits.{setSize, observedSets, observedPerMove, observedSize, maxAtoms}
 use Rattle.mask.specs.Sets.{maskOf, intersection, union, difference}
+use Rattle.terms.specs.Schema.{Schema}
+use Rattle.terms.specs.Steps.{isAtom}
 use Rattle.format.specs.Decode.{RecordedStep, stepsOfRecord}
 use Rattle.observed.specs.Inverse.{atomsIn, unboundChanged}
 
--- ---- the six sets of a move, numbered in their order; src/lib.rt has the numbers for code
+-- ---- the seven sets of a move, numbered in their order; src/lib.rt has the numbers for code
 
 -- what held before every step of the move, and before some
 abbrev pub alwaysBefore : ℕ
@@ -32,6 +35,10 @@ added = 4
 abbrev pub deleted : ℕ
 deleted = 5
 
+-- what there is to observe: all bound facts of the move
+abbrev pub bound : ℕ
+bound = 6
+
 -- ---- what is observed
 
 -- `named` is 0 where no step is named
@@ -42,6 +49,9 @@ pub record Observed : Type 0 where
 -- where set k of a move stands
 unfoldable pub setAt : ℕ → ℕ → ℕ
 setAt a k = observedPerMove * (a - 1) + setSize * k
+
+unfoldable pub observedSet : List ℕ → ℕ → ℕ → List ℕ
+observedSet l a k = take setSize (drop (setAt a k) l)
 
 -- the set at an offset replaced by what is made of it
 unfoldable pub onSet : ℕ → (List ℕ → List ℕ) → List ℕ → List ℕ
@@ -61,14 +71,18 @@ noted a before after l =
 unfoldable pub firstNamed : ℕ → Bool → ℕ → ℕ
 firstNamed named unbound at = cond (eqb named 0) (cond unbound at 0) named
 
--- what is observed after one step more
-unfoldable pub observe : RecordedStep → Observed → Observed
-observe f h =
+-- what is observed after one step more of a move whose bound facts are `atoms`
+unfoldable pub observeBy : List ℕ → RecordedStep → Observed → Observed
+observeBy atoms f h =
     record {
       masks =
-          noted (f .step .action .0) (atomsIn (f .step .binding) (f .pre)) (atomsIn (f .step .binding) (f .post)) (h .masks);
-      named = firstNamed (h .named) (unboundChanged (f .step .binding) (f .pre) (f .post)) (f .place);
+          noted (f .step .action .0) (atomsIn atoms (f .step .binding) (f .pre)) (atomsIn atoms (f .step .binding) (f .post)) (h .masks);
+      named = firstNamed (h .named) (unboundChanged atoms (f .step .binding) (f .pre) (f .post)) (f .place);
     }
+
+-- the bound facts being those that were made before any record
+unfoldable pub observe : RecordedStep → Observed → Observed
+observe f h = observeBy (observedSet (h .masks) (f .step .action .0) bound) f h
 
 unfoldable pub observeAll : List RecordedStep → Observed → Observed
 observeAll [] h = h
@@ -78,6 +92,14 @@ observeAll (f ∷ fs) h = observeAll fs (observe f h)
 unfoldable pub observedAfter : List ℕ → ℕ → Observed → Observed
 observedAfter s at h = observeAll (stepsOfRecord s at) h
 
--- before any record: what holds at every one of no steps is everything
-unfoldable pub nothingSeen : Observed
-nothingSeen = record { masks = maskOf observedSize (λ i. eqb (i / maxAtoms % observedSets) alwaysBefore || eqb (i / maxAtoms % observedSets) alwaysAfter); named = 0 }
+-- number n in set k of move a before any record: what holds at every one of no steps is every bound fact
+unfoldable pub atFirst : Schema → ℕ → ℕ → ℕ → Bool
+atFirst sch a k n = isAtom sch a n && (eqb k alwaysBefore || eqb k alwaysAfter || eqb k bound)
+
+-- before any record
+unfoldable pub nothingSeen : Schema → Observed
+nothingSeen sch =
+    record {
+      masks = maskOf observedSize (λ i. atFirst sch (i / maxAtoms / observedSets + 1) (i / maxAtoms % observedSets) (i % maxAtoms));
+      named = 0;
+    }

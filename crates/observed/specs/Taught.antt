@@ -17,5 +17,5 @@ pub record Taught (sch : Schema) (fs : List RecordedStep) (h : Observed) : Type 
   pub sized : length (h .masks) ≡ observedSize
   pub bytes : Bytes (h .masks)
   pub row11 : unboundAnswer (h .named) ≡ unboundEffects sch fs
-  pub row12 : conflictAmong sch (h .masks) (sch .moves) ≡ conflictingMove sch (map (transition sch) fs)
-  pub sheet : sheetObserved sch (h .masks) (sch .moves) 1 ≡ ruleRows (learned (domain sch) (map (transition sch) fs)) (sch .moves) 1
+  pub row12 : conflictAmong (h .masks) (sch .moves) ≡ conflictingMove sch (map (transition sch) fs)
+  pub sheet : sheetObserved (h .masks) (sch .moves) 1 ≡ ruleRows (learned (domain sch) (map (transition sch) fs)) (sch .moves) 1

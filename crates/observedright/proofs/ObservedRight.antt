@@ -39,9 +39,9 @@ module _ (s : List ℕ) (n : ℕ) (good : lookOver s ≡ Good n) where
         placed = steps-placed s _ _ k;
         was = state-found (schemaOf s) ob few (f .step) (right .step) (f .pre) (right .pre .suits);
         got = state-found (schemaOf s) ob few (f .step) (right .step) (f .post) (right .post .suits);
-        unboundEffects = unbound-changed-right (schemaOf s) ob few f right;
+        unboundEffects = unbound-changed-right (schemaOf s) (relations-few s n good) ob few f right;
       }
 
   -- What is observed after the steps of a book of good form gives exactly its sheet, its row 11 and its row 12.
-  pub observed-right : Taught (schemaOf s) (stepsOfBook s) (observeAll (stepsOfBook s) nothingSeen)
+  pub observed-right : Taught (schemaOf s) (stepsOfBook s) (observeAll (stepsOfBook s) (nothingSeen (schemaOf s)))
   observed-right = taught (schemaOf s) (relations-few s n good) (moves-few s n good) (stepsOfBook s) recorded-faithful

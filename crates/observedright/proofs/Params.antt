@@ -4,19 +4,19 @@ use native.Mathlib.Omega.{arith}
 use mathlib.Core.Path.{_≡_, refl, sym, _∙_}
 use mathlib.Core.Logic.{_⊎_, inl, inr}
 use mathlib.Core.Bool.{Bool, true, false, cond, not}
-use lib.Dec.{eqb, leb}
-use borrow.Author.Tests.{eqb-true, eqb-false, eq-eqb, ne-eqb, leb-true, not-true}
-use Rattle.truth.specs.Bools.{clash, decide, or-right, or-out, not-in}
+use lib.Dec.{eqb}
+use borrow.Author.Tests.{eqb-true, eqb-false, eq-eqb, ne-eqb, not-true}
+use Rattle.truth.specs.Bools.{clash, or-right, or-out, not-in}
 use Rattle.terms.specs.declared.Object.{Object}
 use Rattle.terms.specs.declared.Binding.{Binding}
 use Rattle.terms.specs.declared.Step.{Step}
 use Rattle.terms.specs.Schema.{Schema, TypedObjects}
-use Rattle.terms.specs.Steps.{argumentBad}
+use Rattle.terms.specs.Steps.{objectOf}
 use Rattle.observed.specs.Inverse.{gives, paramOf, placeBound}
 use Rattle.observed.proofs.Params.{param-out}
 use Rattle.wellformed.specs.Right.{RightStep}
-use Rattle.wellformed.specs.Grounding.{BoundBy}
-use Rattle.wellformed.proofs.Suits.{four, objectAt, unused-out, argument-right, parameters-apart}
+use Rattle.terms.proofs.Atoms.{four}
+use Rattle.wellformed.proofs.Suits.{objectAt, parameters-apart}
 
 module _ (b : Binding) (x : Object) where
   -- an object that a parameter has is found
@@ -36,38 +36,19 @@ module _ (b : Binding) (x : Object) where
   unfolding placeBound paramOf
   param-none e = (rw (eq-eqb (x .0) 0 e), rw (eq-eqb (x .0) 0 e))
 
-module _ (sch : Schema) (ob : TypedObjects) (st : Step) (right : RightStep sch ob st) where
-  -- a parameter with an object is one that the move uses
-  param-used : (i : ℕ) → 1 ≤ i → i ≤ 4 → 1 ≤ objectAt st i .0 → i ≤ sch .params (st .action)
-  unfolding argumentBad
-  param-used i low high some = go (decide (leb i (sch .params (st .action))))
+  -- A place that is bound, with an object in it, has the object of the parameter that is found.
+  pub bound-out : 1 ≤ x .0 → placeBound b x ≡ true → (1 ≤ paramOf b x) × (objectOf b (record { 0 = paramOf b x }) .0 ≡ x .0)
+  unfolding placeBound gives
+  bound-out some e =
+      let found = go (or-out (eqb (x .0) 0) (not (eqb (paramOf b x) 0)) e) in
+      (found, eqb-true _ _ (param-out b x found .1))
     where
-      go : (leb i (sch .params (st .action)) ≡ true) ⊎ (leb i (sch .params (st .action)) ≡ false) → i ≤ sch .params (st .action)
-      go (inl h) = leb-true i _ h
-      go (inr h) = absurd (omega (arith, unused-out sch ob _ (objectAt st i) _ (argument-right sch ob st right i low high) h))
+      go : (eqb (x .0) 0 ≡ true) ⊎ (not (eqb (paramOf b x) 0) ≡ true) → 1 ≤ paramOf b x
+      go (inl h) = absurd (omega (arith, eqb-true (x .0) 0 h))
+      go (inr h) = omega (arith, eqb-false (paramOf b x) 0 (not-true _ h))
 
+module _ (sch : Schema) (ob : TypedObjects) (st : Step) (right : RightStep sch ob st) where
   module _ (x : Object) (some : 1 ≤ x .0) where
-    -- A place that is bound, with an object in it, has the object of a parameter that the move uses.
-    pub bound-out : placeBound (st .binding) x ≡ true → BoundBy sch st x
-    unfolding placeBound gives
-    bound-out e =
-        let (most, given) = param-out (st .binding) x found in
-        let same : objectAt st (paramOf (st .binding) x) .0 ≡ x .0 = eqb-true _ _ given in
-        record {
-          param = paramOf (st .binding) x;
-          from-1 = found;
-          to-4 = most;
-          used = param-used (paramOf (st .binding) x) found most (omega arith);
-          object = λ i. record { 0 = same i };
-        }
-      where
-        go : (eqb (x .0) 0 ≡ true) ⊎ (not (eqb (paramOf (st .binding) x) 0) ≡ true) → 1 ≤ paramOf (st .binding) x
-        go (inl h) = absurd (omega (arith, eqb-true (x .0) 0 h))
-        go (inr h) = omega (arith, eqb-false (paramOf (st .binding) x) 0 (not-true _ h))
-
-        found : 1 ≤ paramOf (st .binding) x
-        found = go (or-out (eqb (x .0) 0) (not (eqb (paramOf (st .binding) x) 0)) e)
-
     -- The object of a parameter is found, and no other parameter with it.
     pub bound-in : (i : ℕ) → 1 ≤ i → i ≤ 4 → objectAt st i .0 ≡ x .0 → (placeBound (st .binding) x ≡ true) × (paramOf (st .binding) x ≡ i)
     unfolding placeBound gives

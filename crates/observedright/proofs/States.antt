@@ -21,7 +21,7 @@ use Rattle.observed.specs.Inverse.{factBound, atomOf, mark, marks, atomsIn}
 use Rattle.observed.specs.Faithful.{Found}
 use Rattle.observed.proofs.Observe.{length-mark}
 use Rattle.wellformed.specs.Right.{RightStep}
-use Rattle.observedright.proofs.Atoms.{found}
+use Rattle.observedright.proofs.Atoms.{atomsOf, found}
 
 -- a bit put in if a test holds
 test-mark : (c : Bool) (m : List ℕ) (k n : ℕ) → n < 256 → length m ≡ 32 → testBit (cond c (setBit m k) m) n ≡ (testBit m n || c && eqb k n)
@@ -34,19 +34,19 @@ gather t a b c = or-assoc t (a && b) (a && c) ∙ ap (λ (d : Bool). t || d) (sy
 
 module _ (sch : Schema) (ob : TypedObjects) (few : ob .count ≤ maxObjects) (st : Step) (right : RightStep sch ob st) where
   marks-found : (fs : List Fact) → ((f : Fact) → Mem f fs → factBad sch ob f ≡ false) → (m : List ℕ) → length m ≡ 32 → (n : ℕ) → n < 256
-      → testBit (marks (st .binding) m fs) n ≡ (testBit m n || isAtom sch (st .action .0) n && holding fs (ground sch (st .binding) n))
+      → testBit (marks (atomsOf sch ob st right) (st .binding) m fs) n ≡ (testBit m n || isAtom sch (st .action .0) n && holding fs (ground sch (st .binding) n))
   unfolding marks mark holding any
   marks-found [] good m e n h = sym (ap (λ (b : Bool). testBit m n || b) (and-false (isAtom sch (st .action .0) n)) ∙ or-false (testBit m n))
   marks-found (f ∷ fs) good m e n h =
-      marks-found fs (λ g k. good g (there k)) _ (length-mark (factBound (st .binding) f) m (atomOf (st .binding) f) ∙ e) n h
-      ∙ rw (test-mark (factBound (st .binding) f) m (atomOf (st .binding) f) n h e, found sch ob st right few f (good f here) n)
+      marks-found fs (λ g k. good g (there k)) _ (length-mark (factBound (atomsOf sch ob st right) (st .binding) f) m (atomOf (st .binding) f) ∙ e) n h
+      ∙ rw (test-mark (factBound (atomsOf sch ob st right) (st .binding) f) m (atomOf (st .binding) f) n h e, found sch ob st right few f (good f here) n h)
       (gather (testBit m n) (isAtom sch (st .action .0) n) _ _)
 
   -- The bound facts found from a right state are those whose facts hold in it.
   pub atoms-found : (fs : List Fact) → ((f : Fact) → Mem f fs → factBad sch ob f ≡ false) → (n : ℕ) → n < 256
-      → testBit (atomsIn (st .binding) fs) n ≡ (isAtom sch (st .action .0) n && holding fs (ground sch (st .binding) n))
+      → testBit (atomsIn (atomsOf sch ob st right) (st .binding) fs) n ≡ (isAtom sch (st .action .0) n && holding fs (ground sch (st .binding) n))
   unfolding atomsIn
   atoms-found fs good n h = marks-found fs good (empty 32) (length-empty 32) n h ∙ rw (test-empty 32 n)
 
   pub state-found : (fs : List Fact) → ((f : Fact) → Mem f fs → factBad sch ob f ≡ false) → Found sch st fs
-  state-found fs good n h atom = atoms-found fs good n h ∙ rw atom
+  state-found fs good n h = atoms-found fs good n h

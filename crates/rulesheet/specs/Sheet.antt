@@ -5,7 +5,6 @@ use mathlib.Core.Bool.{true, false}
 use mathlib.Core.List.{List, [], _∷_, _++_}
 use lib.ListN.{length, getD}
 use Rattle.limits.specs.Limits.{observedSize, maxMoves}
-use Rattle.terms.specs.Schema.{Schema}
 use Rattle.jobs.specs.SheetBits.{needSet, effectSet}
 use Rattle.observed.specs.Rules.{ruleSet}
 
@@ -13,9 +12,9 @@ use Rattle.observed.specs.Rules.{ruleSet}
 abbrev pub MoveObserved : List ℕ → ℕ → Type 0
 MoveObserved l a = (length l ≡ observedSize) × (1 ≤ a) × (a ≤ maxMoves)
 
-unfoldable pub ruleSets : Schema → List ℕ → ℕ → List (List ℕ)
-ruleSets sch l a =
-    ruleSet sch l a (needSet true) ∷ ruleSet sch l a (needSet false) ∷ ruleSet sch l a (effectSet true) ∷ ruleSet sch l a (effectSet false) ∷ []
+unfoldable pub ruleSets : List ℕ → ℕ → List (List ℕ)
+ruleSets l a =
+    ruleSet l a (needSet true) ∷ ruleSet l a (needSet false) ∷ ruleSet l a (effectSet true) ∷ ruleSet l a (effectSet false) ∷ []
 
 -- the four sets one after the other
 unfoldable pub row : List (List ℕ) → List ℕ

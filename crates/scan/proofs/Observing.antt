@@ -18,11 +18,10 @@ use Rattle.format.specs.LookOver.{allRecords}
 use Rattle.format.specs.Records.{objectsIn, stepsIn, lengthIn, step, recordAt}
 use Rattle.format.specs.Decode.{stateEnd, recordedStepsAt, stepsOfRecord, stepsOfRecords}
 use Rattle.format.proofs.States.{state-within, state-end, state-ends}
-use Rattle.format.proofs.Records.{head-limits, step-reach, trajectory-parted, record-good}
+use Rattle.format.proofs.Records.{head-limits, step-good, step-reach, trajectory-parted, record-good}
 use Rattle.records.specs.declared.Head.{Head}
 use Rattle.records.specs.Head.{headOf}
-use Rattle.wellformed.proofs.Suits.{move-known}
-use Rattle.wellformed.proofs.Records.{step-parted}
+use Rattle.wellformed.proofs.Suits.{move-there}
 use Rattle.observed.specs.Observed.{Observed, observeAll, observedAfter}
 use Rattle.observed.proofs.Records.{observed-none, observed-more}
 use Rattle.notes.specs.Notes.{IsObserved}
@@ -36,8 +35,8 @@ unfolding Observable
 observable-steps sch ob s end short long few zero at mid last l e f = (l, omega (arith, state-ends sch ob s end at mid e))
 observable-steps sch ob s end short long few (suc n) at mid last l e f =
     let (after, good, rest) = trajectory-parted sch ob s end n at mid last e f in
-    let (right, behind) = step-parted sch ob s end (stateEnd s at) after good in
-    let k = move-known sch ob (stepAt s (stateEnd s at)) right in
+    let (suits, different, behind) = step-good sch ob s end (stateEnd s at) after good in
+    let k = move-there sch ob (stepAt s (stateEnd s at)) suits in
     let reach = step-reach sch ob s end (stateEnd s at) after good in
     (l, omega arith, omega arith, k .0, omega arith, observable-steps sch ob s end short long few n (stateEnd s at + stepSize) after last (omega arith) behind rest)
 

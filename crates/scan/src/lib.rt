@@ -1,5 +1,5 @@
 // The walk over the records of a book, in file order: each looked over to its end, rows 6 to 10, and its steps observed where that is asked for.
-// Uses the reader of records for the rows, notes for one step, records for a head, answer, input, limits, and the definitions of format and observed. Looking over and learning both walk here.
+// Uses the reader of records for the rows, notes for one step and marks for the table that it is lent, records for a head, answer, input, limits, and the definitions of format and observed. Looking over and learning both walk here.
 use answer::Answer;
 use records::Head;
 ghost use mathlib.Core.Path.{_≡_};
@@ -36,9 +36,10 @@ fn observe_steps(s: &[u8], n: usize, from: usize, observed: &mut [u8], named: us
     let mut left = n;
     let mut at = from;
     let mut first = named;
+    let mut t = marks::no_digits();
     while 0 < left {
         let step = state_end(s, at);
-        first = notes::observe(s, at, step, observed, first);
+        first = notes::observe(s, at, step, &mut t, observed, first);
         at = step + limits::STEP_SIZE;
         left -= 1;
     }

@@ -1,5 +1,5 @@
--- The tests of rows 4 and 5, and rows 1 to 5 in order, put together from what the calls in the code return.
-use Prim.Native.Nat.{ℕ, _+_}
+-- The tests of rows 21, 4 and 5, and rows 1 to 5 in order, 21 after 3, put together from what the calls in the code return.
+use Prim.Native.Nat.{ℕ, _+_, _-_}
 use mathlib.Core.Path.{_≡_, _∙_}
 use mathlib.Core.Bool.{Bool, true, false, _||_, not}
 use mathlib.Core.List.{List}
@@ -12,8 +12,12 @@ use Rattle.answer.specs.Laws.{stays, follows}
 use Rattle.answer.specs.Walk.{walk}
 use Rattle.input.specs.Bytes.{byteAt}
 use Rattle.terms.specs.declared.Sections.{Sections}
-use Rattle.limits.specs.Limits.{maxPlaces, maxParams}
-use Rattle.format.specs.Header.{lengthBad, countsBad, offsetsBad, kindBad, relationBad, moveBad, relation, move, sections}
+use Rattle.limits.specs.Limits.{headerSize, maxPlaces, maxParams}
+use Rattle.format.specs.Header.{lengthBad, countsBad, offsetsBad, parentBad, kindBad, relationBad, moveBad, parent, relation, move, sections}
+
+pub parent-bad-by : (s : List ℕ) (at parent : ℕ) → parent ≡ byteAt s at → leb (at - headerSize + 1) parent ≡ parentBad s at
+unfolding parentBad
+parent-bad-by s at parent p = rw p
 
 module _ (s : List ℕ) (kinds at : ℕ) where
   pub relation-bad-by : (places last : ℕ) (a b : Bool)
@@ -37,6 +41,13 @@ module _ (s : List ℕ) (kinds at : ℕ) where
   move-bad-by params last a b c d p q r t u v = rw (q, r, t, u, v, p)
 
 module _ (h : Sections) (s : List ℕ) where
+  -- row 5, and the rows from 4 on
+  abbrev rowFive : Answer
+  rowFive = walk (move s (h .kinds)) (h .moves .count) (h .moves .at)
+
+  abbrev fromFour : Answer
+  fromFour = walk (relation s (h .kinds)) (h .relations .count) (h .relations .at) >>= λ next. rowFive
+
   pub row-one : lengthBad s ≡ true → Refused 1 0 ≡ sections h s
   unfolding sections _>>=_ refuse
   row-one e = rw e
@@ -51,16 +62,20 @@ module _ (h : Sections) (s : List ℕ) where
       unfolding sections _>>=_ refuse
       row-three e = rw (one, two, e)
 
-      module _ (three : offsetsBad h (length s) ≡ false) (a : Answer) (is : a ≡ walk (relation s (h .kinds)) (h .relations .count) (h .relations .at)) where
-        rows-on : (a >>= λ next. walk (move s (h .kinds)) (h .moves .count) (h .moves .at)) ≡ sections h s
+      module _ (three : offsetsBad h (length s) ≡ false) (p : Answer) (parents : p ≡ walk (parent s) (h .relations .at - headerSize) headerSize) where
+        rows-on : (p >>= λ next. fromFour) ≡ sections h s
         unfolding sections _>>=_ refuse
-        rows-on = rw (is, one, two, three)
+        rows-on = rw (parents, one, two, three)
 
-        pub row-four : isRefused a ≡ true → a ≡ sections h s
-        row-four e = stays a _ e ∙ rows-on
+        pub row-twenty-one : isRefused p ≡ true → p ≡ sections h s
+        row-twenty-one e = stays p _ e ∙ rows-on
 
-        pub row-five : isRefused a ≡ false
-            → (b : Answer)
-            → b ≡ walk (move s (h .kinds)) (h .moves .count) (h .moves .at)
-            → b ≡ sections h s
-        row-five e b w = w ∙ follows a (λ next. walk (move s (h .kinds)) (h .moves .count) (h .moves .at)) e ∙ rows-on
+        module _ (smaller : isRefused p ≡ false) (a : Answer) (is : a ≡ walk (relation s (h .kinds)) (h .relations .count) (h .relations .at)) where
+          rows-after : (a >>= λ next. rowFive) ≡ sections h s
+          rows-after = rw is (follows p (λ next. fromFour) smaller ∙ rows-on)
+
+          pub row-four : isRefused a ≡ true → a ≡ sections h s
+          row-four e = stays a _ e ∙ rows-after
+
+          pub row-five : isRefused a ≡ false → (b : Answer) → b ≡ rowFive → b ≡ sections h s
+          row-five e b w = w ∙ follows a (λ next. rowFive) e ∙ rows-after

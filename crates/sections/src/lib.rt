@@ -1,10 +1,10 @@
-// Rows 1 to 5 of the refusal table: the length, the header's counts and offsets, the relations and the moves of a book.
+// Rows 1 to 5 of the refusal table: the length, the header's counts and offsets, the parents of kinds, the relations and the moves of a book.
 // Uses answer, input, limits, terms and the definitions of format; each contract names its definition.
 ghost use mathlib.Core.Path.{_≡_};
-ghost use Prim.Native.Nat.{_≤_};
-ghost use Rattle.limits.specs.Limits.{farCeiling};
+ghost use Prim.Native.Nat.{_+_, _≤_};
+ghost use Rattle.limits.specs.Limits.{headerSize, farCeiling};
 ghost use Rattle.answer.specs.Walk.{walk};
-ghost use Rattle.format.specs.Header.{lengthBad, countsBad, offsetsBad, kindBad, relationBad, moveBad, relation, move, sections};
+ghost use Rattle.format.specs.Header.{lengthBad, countsBad, offsetsBad, parentBad, kindBad, relationBad, moveBad, parent, relation, move, sections};
 use answer::Answer;
 use terms::Sections;
 
@@ -26,7 +26,8 @@ fn counts_bad(h: Sections) -> bool
         | (limits::MAX_RECORDS < h.records.count)
 }
 
-// Row 3: the sections touch, and the records begin at or before the end, which is the length.
+// Row 3: the relations begin where the header ends, or behind a parent for each kind; the sections touch, and the records begin at or before
+// the end, which is the length.
 fn offsets_bad(h: Sections, size: usize) -> bool
     ensures { λ r. ⌜ r ≡ offsetsBad h size ⌝ }
 {
@@ -34,11 +35,19 @@ fn offsets_bad(h: Sections, size: usize) -> bool
     let moves = h.moves.at as usize;
     let records = h.records.at as usize;
     let end = h.end as usize;
-    (relations != limits::HEADER_SIZE)
+    !((relations == limits::HEADER_SIZE) | (relations == limits::HEADER_SIZE + h.kinds as usize))
         | (moves != relations + limits::RELATION_SIZE * h.relations.count as usize)
         | (records != moves + limits::MOVE_SIZE * h.moves.count as usize)
         | (end != size)
         | (end < records)
+}
+
+// Row 21, of the parent at an offset: it is not smaller than its kind.
+fn parent_bad(s: &[u8], at: usize) -> bool
+    requires { ⌜ (headerSize ≤ at) × (at ≤ farCeiling) ⌝ }
+    ensures { λ r. ⌜ r ≡ parentBad (now (s .entry)) at ⌝ }
+{
+    at - limits::HEADER_SIZE + 1 <= input::byte_at(s, at) as usize
 }
 
 // A kind byte: a kind where it is used, 0 where it is not.
@@ -75,6 +84,23 @@ fn move_bad(s: &[u8], kinds: u16, at: usize) -> bool
     (limits::MAX_PARAMS < params) | first | second | third | fourth | (last != 0)
 }
 
+// Row 21 of each parent: where the relations start, or the first one that is wrong.
+fn parents(s: &[u8], n: usize, from: usize) -> Answer
+    requires { ⌜ (headerSize ≤ from) × (from + n ≤ farCeiling) ⌝ }
+    ensures { λ r. ⌜ r ≡ walk (parent (now (s .entry))) n from ⌝ }
+{
+    let mut left = n;
+    let mut at = from;
+    while 0 < left {
+        if parent_bad(s, at) {
+            return Answer::Refused(21, at);
+        }
+        at += 1;
+        left -= 1;
+    }
+    Answer::Good(at)
+}
+
 // Row 4 of each relation: where the moves start, or the first one that is wrong.
 fn relations(s: &[u8], kinds: u16, n: u16, from: u16) -> Answer
     ensures { λ r. ⌜ r ≡ walk (relation (now (s .entry)) kinds) n from ⌝ }
@@ -107,7 +133,7 @@ fn moves(s: &[u8], kinds: u16, n: u16, from: u16) -> Answer
     Answer::Good(at)
 }
 
-// Rows 1 to 5 in order, of a book with the header `h`: where the records start, or the first refusal met.
+// Rows 1 to 5 in order, 21 after 3, of a book with the header `h`: where the records start, or the first refusal met.
 pub fn sections(s: &[u8], h: Sections) -> Answer
     ensures { λ r. ⌜ r ≡ sections h (now (s .entry)) ⌝ }
 {
@@ -119,6 +145,14 @@ pub fn sections(s: &[u8], h: Sections) -> Answer
     }
     if offsets_bad(h, s.len()) {
         return Answer::Refused(3, 0);
+    }
+    let ranked = parents(
+        s,
+        h.relations.at as usize - limits::HEADER_SIZE,
+        limits::HEADER_SIZE,
+    );
+    if answer::is_refused(ranked) {
+        return ranked;
     }
     let listed = relations(s, h.kinds, h.relations.count, h.relations.at);
     if answer::is_refused(listed) {

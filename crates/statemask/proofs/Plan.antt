@@ -38,13 +38,13 @@ module _ (sch : Schema) (l : List ℕ) (st : Step) (plan : List Step) (m : List 
 
 module _ (D : Domain) (M : Model) (sch : Schema) (l : List ℕ) where
   module _ (few : D .atoms ≤ maxAtoms) (valid : Valid D M) (s : Step) (fits : InMask D (groundAction sch s)) (st : State) (under : Under st) where
-    step-inapplicable : Ruled M (s .action .0) (ruleSet sch l (s .action .0)) → stepInapplicable sch l s (maskOf stateSize st) ≡ inapplicable D M (groundAction sch s) st
+    step-inapplicable : Ruled M (s .action .0) (ruleSet l (s .action .0)) → stepInapplicable sch l s (maskOf stateSize st) ≡ inapplicable D M (groundAction sch s) st
     unfolding stepInapplicable groundAction
-    step-inapplicable ruled = inapplicable-mask D M few valid (groundAction sch s) fits (ruleSet sch l (s .action .0)) ruled st under
+    step-inapplicable ruled = inapplicable-mask D M few valid (groundAction sch s) fits (ruleSet l (s .action .0)) ruled st under
 
-    step-next : Ruled M (s .action .0) (ruleSet sch l (s .action .0)) → stepNext sch l s (maskOf stateSize st) ≡ maskOf stateSize (next D M (groundAction sch s) st)
+    step-next : Ruled M (s .action .0) (ruleSet l (s .action .0)) → stepNext sch l s (maskOf stateSize st) ≡ maskOf stateSize (next D M (groundAction sch s) st)
     unfolding stepNext groundAction
-    step-next ruled = next-mask D M few valid (groundAction sch s) fits (ruleSet sch l (s .action .0)) ruled st under
+    step-next ruled = next-mask D M few valid (groundAction sch s) fits (ruleSet l (s .action .0)) ruled st under
 
   -- The plan over the mask of a state comes to what it comes to from the state.
   pub execute-run : (plan : List Step) → Executing D M sch l plan → (st : State) → Under st → (k : ℕ) → 1 ≤ k

@@ -39,7 +39,7 @@ pub record InMask (D : Domain) (s : GroundAction) : Type 0 where
 pub record Executing (D : Domain) (M : Model) (sch : Schema) (l : List ℕ) (plan : List Step) : Type 0 where
   pub few : D .atoms ≤ maxAtoms
   pub valid : Valid D M
-  pub ruled : (st : Step) → Mem st plan → Ruled M (st .action .0) (ruleSet sch l (st .action .0))
+  pub ruled : (st : Step) → Mem st plan → Ruled M (st .action .0) (ruleSet l (st .action .0))
   pub inMask : (st : Step) → Mem st plan → InMask D (groundAction sch st)
 
 -- the masks stop where the run stops; where it ends they have its end state

@@ -42,10 +42,10 @@ nextIn R g m = effects true (R (effectSet true)) g (effects false (R (effectSet 
 
 -- one step by what is observed: whether it is inapplicable, and the mask after it
 unfoldable pub stepInapplicable : Schema → List ℕ → Step → List ℕ → Bool
-stepInapplicable sch l st m = inapplicableIn (ruleSet sch l (st .action .0)) (ground sch (st .binding)) m
+stepInapplicable sch l st m = inapplicableIn (ruleSet l (st .action .0)) (ground sch (st .binding)) m
 
 unfoldable pub stepNext : Schema → List ℕ → Step → List ℕ → List ℕ
-stepNext sch l st m = nextIn (ruleSet sch l (st .action .0)) (ground sch (st .binding)) m
+stepNext sch l st m = nextIn (ruleSet l (st .action .0)) (ground sch (st .binding)) m
 
 -- what a plan comes to: the number of the step that is inapplicable, 0 where none is, and the mask where it stopped or ended
 pub record Executed : Type 0 where

@@ -4,14 +4,13 @@
 use answer::Answer;
 use terms::Fact;
 ghost use mathlib.Core.Path.{_≡_};
-ghost use mathlib.Core.Bool.{false};
 ghost use Prim.Native.Nat.{_+_, _-_, _*_, _≤_, _<_};
 ghost use lib.ListN.{length};
-ghost use Rattle.limits.specs.Limits.{countSize, maxFacts, factSize, nearCeiling, farCeiling};
+ghost use Rattle.limits.specs.Limits.{countSize, maxFacts, factSize, nearCeiling};
 ghost use Rattle.input.specs.Bytes.{two};
 ghost use Rattle.terms.specs.Facts.{noFact};
 ghost use Rattle.terms.specs.Told.{factKey};
-ghost use Rattle.format.specs.States.{countBad, factRefused, facts, state};
+ghost use Rattle.format.specs.States.{countBad, facts, state};
 ghost use Rattle.tables.specs.Tables.{ForRightByPlace};
 ghost use Rattle.states.specs.Cursor.{Ahead, factOf, misplaced};
 
@@ -70,15 +69,18 @@ impl FactCursor {
     }
 }
 
-// The fact at the cursor is cut, wrong, or not after the one before it.
-fn refused(c: FactCursor, t: &[u8], table: &[u32; 512], end: usize) -> bool
-    requires { ⌜ (end ≤ length (now t)) × (c .at + factSize ≤ farCeiling) × (c .size ≡ factSize) × (c .key ≡ factKey (c .last)) ⌝ }
-    ensures { λ r. ⌜ (r ≡ false → c .at + factSize ≤ end) × ForRightByPlace (now (table .entry)) (λ sch ob. r ≡ factRefused sch ob (now (t .entry)) end (c .last) (c .at)) ⌝ }
+// How many of n facts from an offset are not cut: the facts are then read without a test of each.
+fn uncut(end: usize, n: usize, from: usize) -> usize
+    ensures { λ r. ⌜ (r ≤ n) × (factSize * r ≤ end - from) × (r < n → end < from + factSize * r + factSize) ⌝ }
 {
-    if end < c.at + limits::FACT_SIZE {
-        return true;
+    if end < from {
+        return 0;
     }
-    c.bad(t, table)
+    let room = (end - from) / limits::FACT_SIZE;
+    if n < room {
+        return n;
+    }
+    room
 }
 
 // A number of facts from an offset, each refused with the number given.
@@ -93,12 +95,16 @@ pub fn facts(
     requires { ⌜ (end ≤ length (now t)) × (from ≤ nearCeiling + countSize) × (n ≤ maxFacts) ⌝ }
     ensures { λ r. ⌜ ForRightByPlace (now (table .entry)) (λ sch ob. r ≡ facts number sch ob (now (t .entry)) end n noFact from) ⌝ }
 {
-    let mut c = FactCursor::new(limits::FACT_SIZE, n, from);
+    let whole = uncut(end, n, from);
+    let mut c = FactCursor::new(limits::FACT_SIZE, whole, from);
     while 0 < c.left {
-        if refused(c, t, table, end) {
+        if c.bad(t, table) {
             return Answer::Refused(number, c.at);
         }
         c = c.next(t);
+    }
+    if whole < n {
+        return Answer::Refused(number, c.at);
     }
     Answer::Good(c.at)
 }

@@ -1,4 +1,6 @@
--- Laws for the proofs of src/, by subject: a byte with nothing in it (Near), Needs and Effects.
-pub mod Near
+-- Laws for the proofs of src/, by subject: words of bits (Words), of a set (Sets), and of what holds (Rows); Needs and Effects.
+pub mod Words
+pub mod Sets
+pub mod Rows
 pub mod Needs
 pub mod Effects

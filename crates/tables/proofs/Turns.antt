@@ -1,7 +1,7 @@
 -- Laws of the two tables for the functions that make them: the objects below a number are in the one, the relations in the other.
 use Prim.Native.Nat.{ℕ, _+_, _<_, _≤_}
-use mathlib.Core.Path.{_≡_, refl, sym, _∙_}
-use mathlib.Core.Bool.{Bool, true, false, cond, _&&_, _||_, not, and-true, and-false, or-false}
+use mathlib.Core.Path.{_≡_, refl, _∙_}
+use mathlib.Core.Bool.{Bool, true, false, cond, _&&_, _||_, not, and-false, or-false}
 use mathlib.Core.List.{List}
 use native.Mathlib.Decide.{ℕ-discrete}
 use native.Mathlib.Omega.{arith}
@@ -11,10 +11,9 @@ use lib.ListN.{length}
 use Rattle.mask.specs.Sets.{empty}
 use Rattle.mask.proofs.Laws.{length-empty}
 use Rattle.mask.proofs.Whole.{ltb-next}
-use Rattle.objectset.specs.Sets.{member, entry, put, stored}
-use Rattle.objectset.proofs.Laws.{member-none, member-put, put-same, put-other, length-put, entry-empty, stored-same, stored-other, length-stored}
+use Rattle.objectset.specs.Sets.{member, entry, stored}
+use Rattle.objectset.proofs.Laws.{member-none, entry-empty, stored-same, stored-other, length-stored}
 use Rattle.terms.specs.Schema.{Schema, outOfRange, kindSuits}
-use Rattle.terms.proofs.Suits.{suits-own, suits-no-other}
 use Rattle.tables.specs.Tables.{Joined}
 
 -- ---- numbers from 1 to below n
@@ -65,15 +64,6 @@ below-all count n x g i = below-bools count n x (ltb x 1) (ltb count x) refl ref
 -- ---- the table by kind, when the objects below n are in it
 unfoldable pub RightByKindTo : Schema → (ℕ → ℕ) → ℕ → List ℕ → Type 0
 RightByKindTo sch kind n ks = (length ks ≡ 256) × ((k x : ℕ) → member (entry ks k) x ≡ (below n x && kindSuits sch k (kind x)))
-
--- an object put into the set of its own kind is in the set of each kind that this suits
-pub put-joined : (sch : Schema) (kind x : ℕ) (t new : List ℕ) → x < 32 → kind < length t → new ≡ put t kind x → Joined sch kind x t new
-unfolding Joined
-put-joined sch kind x t new l h e = rw e (length-put t kind x, λ k y. by k y (ℕ-discrete kind k))
-  where
-    by : (k y : ℕ) → Dec (kind ≡ k) → member (entry (put t kind x) k) y ≡ (member (entry t k) y || eqb x y && kindSuits sch k kind)
-    by k y (yes p) = rw (← p, put-same t kind x h, suits-own sch kind, and-true (eqb x y)) (member-put (entry t kind) x y l)
-    by k y (no d) = rw (put-other t kind x k d, suits-no-other sch k kind d, and-false (eqb x y)) (sym (or-false (member (entry t k) y)))
 
 module _ (sch : Schema) (kind : ℕ → ℕ) where
   pub kinds-none : (ks : List ℕ) → ks ≡ empty 256 → RightByKindTo sch kind 1 ks

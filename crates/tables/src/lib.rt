@@ -16,12 +16,22 @@ ghost use Rattle.terms.specs.Schema.{schema, typedObjects};
 ghost use Rattle.terms.specs.Steps.{argumentBad, stepBad};
 ghost use Rattle.tables.specs.Tables.{Joined, RightByKind, kindsBad, placeSet, RightFrom, ForRightByKind};
 
-// Puts an object into the set of each kind that its own kind suits: its own, as long as no kind lies under another.
+// Puts an object into the set of its own kind and of each kind above it. Any bytes may stand as parents: so many kinds are looked at as
+// there may be.
 fn put_object(book: &[u8], h: Sections, kinds: &mut [u32; 256], kind: u8, x: u8)
     requires { ⌜ (x < 32) × (length (now kinds) ≡ 256) ⌝ }
     ensures { λ _. ⌜ Joined (schema h (now (book .entry))) kind x (now (kinds .entry)) (now (kinds .exit)) ⌝ }
 {
-    objectset::put(kinds, kind as usize, x);
+    let mut k = kind;
+    let mut left = limits::MAX_KINDS;
+    while 0 < left {
+        objectset::put(kinds, k as usize, x);
+        k = h.parent(book, k);
+        if k == 0 {
+            return;
+        }
+        left -= 1;
+    }
 }
 
 fn no_kinds() -> [u32; 256]

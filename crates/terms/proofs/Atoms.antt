@@ -1,5 +1,5 @@
 -- Laws of the tests on numbers, facts and bound facts (lifted atoms), with no step: what each says in plain numbers, and how a bound fact is told.
-use Prim.Native.Nat.{ℕ, _+_, _-_, _*_, _/_, _%_, _≤_, _<_}
+use Prim.Native.Nat.{ℕ, zero, suc, _+_, _-_, _*_, _/_, _%_, _≤_, _<_}
 use mathlib.Core.Path.{_≡_, sym, _∙_}
 use mathlib.Core.Logic.{_⊎_, inl, inr}
 use mathlib.Core.Bool.{Bool, true, false, _&&_, _||_}
@@ -7,11 +7,15 @@ use native.Mathlib.Omega.{arith}
 use lib.Dec.{eqb, ltb, leb}
 use borrow.Author.Tests.{ltb-false, leb-true, leb-false, le-leb, lt-ltb, le-ltb, eqb-true, eq-eqb}
 use Rattle.truth.specs.Bools.{clash, and-in, and-out, or-right, or-out, neither}
+use mathlib.Core.List.{List}
+use Rattle.input.specs.Bytes.{byteAt}
+use Rattle.limits.specs.Limits.{headerSize}
+use Rattle.terms.specs.declared.Sections.{Sections}
 use Rattle.terms.specs.declared.Param.{Param}
 use Rattle.terms.specs.declared.Relation.{Relation}
 use Rattle.terms.specs.declared.Move.{Move}
 use Rattle.terms.specs.declared.Fact.{Fact}
-use Rattle.terms.specs.Schema.{Schema, outOfRange, kindSuits}
+use Rattle.terms.specs.Schema.{Schema, outOfRange, parentAt, schema, kindSuits}
 use Rattle.terms.specs.Steps.{atomRelation, atomFirst, atomSecond, parameterFills, isAtom}
 
 pub range-out : (count n : ℕ) → outOfRange count n ≡ false → (1 ≤ n) × (n ≤ count)
@@ -23,6 +27,24 @@ range-out count n e =
 pub range-in : (count n : ℕ) → 1 ≤ n → n ≤ count → outOfRange count n ≡ false
 unfolding outOfRange
 range-in count n low high = rw (le-ltb n 1 low, le-ltb count n high)
+
+-- what holds of 1, 2, 3 and 4 holds of each number from 1 to 4
+pub four : (Q : ℕ → Type 0) → Q 1 → Q 2 → Q 3 → Q 4 → (i : ℕ) → 1 ≤ i → i ≤ 4 → Q i
+four Q a b c d zero low high = absurd (omega arith)
+four Q a b c d (suc zero) low high = a
+four Q a b c d (suc (suc zero)) low high = b
+four Q a b c d (suc (suc (suc zero))) low high = c
+four Q a b c d (suc (suc (suc (suc zero)))) low high = d
+four Q a b c d (suc (suc (suc (suc (suc i))))) low high = absurd (omega arith)
+
+-- the parent of a kind stands before the relations, or there is none
+pub parent-some : (h : Sections) (s : List ℕ) (kind at : ℕ) → at ≡ headerSize + (kind - 1) → at < h .relations .at → schema h s .parent kind ≡ byteAt s at
+unfolding schema parentAt
+parent-some h s kind at e l = rw (e, lt-ltb (headerSize + (kind - 1)) (h .relations .at) (omega arith))
+
+pub parent-none : (h : Sections) (s : List ℕ) (kind at : ℕ) → at ≡ headerSize + (kind - 1) → h .relations .at ≤ at → schema h s .parent kind ≡ 0
+unfolding schema parentAt
+parent-none h s kind at e l = rw (le-ltb (headerSize + (kind - 1)) (h .relations .at) (omega arith))
 
 -- a fact is told by its three numbers
 pub fact-path : (f g : Fact) → f .relation .0 ≡ g .relation .0 → f .first .0 ≡ g .first .0 → f .second .0 ≡ g .second .0 → f ≡ g
@@ -55,22 +77,23 @@ atom-number n = omega arith
 pub atom-same : (m n : ℕ) → atomRelation m .0 ≡ atomRelation n .0 → atomFirst m .0 ≡ atomFirst n .0 → atomSecond m .0 ≡ atomSecond n .0 → m ≡ n
 atom-same m n r p q = sym (atom-number m) ∙ rw (r, p, q) (atom-number n)
 
-module _ (r p q : ℕ) (some : 1 ≤ r) (low : 1 ≤ p) (high : p ≤ 4) (low′ : 1 ≤ q) (high′ : q ≤ 4) where
-  pub number-relation : atomRelation (atomNumber r p q) ≡ record { 0 = r }
+-- and back: each part asks only what it needs, since an unused place adds nothing whatever stands in it
+module _ (r p q : ℕ) (high : p ≤ 4) (high′ : q ≤ 4) where
+  pub number-relation : 1 ≤ r → atomRelation (atomNumber r p q) ≡ record { 0 = r }
   unfolding atomRelation atomNumber
-  number-relation =
+  number-relation some =
       let e : (16 * (r - 1) + 4 * (p - 1) + (q - 1)) / 16 + 1 ≡ r = omega arith in
       λ i. record { 0 = e i }
 
-  pub number-first : atomFirst (atomNumber r p q) ≡ record { 0 = p }
+  pub number-first : 1 ≤ p → atomFirst (atomNumber r p q) ≡ record { 0 = p }
   unfolding atomFirst atomNumber
-  number-first =
+  number-first low =
       let e : (16 * (r - 1) + 4 * (p - 1) + (q - 1)) / 4 % 4 + 1 ≡ p = omega arith in
       λ i. record { 0 = e i }
 
-  pub number-second : atomSecond (atomNumber r p q) ≡ record { 0 = q }
+  pub number-second : 1 ≤ q → atomSecond (atomNumber r p q) ≡ record { 0 = q }
   unfolding atomSecond atomNumber
-  number-second =
+  number-second low =
       let e : (16 * (r - 1) + 4 * (p - 1) + (q - 1)) % 4 + 1 ≡ q = omega arith in
       λ i. record { 0 = e i }
 

@@ -1,4 +1,5 @@
--- Two schemas that say the same of each relation and each move that is there, wherever their bytes stand. The counts of kinds may differ.
+-- Two schemas that say the same of each relation and each move that is there, wherever their bytes stand, and of the parent of each kind that
+-- both have. The counts of kinds may differ.
 use Prim.Native.Nat.{ℕ, _≤_}
 use mathlib.Core.Path.{_≡_}
 use Rattle.limits.specs.Limits.{maxPlaces, maxParams}
@@ -8,6 +9,7 @@ use Rattle.terms.specs.declared.Move.{Move}
 use Rattle.terms.specs.Schema.{Schema}
 
 pub record SameSchema (S T : Schema) : Type 0 where
+  pub parent : (k : ℕ) → 1 ≤ k → k ≤ S .kinds → k ≤ T .kinds → S .parent k ≡ T .parent k
   pub relations : S .relations ≡ T .relations
   pub moves : S .moves ≡ T .moves
   pub places : (r : Relation) → 1 ≤ r .0 → r .0 ≤ S .relations → S .places r ≡ T .places r

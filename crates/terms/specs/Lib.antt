@@ -3,5 +3,6 @@ pub mod Sections
 pub mod Schema
 pub mod Facts
 pub mod Steps
+pub mod Typing
 pub mod Agree
 pub mod Told

@@ -1,9 +1,9 @@
 -- The relations and moves of a book as a planning schema: which kinds their places and parameters have, and what suits them.
-use Prim.Native.Nat.{ℕ, _+_, _-_, _*_}
-use mathlib.Core.Bool.{Bool, _&&_, _||_, not}
+use Prim.Native.Nat.{ℕ, zero, suc, _+_, _-_, _*_}
+use mathlib.Core.Bool.{Bool, false, cond, _&&_, _||_, not}
 use mathlib.Core.List.{List}
 use lib.Dec.{eqb, ltb}
-use Rattle.limits.specs.Limits.{relationSize, moveSize}
+use Rattle.limits.specs.Limits.{headerSize, maxKinds, relationSize, moveSize}
 use Rattle.input.specs.Bytes.{byteAt}
 use Rattle.terms.specs.declared.Param.{Param}
 use Rattle.terms.specs.declared.Object.{Object}
@@ -16,9 +16,11 @@ use Rattle.terms.specs.declared.Objects.{Objects}
 unfoldable pub outOfRange : ℕ → ℕ → Bool
 outOfRange count n = ltb n 1 || ltb count n
 
--- kinds (types of objects), relations (predicates) with the kinds of their places, moves (action schemas) with the kinds of their parameters
+-- kinds (types of objects) with their parents (direct supertypes; 0 for none), relations (predicates) with the kinds of their places, moves
+-- (action schemas) with the kinds of their parameters
 pub record Schema : Type 0 where
   pub kinds : ℕ
+  pub parent : ℕ → ℕ
   pub relations : ℕ
   pub moves : ℕ
   pub places : Relation → ℕ
@@ -26,18 +28,22 @@ pub record Schema : Type 0 where
   pub params : Move → ℕ
   pub paramKind : Move → Param → ℕ
 
--- where a relation and a move stand
+-- where the parent of a kind, a relation and a move stand
+unfoldable pub parentAt : ℕ → ℕ
+parentAt kind = headerSize + (kind - 1)
+
 unfoldable pub relationAt : Sections → Relation → ℕ
 relationAt h r = h .relations .at + relationSize * (r .0 - 1)
 
 unfoldable pub moveAt : Sections → Move → ℕ
 moveAt h m = h .moves .at + moveSize * (m .0 - 1)
 
--- places count from 1
+-- A parent stands before the relations: a book whose relations begin where the header ends has none. Places count from 1
 unfoldable pub schema : Sections → List ℕ → Schema
 schema h s =
     record {
       kinds = h .kinds;
+      parent = λ kind. cond (ltb (parentAt kind) (h .relations .at)) (byteAt s (parentAt kind)) 0;
       relations = h .relations .count;
       moves = h .moves .count;
       places = λ r. byteAt s (relationAt h r);
@@ -54,9 +60,15 @@ pub record TypedObjects : Type 0 where
 unfoldable pub typedObjects : Objects → List ℕ → TypedObjects
 typedObjects o s = record { count = o .count; kind = λ x. byteAt s (o .at + (x .0 - 1)) }
 
--- whether a kind suits a place or a parameter of the kind named
+-- the kind named is among so many: a kind, its parent, the parent's parent, and on
+unfoldable pub suitsWithin : Schema → ℕ → ℕ → ℕ → Bool
+suitsWithin sch zero named kind = false
+suitsWithin sch (suc n) named kind = eqb kind named || ltb 0 (sch .parent kind) && suitsWithin sch n named (sch .parent kind)
+
+-- whether a kind suits a place or a parameter of the kind named: it is that kind, or lies below it by any number of parents. Parents fall, so
+-- that no more kinds stand above one another than there may be
 unfoldable pub kindSuits : Schema → ℕ → ℕ → Bool
-kindSuits sch named kind = eqb kind named
+kindSuits sch named kind = suitsWithin sch maxKinds named kind
 
 -- what stands where an object of the kind named belongs is wrong: a used place has an object's number, of a kind that suits; an unused one has 0
 unfoldable pub objectBad : Schema → TypedObjects → Bool → ℕ → Object → Bool

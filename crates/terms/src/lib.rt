@@ -5,7 +5,7 @@ ghost use Prim.Native.Nat.{_+_, _-_, _≤_, _<_};
 ghost use lib.ListN.{length};
 ghost use Rattle.limits.specs.Limits.{maxParams, maxAtoms, factSize, stepSize, nearCeiling, farCeiling};
 ghost use Rattle.terms.specs.Sections.{sectionsOf};
-ghost use Rattle.terms.specs.Schema.{schema, outOfRange, relationAt, moveAt, kindSuits};
+ghost use Rattle.terms.specs.Schema.{schema, outOfRange, relationAt, moveAt};
 ghost use Rattle.terms.specs.Facts.{factAt, precedes, noFact};
 ghost use Rattle.terms.specs.Told.{suits, factKey};
 ghost use Rattle.terms.specs.Steps.{objectOf, stepAt, samePair, repeats, atomRelation, atomFirst, atomSecond};
@@ -88,6 +88,17 @@ impl Sections {
         self.moves.at as usize + limits::MOVE_SIZE * index(m.0)
     }
 
+    // The parent of a kind, 0 where it has none.
+    pub fn parent(self, book: &[u8], kind: u8) -> u8
+        ensures { λ r. ⌜ r ≡ schema self (now (book .entry)) .parent kind ⌝ }
+    {
+        let at = limits::HEADER_SIZE + index(kind);
+        if at < self.relations.at as usize {
+            return input::byte_at(book, at);
+        }
+        0
+    }
+
     // A relation's entry in a book: how many places it has, and the kind of one of them.
     pub fn places(self, book: &[u8], r: Relation) -> u8
         ensures { λ n. ⌜ n ≡ schema self (now (book .entry)) .places r ⌝ }
@@ -150,13 +161,6 @@ pub fn out_of_range(count: u16, n: u8) -> bool
 {
     let wide = n as u16;
     (wide < 1) | (count < wide)
-}
-
-// Whether a kind suits a place or a parameter of the kind named.
-pub fn kind_suits(book: &[u8], h: Sections, named: u8, kind: u8) -> bool
-    ensures { λ r. ⌜ r ≡ kindSuits (schema h (now (book .entry))) named kind ⌝ }
-{
-    kind == named
 }
 
 impl Fact {

@@ -44,7 +44,7 @@ module _ (sch : Schema) (ob : TypedObjects) (st : Step) (right : RightStep sch o
       go true u =
           let (own, fits) = fills-used sch (st .action) r i p fills u in
           let (some, most, suits) = argument-used sch ob st right (p .0) low high own in
-          used-in sch ob (sch .placeKind r i) (objectOf (st .binding) p) true refl some most (suits-through sch _ _ _ fits suits)
+          used-in sch ob (sch .placeKind r i) (objectOf (st .binding) p) true refl some most (suits-through sch (right .typed .falling) _ _ _ (right .typed .known (objectOf (st .binding) p) some most) fits suits)
       go false u = unused-in sch ob (sch .placeKind r i) (record { 0 = 0 }) false refl refl
 
   -- A bound fact becomes a right fact.

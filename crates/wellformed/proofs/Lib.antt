@@ -1,5 +1,5 @@
 -- Theorems about good form, from bytes up to the hypotheses of `model`. To cite: recorded-right (Records), formed (Formed), order-right and grounded (Orders),
--- fact-of-atom and atom-of-fact (Inverse).
+-- fact-of-atom and fact-of-places (Inverse).
 pub mod Lists
 pub mod States
 pub mod Headers

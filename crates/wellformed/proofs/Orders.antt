@@ -12,12 +12,14 @@ use Rattle.answer.specs.Entries.{item-good}
 use Rattle.terms.specs.declared.Fact.{Fact}
 use Rattle.terms.specs.declared.Step.{Step}
 use Rattle.terms.specs.Schema.{Schema, TypedObjects, typedObjects}
+use Rattle.terms.specs.Typing.{Falling, RightObjects}
 use Rattle.terms.specs.Facts.{factAt, factBad, noFact}
 use Rattle.terms.specs.Steps.{stepAt, stepBad, repeats, isAtom}
 use Rattle.limits.specs.Limits.{maxObjects, entrySize, stepSize}
 use Rattle.format.specs.Order.{GoalEntry, startCount, goalCount, stepCount, startAt, goalAt, stepsAt, orderObjects, entries, planStep, orderForm, startFacts, goalFrom, goal, planFrom, plan, entryAt, planStepBad}
 use Rattle.format.proofs.Chains.{chain-parted}
 use Rattle.format.proofs.Orders.{plan-step-entry, goal-chain, goal-entry-suits}
+use Rattle.format.proofs.Typing.{order-objects-known}
 use Rattle.format.proofs.OrderForm.{order-good}
 use Rattle.model.specs.Quantify.{Mem, here, there}
 use Rattle.model.specs.Domain.{GroundAction}
@@ -29,7 +31,7 @@ use Rattle.wellformed.proofs.Holding.{holding-below}
 use Rattle.wellformed.proofs.Atoms.{step-proper, ground-below}
 use Rattle.wellformed.proofs.Lists.{mem-map-out}
 
-module _ (sch : Schema) (ob : TypedObjects) (o : List ℕ) where
+module _ (sch : Schema) (ob : TypedObjects) (typed : RightObjects sch ob) (o : List ℕ) where
   -- the first of a number of good steps is right, and the others are good
   plan-parted : (n at last : ℕ) → walk (planStep sch ob o) (suc n) at ≡ Good last → RightStep sch ob (stepAt o at) × (walk (planStep sch ob o) n (at + stepSize) ≡ Good last)
   unfolding planStepBad
@@ -37,7 +39,7 @@ module _ (sch : Schema) (ob : TypedObjects) (o : List ℕ) where
       let (next, good, rest) = walk-parted (planStep sch ob o) n at last e in
       let (test, place) = item-good _ _ 18 stepSize (plan-step-entry sch ob o) at next good in
       let (bad, twice) = neither (stepBad sch ob (stepAt o at)) (repeats (stepAt o at)) test in
-      (record { suits = bad; different = twice }, subst (λ (x : ℕ). walk (planStep sch ob o) n x ≡ Good last) place rest)
+      (record { typed = typed; suits = bad; different = twice }, subst (λ (x : ℕ). walk (planStep sch ob o) n x ≡ Good last) place rest)
 
   -- the steps of a good plan are right
   plan-right : (n at last : ℕ) → walk (planStep sch ob o) n at ≡ Good last → (st : Step) → Mem st (planFrom o n at) → RightStep sch ob st
@@ -64,12 +66,13 @@ unfolding plan
 length-plan o = length-plan-from o (stepCount o) (stepsAt o)
 
 -- An order of good form is right in all its parts.
-pub order-right : (sch : Schema) (o : List ℕ) (n : ℕ) → orderForm sch o ≡ Good n → RightOrder sch o
+pub order-right : (sch : Schema) → Falling sch → (o : List ℕ) (n : ℕ) → orderForm sch o ≡ Good n → RightOrder sch o
 unfolding typedObjects orderObjects startFacts goal plan
-order-right sch o n e =
+order-right sch fall o n e =
     let ob : TypedObjects = orderTyped o in
     let g = order-good sch o n e in
     let counts = g .header .counts in
+    let typed : RightObjects sch ob = record { falling = fall; known = λ x low high. order-objects-known o (sch .kinds) _ _ _ (g .objects) (x .0) low high } in
     record {
       few = counts .objects;
       start =
@@ -78,8 +81,8 @@ order-right sch o n e =
             increasing = facts-increase 16 sch ob o (length o) (startCount o) noFact (startAt o) (goalAt o) (g .start);
             few = omega (arith, counts .starts, length-facts o (startCount o) (startAt o));
           };
-      goals = goal-right sch ob o (goalCount o) noFact (goalAt o) (stepsAt o) (g .goal);
-      steps = plan-right sch ob o (stepCount o) (stepsAt o) (length o) (g .plan);
+      goals = goal-right sch ob typed o (goalCount o) noFact (goalAt o) (stepsAt o) (g .goal);
+      steps = plan-right sch ob typed o (stepCount o) (stepsAt o) (length o) (g .plan);
     }
 
 -- Steps that are right over some objects, wherever they stand, meet the hypothesis of `model`,
@@ -97,16 +100,16 @@ module _ (sch : Schema) (ob : TypedObjects) (few : ob .count ≤ maxObjects) (st
       subst (λ (u : GroundAction). (k : ℕ) → isAtom sch (u .action) k ≡ true → u .ground k < 256 * sch .relations) q (ground-below sch ob st (right st k) few)
 
 -- So does the plan of an order of good form,
-module _ (sch : Schema) (o : List ℕ) (n : ℕ) (e : orderForm sch o ≡ Good n) where
+module _ (sch : Schema) (fall : Falling sch) (o : List ℕ) (n : ℕ) (e : orderForm sch o ≡ Good n) where
   pub grounded : Grounded (domain sch) (planOf sch o)
   unfolding planOf
-  grounded = let right = order-right sch o n e in steps-grounded sch (orderTyped o) (right .few) (plan o) (right .steps)
+  grounded = let right = order-right sch fall o n e in steps-grounded sch (orderTyped o) (right .few) (plan o) (right .steps)
 
   pub plan-under : (t : GroundAction) → Mem t (planOf sch o) → (k : ℕ) → isAtom sch (t .action) k ≡ true → t .ground k < 256 * sch .relations
   unfolding planOf
-  plan-under = let right = order-right sch o n e in steps-under sch (orderTyped o) (right .few) (plan o) (right .steps)
+  plan-under = let right = order-right sch fall o n e in steps-under sch (orderTyped o) (right .few) (plan o) (right .steps)
 
   -- and its start facts are counted too.
   pub start-under : (k : ℕ) → 256 * sch .relations ≤ k → startState o k ≡ false
   unfolding startState
-  start-under = let right = order-right sch o n e in holding-below sch (orderTyped o) (right .few) (startFacts o) (right .start)
+  start-under = let right = order-right sch fall o n e in holding-below sch (orderTyped o) (right .few) (startFacts o) (right .start)

@@ -9,6 +9,8 @@ use Rattle.answer.specs.Walk.{walk, walk-parted}
 use Rattle.terms.specs.declared.Sections.{Sections}
 use Rattle.terms.specs.Sections.{sectionsOf}
 use Rattle.terms.specs.Schema.{Schema, TypedObjects, schema, typedObjects}
+use Rattle.terms.specs.declared.Object.{Object}
+use Rattle.terms.specs.Typing.{IsKind, Falling, RightObjects}
 use Rattle.terms.specs.Steps.{stepAt}
 use Rattle.limits.specs.Limits.{headSize, stepSize, maxObjects}
 use Rattle.format.specs.States.{state}
@@ -16,6 +18,7 @@ use Rattle.format.specs.Records.{objectsIn, stepsIn, lengthIn, step, objectsOf,
 use Rattle.format.specs.LookOver.{lookOver}
 use Rattle.format.specs.Decode.{RecordedStep, stateEnd, recordedStepsAt, stepsOfRecord, stepsOfRecords, recordedSteps, recordedStep}
 use Rattle.format.proofs.Records.{head-objects, step-good, trajectory-parted, record-good}
+use Rattle.format.proofs.Typing.{schema-right, objects-known}
 use Rattle.format.proofs.LookOver.{look-over-good}
 use Rattle.model.specs.Quantify.{Mem, here, there}
 use Rattle.model.proofs.Members.{mem-out}
@@ -23,12 +26,12 @@ use Rattle.jobs.specs.Planning.{schemaOf, stepsOfBook}
 use Rattle.wellformed.specs.Right.{RightStep, Right, RightSomewhere}
 use Rattle.wellformed.proofs.States.{state-right}
 
-module _ (sch : Schema) (ob : TypedObjects) (s : List ℕ) (end : ℕ) where
+module _ (sch : Schema) (ob : TypedObjects) (typed : RightObjects sch ob) (s : List ℕ) (end : ℕ) where
   -- a step of good form is right, and so is the state after it
   pub step-parted : (at next : ℕ) → step sch ob s end at ≡ Good next → RightStep sch ob (stepAt s at) × (state sch ob s end (at + stepSize) ≡ Good next)
   step-parted at next e =
       let (suits, different, rest) = step-good sch ob s end at next e in
-      (record { suits = suits; different = different }, rest)
+      (record { typed = typed; suits = suits; different = different }, rest)
 
   -- The steps of a good trajectory are right, with the states about them.
   pub trajectory-right : (n at next last : ℕ) → state sch ob s end at ≡ Good next → walk (step sch ob s end) n next ≡ Good last
@@ -42,16 +45,18 @@ module _ (sch : Schema) (ob : TypedObjects) (s : List ℕ) (end : ℕ) where
       let (after, good, rest) = trajectory-parted sch ob s end n at next last e w in
       trajectory-right n (stateEnd s at + stepSize) after last (step-parted (stateEnd s at) after good .1) rest f m
 
-module _ (h : Sections) (s : List ℕ) where
+module _ (h : Sections) (s : List ℕ) (fall : Falling (schema h s)) where
   -- A record of good form ends where its length says, has at most 16 objects, and every step recorded in it is right over them.
   pub record-right : (at next : ℕ) → recordAt h s at ≡ Good next
       → (next ≡ at + lengthIn s at) × (typedObjects (objectsOf s at) s .count ≤ maxObjects) × ((f : RecordedStep) → Mem f (stepsOfRecord s at) → Right (schema h s) (typedObjects (objectsOf s at) s) f)
-  unfolding stepsOfRecord typedObjects objectsOf
+  unfolding stepsOfRecord typedObjects objectsOf schema
   record-right at next e =
-      let g = record-good h s at next e in (
+      let g = record-good h s at next e in
+      let known : (x : Object) → 1 ≤ x .0 → x .0 ≤ objectsIn s at → IsKind (schema h s) (typedObjects (objectsOf s at) s .kind x) =
+      λ x low high. objects-known s (h .kinds) _ _ _ _ (g .objects) (x .0) low high in (
         g .end,
         head-objects s at (g .head),
-        trajectory-right (schema h s) (typedObjects (objectsOf s at) s) s (at + lengthIn s at) (stepsIn s at) (at + headSize + objectsIn s at) (g .after) (g .last) (g .start) (g .steps),
+        trajectory-right (schema h s) (typedObjects (objectsOf s at) s) (record { falling = fall; known = known }) s (at + lengthIn s at) (stepsIn s at) (at + headSize + objectsIn s at) (g .after) (g .last) (g .start) (g .steps),
       )
 
   -- A step that is recorded in good records is recorded in one of them.
@@ -71,17 +76,20 @@ module _ (h : Sections) (s : List ℕ) where
       go next good (inr k) deeper = deeper k
 
 module _ (s : List ℕ) (n : ℕ) (e : lookOver s ≡ Good n) where
+  falls : Falling (schema (sectionsOf s) s)
+  falls = schema-right (sectionsOf s) s _ (look-over-good s n e .sections) .falling
+
   -- Every step that is recorded in a book of good form is recorded in a good record,
   pub recorded-somewhere : {f : RecordedStep} → Mem f (stepsOfBook s) → (from next : ℕ) × (recordAt (sectionsOf s) s from ≡ Good next) × Mem f (stepsOfRecord s from)
   unfolding stepsOfBook recordedSteps
   recorded-somewhere m =
       let h : Sections = sectionsOf s in
-      records-recorded h s (h .records .count) (h .records .at) (length s) (look-over-good s n e .records) m
+      records-recorded h s falls (h .records .count) (h .records .at) (length s) (look-over-good s n e .records) m
 
   -- and is right, over typed objects, at most 16 of them.
   pub recorded-right : (f : RecordedStep) → Mem f (stepsOfBook s) → RightSomewhere (schemaOf s) f
   unfolding schemaOf
   recorded-right f m =
       let (from, next, good, k) = recorded-somewhere m in
-      let (place, few, right) = record-right (sectionsOf s) s from next good in
+      let (place, few, right) = record-right (sectionsOf s) s falls from next good in
       (typedObjects (objectsOf s from) s, few, right f k)

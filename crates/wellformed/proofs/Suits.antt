@@ -1,6 +1,6 @@
 -- What the tests on objects, facts and steps say in plain numbers: both ways for an object, one way for a step.
 -- Uses no bytes: schema, typed objects and step are any.
-use Prim.Native.Nat.{ℕ, zero, suc, _≤_, _<_}
+use Prim.Native.Nat.{ℕ, _≤_, _<_}
 use mathlib.Core.Path.{_≡_, refl, sym}
 use mathlib.Core.Logic.{_⊎_, inl, inr}
 use mathlib.Core.Bool.{Bool, true, false, _&&_, _||_, not}
@@ -12,7 +12,7 @@ use Rattle.terms.specs.declared.Object.{Object}
 use Rattle.terms.specs.declared.Step.{Step}
 use Rattle.terms.specs.Schema.{Schema, TypedObjects, outOfRange, kindSuits, objectBad}
 use Rattle.terms.specs.Steps.{objectOf, argumentBad, stepBad, samePair, repeats}
-use Rattle.terms.proofs.Atoms.{range-out, range-in}
+use Rattle.terms.proofs.Atoms.{range-out, range-in, four}
 use Rattle.wellformed.specs.Right.{RightStep}
 
 module _ (sch : Schema) (ob : TypedObjects) (named : ℕ) (x : Object) where
@@ -47,20 +47,11 @@ module _ (sch : Schema) (ob : TypedObjects) (named : ℕ) (x : Object) where
   unused-in true u none = clash true refl u
   unused-in false u none = rw (eq-eqb (x .0) 0 none)
 
--- what holds of 1, 2, 3 and 4 holds of each number from 1 to 4
-pub four : (Q : ℕ → Type 0) → Q 1 → Q 2 → Q 3 → Q 4 → (i : ℕ) → 1 ≤ i → i ≤ 4 → Q i
-four Q a b c d zero low high = absurd (omega arith)
-four Q a b c d (suc zero) low high = a
-four Q a b c d (suc (suc zero)) low high = b
-four Q a b c d (suc (suc (suc zero))) low high = c
-four Q a b c d (suc (suc (suc (suc zero)))) low high = d
-four Q a b c d (suc (suc (suc (suc (suc i))))) low high = absurd (omega arith)
-
 -- the object of parameter i
 abbrev pub objectAt : Step → ℕ → Object
 objectAt st i = objectOf (st .binding) (record { 0 = i })
 
-module _ (sch : Schema) (ob : TypedObjects) (st : Step) (right : RightStep sch ob st) where
+module _ (sch : Schema) (ob : TypedObjects) (st : Step) (suits : stepBad sch ob st ≡ false) where
   -- the five parts of the test on a step
   step-parts : (outOfRange (sch .moves) (st .action .0) ≡ false) × ((i : ℕ) → 1 ≤ i → i ≤ 4 → argumentBad sch ob st i ≡ false)
   unfolding stepBad
@@ -69,25 +60,30 @@ module _ (sch : Schema) (ob : TypedObjects) (st : Step) (right : RightStep sch o
       let a1 : Bool = argumentBad sch ob st 1 in
       let a2 : Bool = argumentBad sch ob st 2 in
       let a3 : Bool = argumentBad sch ob st 3 in
-      let e4 = neither (nb || a1 || a2 || a3) (argumentBad sch ob st 4) (right .suits) in
+      let e4 = neither (nb || a1 || a2 || a3) (argumentBad sch ob st 4) suits in
       let e3 = neither (nb || a1 || a2) a3 (e4 .0) in
       let e2 = neither (nb || a1) a2 (e3 .0) in
       let e1 = neither nb a1 (e2 .0) in
       (e1 .0, four (λ i. argumentBad sch ob st i ≡ false) (e1 .1) (e2 .1) (e3 .1) (e4 .1))
 
+  -- the move of a step that suits is there
+  pub move-there : (1 ≤ st .action .0) × (st .action .0 ≤ sch .moves)
+  move-there = range-out (sch .moves) (st .action .0) (step-parts .0)
+
+module _ (sch : Schema) (ob : TypedObjects) (st : Step) (right : RightStep sch ob st) where
   -- The move of a right step is there,
   pub move-known : (1 ≤ st .action .0) × (st .action .0 ≤ sch .moves)
-  move-known = range-out (sch .moves) (st .action .0) (step-parts .0)
+  move-known = move-there sch ob st (right .suits)
 
   pub argument-right : (i : ℕ) → 1 ≤ i → i ≤ 4 → argumentBad sch ob st i ≡ false
-  argument-right = step-parts .1
+  argument-right = step-parts sch ob st (right .suits) .1
 
   -- its parameters have objects that suit,
   pub argument-used : (i : ℕ) → 1 ≤ i → i ≤ 4 → i ≤ sch .params (st .action)
       → (1 ≤ objectAt st i .0) × (objectAt st i .0 ≤ ob .count)
       × (kindSuits sch (sch .paramKind (st .action) (record { 0 = i })) (ob .kind (objectAt st i)) ≡ true)
   unfolding argumentBad
-  argument-used i low high used = used-out sch ob _ (objectAt st i) _ (step-parts .1 i low high) (le-leb i (sch .params (st .action)) used)
+  argument-used i low high used = used-out sch ob _ (objectAt st i) _ (argument-right i low high) (le-leb i (sch .params (st .action)) used)
 
   pair-apart : (i : ℕ) → 1 ≤ i → i ≤ 4 → (j : ℕ) → 1 ≤ j → j ≤ 4 → i < j → samePair st i j ≡ false
   unfolding repeats

@@ -7,6 +7,7 @@ use lib.ListN.{length}
 use Rattle.terms.specs.declared.Fact.{Fact}
 use Rattle.terms.specs.declared.Step.{Step}
 use Rattle.terms.specs.Schema.{Schema, TypedObjects, typedObjects}
+use Rattle.terms.specs.Typing.{RightObjects}
 use Rattle.terms.specs.Facts.{factBad, precedes, noFact}
 use Rattle.terms.specs.Steps.{stepBad, repeats}
 use Rattle.limits.specs.Limits.{maxObjects, maxFacts}
@@ -19,8 +20,9 @@ abbrev pub Increasing : Fact → List Fact → Type 0
 Increasing last [] = Unit {0}
 Increasing last (f ∷ fs) = (precedes last f ≡ true) × Increasing f fs
 
--- the move is there, its parameters have objects that suit, and no object stands twice
+-- the objects are of kinds that are there, the move is there, its parameters have objects that suit, and no object stands twice
 pub record RightStep (sch : Schema) (ob : TypedObjects) (st : Step) : Type 0 where
+  pub typed : RightObjects sch ob
   pub suits : stepBad sch ob st ≡ false
   pub different : repeats st ≡ false
 

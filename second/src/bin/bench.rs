@@ -15,61 +15,61 @@ mod timing;
 
 #[cfg(archive)]
 fn main() -> ExitCode {
-    use library::Library;
-    use second::calls::Calls;
-    use second::form;
     use second::gen::{fullbook, Rng};
-    use timing::Timing;
 
     let repeats = std::env::args().nth(1).map_or(Ok(201), |argument| argument.parse::<usize>());
     let Ok(repeats @ 1..) = repeats else {
         eprintln!("usage: bench [repeats]");
         return ExitCode::from(2);
     };
-    let library = Library::default();
     let mut rng = Rng::new(2024);
-    let books =
-        [("dense", fullbook::dense(&mut rng)), ("many steps", fullbook::many_steps(&mut rng))];
+    let books = [
+        ("dense", fullbook::dense(&mut rng)),
+        ("many steps", fullbook::many_steps(&mut rng)),
+        ("many bound facts", fullbook::many_atoms(&mut rng)),
+    ];
     for (name, draft) in books {
-        let book = draft.bytes();
-        println!(
-            "{name}: {} bytes, {} steps, median (least) of {repeats}",
-            book.len(),
-            draft.steps()
-        );
-        let timing = Timing { repeats };
-        timing.compare(
-            "look over",
-            || library.look_over(&book),
-            || form::look_over(&book).packed(),
-        );
-        let mut sheets = [0, 1].map(|_| vec![0; 128 * draft.moves.len()]);
-        let [theirs, ours] = &mut sheets;
-        timing.compare(
-            "learn",
-            || library.learn(&book, theirs),
-            || second::learn::learn(&book, ours).packed(),
-        );
-        let order = filed_order(&draft).bytes();
-        let mut ends = [0, 1].map(|_| vec![0; 512]);
-        let [theirs, ours] = &mut ends;
-        timing.compare(
-            "check",
-            || library.check(&book, &order, theirs),
-            || second::check::check(&book, &order, ours).packed(),
-        );
-        let mut old = draft.clone();
-        let record = old.records.pop().expect("a full book has records").bytes();
-        let old = old.bytes();
-        let mut outputs = [0, 1].map(|_| vec![0; book.len()]);
-        let [theirs, ours] = &mut outputs;
-        timing.compare(
-            "add the last record",
-            || library.add(&old, &record, theirs),
-            || second::add::add(&old, &record, ours).packed(),
-        );
+        let (bytes, steps) = (draft.length(), draft.steps());
+        println!("{name}: {bytes} bytes, {steps} steps, median (least) of {repeats}");
+        time_calls(&draft, &timing::Timing { repeats });
     }
     ExitCode::SUCCESS
+}
+
+/// Each of the four calls on one book.
+#[cfg(archive)]
+fn time_calls(draft: &second::gen::BookDraft, timing: &timing::Timing) {
+    use second::calls::Calls;
+
+    let library = library::Library::default();
+    let book = draft.bytes();
+    timing.compare(
+        "look over",
+        || library.look_over(&book),
+        || second::form::look_over(&book).packed(),
+    );
+    let [mut theirs, mut ours] = [(); 2].map(|()| vec![0; 128 * draft.moves.len()]);
+    timing.compare(
+        "learn",
+        || library.learn(&book, &mut theirs),
+        || second::learn::learn(&book, &mut ours).packed(),
+    );
+    let order = filed_order(draft).bytes();
+    let [mut theirs, mut ours] = [[0; 512]; 2];
+    timing.compare(
+        "check",
+        || library.check(&book, &order, &mut theirs),
+        || second::check::check(&book, &order, &mut ours).packed(),
+    );
+    let mut old = draft.clone();
+    let record = old.records.pop().expect("a full book has records").bytes();
+    let old = old.bytes();
+    let [mut theirs, mut ours] = [(); 2].map(|()| vec![0; book.len()]);
+    timing.compare(
+        "add the last record",
+        || library.add(&old, &record, &mut theirs),
+        || second::add::add(&old, &record, &mut ours).packed(),
+    );
 }
 
 /// The steps of the last record as a plan, which passes.

@@ -71,9 +71,10 @@ fn execute(book: &[u8], order: &[u8], rules: &[u8], end: &mut [u8]) -> Answer {
 
 /// The facts that the lifted atoms of a set become with the step's objects.
 fn bound_facts(book: &[u8], step: &[u8], set: &[u8]) -> Vec<Fact> {
+    let relations_at = usize::from(book[9]);
     let fact = |atom: usize| {
         let (relation, parameters) = (atom / 16, [atom / 4 % 4, atom % 4]);
-        let places = usize::from(book[16 + 4 * relation]);
+        let places = usize::from(book[relations_at + 4 * relation]);
         let object = |place: usize| if place < places { step[1 + parameters[place]] } else { 0 };
         [relation as u8 + 1, object(0), object(1)]
     };

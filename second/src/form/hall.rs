@@ -1,5 +1,6 @@
 //! The objects of one record or order, and which facts and steps they make.
 
+use super::kinds::ByKind;
 use super::{Move, Signature};
 use crate::answer::Refusal;
 use crate::limits::{FACT_LENGTH, KIND_LIMIT, OBJECT_LIMIT, RELATION_LIMIT};
@@ -8,8 +9,8 @@ use crate::limits::{FACT_LENGTH, KIND_LIMIT, OBJECT_LIMIT, RELATION_LIMIT};
 type Objects = u32;
 
 pub struct Hall {
-    /// By kind; kind 0 is that of an unused place, which only 0 suits.
-    of_kind: [Objects; KIND_LIMIT + 1],
+    /// By kind the objects that suit it; only 0 suits an unused place.
+    of_kind: ByKind,
     /// By relation number; a number that is no relation has no suitable object.
     of_relation: [[Objects; 2]; RELATION_LIMIT + 1],
 }
@@ -19,11 +20,11 @@ impl Hall {
     #[must_use]
     pub fn new(signature: &Signature, kinds: &[u8]) -> Self {
         debug_assert!(kinds.len() <= OBJECT_LIMIT);
-        let mut of_kind = [0; KIND_LIMIT + 1];
-        of_kind[0] = 1;
+        let mut own = [0; KIND_LIMIT + 1];
         for (index, &kind) in kinds.iter().enumerate() {
-            of_kind[usize::from(kind)] |= 1 << (index + 1);
+            own[usize::from(kind)] |= 1 << (index + 1);
         }
+        let of_kind = signature.parents.gather(own);
         let mut of_relation = [[0; 2]; RELATION_LIMIT + 1];
         for (index, relation) in signature.relations.iter().enumerate() {
             of_relation[index + 1] = relation.kinds.map(|kind| of_kind[usize::from(kind)]);

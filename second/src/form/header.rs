@@ -40,7 +40,8 @@ impl Header {
             return Err(Refusal::HeaderCounts.at(0));
         }
         let end = number(7);
-        if header.relations_at != HEADER_LENGTH
+        // Between header and relations lie the kinds' parents, or nothing.
+        if ![HEADER_LENGTH, HEADER_LENGTH + header.kinds].contains(&header.relations_at)
             || header.moves_at != header.relations_at + RELATION_LENGTH * header.relations
             || header.records_at != header.moves_at + MOVE_LENGTH * header.moves
             || end != book.len()

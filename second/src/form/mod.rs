@@ -1,7 +1,8 @@
-//! The form of books and orders: rows 1 to 10 and 14 to 18.
+//! The form of books and orders: rows 1 to 10, 21 and 14 to 18.
 
 mod hall;
 mod header;
+mod kinds;
 mod order;
 mod record;
 mod signature;
@@ -22,7 +23,8 @@ pub struct Front {
     pub steps: usize,
 }
 
-/// Looks a book over and shows every transition to `observer` on the way.
+/// Looks a book over and shows its signature and then every transition to
+/// `observer` on the way.
 ///
 /// The observer sees transitions of records before a fault that a later row
 /// or a later record may still bring, so it must act on nothing but its own
@@ -30,11 +32,12 @@ pub struct Front {
 pub fn walk(book: &[u8], observer: &mut impl Observer) -> Result<Front, Answer> {
     let header = Header::read(book)?;
     let signature = Signature::read(book, &header)?;
+    observer.begin(&signature);
     let steps = walk_records(book, &signature, header.records_at, header.records, observer)?;
     Ok(Front { header, signature, steps })
 }
 
-/// Rows 1 to 10; success has the count of all steps as its place.
+/// Rows 1 to 10 and 21; success has the count of all steps as its place.
 #[must_use]
 pub fn look_over(book: &[u8]) -> Answer {
     walk(book, &mut ()).map_or_else(|refusal| refusal, |front| Answer::success(front.steps))

@@ -16,11 +16,16 @@ pub struct Transition<'a> {
 
 /// What a walk shows its transitions to.
 pub trait Observer {
+    /// Before the first record.
+    fn begin(&mut self, signature: &Signature);
     fn observe(&mut self, transition: &Transition<'_>);
 }
 
 /// Looking over needs nothing of the transitions.
 impl Observer for () {
+    #[inline]
+    fn begin(&mut self, _: &Signature) {}
+
     #[inline]
     fn observe(&mut self, _: &Transition<'_>) {}
 }

@@ -1,8 +1,10 @@
-//! The relations (predicates) and moves (action schemas) of a book: rows 4, 5.
+//! What a book says before its records, kinds, relations (predicates) and moves
+//! (action schemas): rows 21, 4 and 5.
 
+use super::kinds::Parents;
 use super::Header;
 use crate::answer::{Answer, Refusal};
-use crate::limits::{MOVE_LENGTH, PARAMETER_LIMIT, PLACE_LIMIT, RELATION_LENGTH};
+use crate::limits::{KIND_LIMIT, MOVE_LENGTH, PARAMETER_LIMIT, PLACE_LIMIT, RELATION_LENGTH};
 use crate::mask::AtomMask;
 
 /// Kinds count from 1; the kind of an unused place is 0.
@@ -19,12 +21,14 @@ pub struct Move {
 
 pub struct Signature {
     pub kinds: usize,
+    pub parents: Parents,
     pub relations: Vec<Relation>,
     pub moves: Vec<Move>,
 }
 
 impl Signature {
     pub fn read(book: &[u8], header: &Header) -> Result<Self, Answer> {
+        let parents = Parents::read(book, header)?;
         let relations = book[header.relations_at..header.moves_at]
             .chunks_exact(RELATION_LENGTH)
             .enumerate()
@@ -48,29 +52,27 @@ impl Signature {
                 Ok(Move { parameters: usize::from(entry[0]), kinds })
             })
             .collect::<Result<_, _>>()?;
-        Ok(Self { kinds: header.kinds, relations, moves })
+        Ok(Self { kinds: header.kinds, parents, relations, moves })
     }
 
-    /// The lifted atoms (bound facts) of a move.
+    /// The lifted atoms (bound facts) of a move. A parameter fills a place if its
+    /// own kind suits that of the place, whatever object is given for it.
     #[must_use]
     pub fn atoms(&self, action: &Move) -> AtomMask {
+        let mut own = [0; KIND_LIMIT + 1];
+        for (parameter, &kind) in action.kinds.iter().enumerate() {
+            own[usize::from(kind)] |= 1 << parameter;
+        }
+        // Of unused parameters nothing is left: an unused place adds 0 to the
+        // atom's number, as parameter 0 would.
+        let fillers = self.parents.gather(own);
         let mut atoms = AtomMask::EMPTY;
         for (index, relation) in self.relations.iter().enumerate() {
-            for first in fillers(action, relation.kinds[0]) {
-                for second in fillers(action, relation.kinds[1]) {
-                    atoms.insert(16 * index + 4 * first + second);
-                }
-            }
+            let [first, second] = relation.kinds.map(|kind| fillers[usize::from(kind)]);
+            atoms.insert_pairs(index, first, second);
         }
         atoms
     }
-}
-
-/// The parameters, from 0, that may fill a place of this kind. An unused place
-/// has kind 0 and adds 0 to the atom's number, as parameter 0 would.
-fn fillers(action: &Move, kind: u8) -> impl Iterator<Item = usize> + '_ {
-    let last = if kind == 0 { 1 } else { action.parameters };
-    (0..last).filter(move |&parameter| kind == 0 || action.kinds[parameter] == kind)
 }
 
 /// A relation or a move: a count, that many kinds, and zeros to the end.

@@ -91,8 +91,7 @@ impl AddStream {
         rng: &mut Rng,
     ) -> (Vec<u8>, Vec<u8>, Option<Answer>) {
         if what == DAMAGED_BOOK {
-            let number = (4 * round + turn) % 10 + 1;
-            let case = self.books.of_number(number as u32, rng);
+            let case = self.books.of_row(4 * round + turn, rng);
             return (case.book, vec![0, 0, 0, 6, 0, 0], case.aimed);
         }
         if let "new length 60,000" | "new length over 60,000" = what {

@@ -38,7 +38,7 @@ impl CheckStream {
         match turn {
             // The order is for another book, which matters only if this one learns.
             0..=1 => {
-                let damaged = self.books.of_number(((2 * round + turn) % 10 + 1) as u32, rng);
+                let damaged = self.books.of_row(2 * round + turn, rng);
                 let order = order::draw(rng).order.bytes();
                 case(damaged.label, damaged.aimed, damaged.book, order, end_length(90, rng))
             }

@@ -11,7 +11,8 @@ use super::aim::Label;
 use super::draft::{Fact, OrderDraft};
 use super::execution::Execution;
 use super::facts::all_facts;
-use super::hall::{draw_front, Dynamics, Rule, Shape, State, World};
+use super::front::draw_front;
+use super::hall::{Dynamics, Rule, Shape, State, World};
 use super::order::Plan;
 use super::rng::Rng;
 use super::{book, tiny};
@@ -119,8 +120,7 @@ fn draw_world(rng: &mut Rng) -> World {
             break book;
         }
     };
-    let atoms = book.moves.iter().map(|entry| tiny::atom_count(&book.relations, entry)).max();
-    let atoms = atoms.unwrap_or(0).max(6);
+    let atoms = tiny::most_atoms(&book).max(6);
     let (adds, removes) = (rng.range(15, 50), rng.range(0, 15));
     World::with_rules(book, || visible_rule(atoms, adds, removes, rng))
 }
@@ -171,7 +171,7 @@ fn misses(facts: &State, execution: &Execution<'_>, rng: &mut Rng) -> Option<(Go
 /// 256th, of facts removed and of any.
 fn true_entries(execution: &Execution<'_>, rng: &mut Rng) -> BTreeMap<Fact, bool> {
     let of = |facts: &State| facts.iter().copied().collect();
-    let any = all_facts(&execution.world.book.relations, &execution.objects);
+    let any = all_facts(&execution.world.book, &execution.objects);
     let pools: [Vec<Fact>; 3] = [of(&execution.beyond), of(&execution.removed), any];
     (0..rng.below(GOAL_LIMIT))
         .filter_map(|_| rng.pick(&pools).and_then(|pool| rng.pick(pool)))

@@ -1,12 +1,14 @@
 //! Halls in which over 256 facts hold while a plan is executed, with so few
 //! lifted atoms that a judge can hold every action model of them.
 //!
-//! Most facts are of relations with a place for one kind that no move has a
-//! parameter of: they fill the state and are no move's bound facts.
+//! Most facts are of relations with a place for one kind, below which no move has
+//! a parameter: they fill the state and are no move's bound facts. The kind may
+//! itself lie below a parameter's, and its objects then be those of a step.
 
 use super::crowded::{visible_rule, Ending};
 use super::draft::BookDraft;
 use super::hall::{Dynamics, Shape, World};
+use super::kinds::draw_parents;
 use super::order::Plan;
 use super::rng::Rng;
 use super::{book, tiny};
@@ -52,9 +54,10 @@ fn draw_front(rng: &mut Rng) -> (BookDraft, Vec<u8>) {
     let filling = rng.range(1, kinds) as u8;
     let others: Vec<u8> = (1..=kinds as u8).filter(|&kind| kind != filling).collect();
     let mut book = loop {
-        let book = draw_changing(&others, rng);
+        let parents = draw_parents_beside(filling, kinds, rng);
+        let book = BookDraft { kinds, parents, ..draw_changing(&others, rng) };
         if tiny::few_atoms(&book, rng) {
-            break BookDraft { kinds, ..book };
+            break book;
         }
     };
     for _ in 0..rng.range(4, SHAPE.relations - book.relations.len()) {
@@ -67,6 +70,17 @@ fn draw_front(rng: &mut Rng) -> (BookDraft, Vec<u8>) {
     objects.resize_with(OBJECT_LIMIT, || any_of(&others, rng));
     rng.shuffle(&mut objects);
     (book, objects)
+}
+
+/// Parents by which nothing lies below the kind that fills the state.
+fn draw_parents_beside(filling: u8, kinds: usize, rng: &mut Rng) -> Vec<u8> {
+    let mut parents = draw_parents(kinds, rng);
+    for parent in &mut parents {
+        if *parent == filling {
+            *parent = 0;
+        }
+    }
+    parents
 }
 
 /// The moves, and the relations that they may change, over these kinds.

@@ -7,6 +7,8 @@ pub type Step = [u8; 5];
 #[derive(Clone, Debug, Default)]
 pub struct BookDraft {
     pub kinds: usize,
+    /// A byte for each kind, or none: the relations then begin at 16.
+    pub parents: Vec<u8>,
     pub relations: Vec<[u8; 4]>,
     pub moves: Vec<[u8; 6]>,
     pub records: Vec<RecordDraft>,
@@ -39,6 +41,7 @@ pub struct RecordLayout {
 }
 
 pub struct BookLayout {
+    pub relations: usize,
     pub moves: usize,
     pub records_at: usize,
     pub records: Vec<RecordLayout>,
@@ -132,7 +135,15 @@ impl RecordDraft {
 impl BookDraft {
     #[must_use]
     pub fn front_length(&self) -> usize {
-        16 + 4 * self.relations.len() + 6 * self.moves.len()
+        self.moves_at() + 6 * self.moves.len()
+    }
+
+    fn relations_at(&self) -> usize {
+        16 + self.parents.len()
+    }
+
+    fn moves_at(&self) -> usize {
+        self.relations_at() + 4 * self.relations.len()
     }
 
     #[must_use]
@@ -148,12 +159,13 @@ impl BookDraft {
     #[must_use]
     pub fn bytes(&self) -> Vec<u8> {
         let length = self.length();
-        let moves_at = 16 + 4 * self.relations.len();
         let mut bytes = Vec::with_capacity(length);
         let counts = [self.kinds, self.relations.len(), self.moves.len(), self.records.len()];
-        for number in counts.into_iter().chain([16, moves_at, self.front_length(), length]) {
+        let offsets = [self.relations_at(), self.moves_at(), self.front_length(), length];
+        for number in counts.into_iter().chain(offsets) {
             push_number(&mut bytes, number);
         }
+        bytes.extend_from_slice(&self.parents);
         bytes.extend(self.relations.iter().flatten());
         bytes.extend(self.moves.iter().flatten());
         for record in &self.records {
@@ -175,7 +187,8 @@ impl BookDraft {
             })
             .collect();
         BookLayout {
-            moves: 16 + 4 * self.relations.len(),
+            relations: self.relations_at(),
+            moves: self.moves_at(),
             records_at: self.front_length(),
             records,
         }

@@ -26,7 +26,7 @@ impl<'a> Execution<'a> {
     /// Starts with 200 to 256 facts, often 256. `None` if no fact is ever added
     /// when 256 others hold.
     pub fn draw(world: &'a World, objects: Vec<u8>, rng: &mut Rng) -> Option<Self> {
-        let mut facts = all_facts(&world.book.relations, &objects);
+        let mut facts = all_facts(&world.book, &objects);
         if facts.len() <= FACT_LIMIT {
             return None;
         }

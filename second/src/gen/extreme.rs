@@ -9,7 +9,7 @@ use crate::answer::{Answer, Refusal};
 /// Each maker gives a book and the answer that it must get.
 type Maker = fn(&mut Rng) -> (Vec<u8>, Answer);
 
-const MAKERS: [(&str, Maker); 21] = [
+const MAKERS: [(&str, Maker); 24] = [
     ("0 to 15 bytes", |rng| {
         let mut bytes = base().bytes();
         bytes.truncate(rng.below(16));
@@ -58,6 +58,14 @@ const MAKERS: [(&str, Maker); 21] = [
         draft.records.push(RecordDraft { states: vec![Vec::new()], ..RecordDraft::default() });
         (draft.bytes(), Answer::success(0))
     }),
+    ("8 kinds in a chain", |rng| chain(8, rng)),
+    ("9 kinds in a chain", |rng| chain(9, rng)),
+    ("parents of no kinds", |_| {
+        // 16 and 16 plus the kinds are one; there is no parent to be wrong.
+        let draft =
+            BookDraft { relations: vec![[0; 4]], moves: vec![[0; 6]], ..Default::default() };
+        (draft.bytes(), Answer::success(0))
+    }),
 ];
 
 pub const COUNT: usize = MAKERS.len();
@@ -76,7 +84,8 @@ pub fn labels() -> impl Iterator<Item = Label> {
 
 /// One kind, one relation of two places, one move without parameters.
 fn base() -> BookDraft {
-    BookDraft { kinds: 1, relations: vec![[2, 1, 1, 0]], moves: vec![[0; 6]], records: Vec::new() }
+    let (relations, moves) = (vec![[2, 1, 1, 0]], vec![[0; 6]]);
+    BookDraft { kinds: 1, relations, moves, ..BookDraft::default() }
 }
 
 fn filed_steps(bytes: &[u8]) -> usize {
@@ -150,6 +159,28 @@ fn kinds(count: usize, rng: &mut Rng) -> (Vec<u8>, Answer) {
         steps: Vec::new(),
     });
     (draft.bytes(), if count > 8 { Refusal::HeaderCounts.at(0) } else { Answer::success(0) })
+}
+
+/// Each kind is the parent of the next. Objects of all kinds suit relation 1,
+/// those of the last alone relation 2, and the move takes one of each.
+fn chain(count: usize, rng: &mut Rng) -> (Vec<u8>, Answer) {
+    let last = count as u8;
+    let facts = (1..=last).map(|object| [1, rng.range(1, count) as u8, object]);
+    let mut state: Vec<_> = facts.chain([[2, last, 0]]).collect();
+    state.sort_unstable();
+    let record = RecordDraft {
+        objects: (1..=last).collect(),
+        states: vec![state; 2],
+        steps: vec![[1, last, rng.range(1, count - 1) as u8, 0, 0]],
+    };
+    let draft = BookDraft {
+        kinds: count,
+        parents: (0..last).collect(),
+        relations: vec![[2, 1, 1, 0], [1, last, 0, 0]],
+        moves: vec![[2, rng.range(1, count) as u8, 1, 0, 0, 0]],
+        records: vec![record],
+    };
+    (draft.bytes(), if count > 8 { Refusal::HeaderCounts.at(0) } else { Answer::success(1) })
 }
 
 fn relations(count: usize, rng: &mut Rng) -> (Vec<u8>, Answer) {

@@ -1,18 +1,20 @@
-//! Faults in a book's length, header, relations and moves: rows 1 to 5.
+//! Faults in a book's length, header, relations and moves: rows 1 to 5. Those of
+//! the parents, row 21 and their part of row 3, are in `parent_faults`.
 
 use super::aim::{Aim, Hit};
 use super::draft::{put_number, BookDraft};
-use super::fullbook;
 use super::rng::Rng;
 use super::spoil::over;
+use super::{fullbook, parent_faults};
 use crate::answer::Refusal;
 use crate::limits::{KIND_LIMIT, MOVE_LIMIT, RECORD_LIMIT, RELATION_LIMIT};
 
 pub fn aims() -> Vec<Aim<BookDraft>> {
     let mut aims = length_and_header();
+    aims.extend(parent_faults::aims());
     aims.extend(section_aims("relation", Refusal::Relation, 16, |draft| Entries {
         bytes: draft.relations.iter().map(|entry| entry.to_vec()).collect(),
-        at: 16,
+        at: draft.layout().relations,
     }));
     aims.extend(section_aims("move", Refusal::Move, 32, |draft| Entries {
         bytes: draft.moves.iter().map(|entry| entry.to_vec()).collect(),

@@ -1,4 +1,4 @@
-//! Full books: one of any given length, and the two that are timed.
+//! Full books: one of any given length, and the three that are timed.
 
 use std::collections::BTreeSet;
 
@@ -18,7 +18,7 @@ pub fn of_length(length: usize, rng: &mut Rng) -> Vec<u8> {
         kinds: 1,
         relations: vec![[2, 1, 1, 0]],
         moves: vec![[0; 6]],
-        records: Vec::new(),
+        ..BookDraft::default()
     };
     // Each record without steps takes 6 + 16 + 3·150 bytes, each step 457 more.
     // What is left is then filled by one record of fitting objects and facts.
@@ -55,7 +55,7 @@ pub fn dense(rng: &mut Rng) -> BookDraft {
         kinds: 1,
         relations: vec![[2, 1, 1, 0]; 2],
         moves: vec![[4, 1, 1, 1, 1, 0]; 2],
-        records: Vec::new(),
+        ..BookDraft::default()
     };
     for states in [39, 38] {
         let mut record = RecordDraft { objects: vec![1; 16], ..RecordDraft::default() };
@@ -86,7 +86,7 @@ pub fn many_steps(rng: &mut Rng) -> BookDraft {
         kinds: 2,
         relations: vec![[2, 1, 2, 0], [1, 2, 0, 0]],
         moves: vec![[3, 1, 2, 2, 0, 0], [4, 1, 2, 2, 2, 0]],
-        records: Vec::new(),
+        ..BookDraft::default()
     };
     for _ in 0..64 {
         // Object 1 is the bank, the others are spots.
@@ -107,4 +107,52 @@ pub fn many_steps(rng: &mut Rng) -> BookDraft {
         draft.records.push(record);
     }
     draft
+}
+
+/// 19,932 bytes: 32 moves with 256 bound facts each, in 2 records of 64 steps,
+/// with 48 facts in each state. Two moves for each relation carry a pair of
+/// objects from it to the next one.
+pub fn many_atoms(rng: &mut Rng) -> BookDraft {
+    let mut draft = BookDraft {
+        kinds: 1,
+        relations: vec![[2, 1, 1, 0]; 16],
+        moves: vec![[4, 1, 1, 1, 1, 0]; 32],
+        ..BookDraft::default()
+    };
+    for _ in 0..2 {
+        let mut record = RecordDraft { objects: vec![1; 16], ..RecordDraft::default() };
+        let mut state = pairs_of_each(3, rng);
+        record.states.push(state.iter().copied().collect());
+        for action in (1..=32u8).cycle().take(64) {
+            let from = action.div_ceil(2);
+            let to = from % 16 + 1;
+            let free = |&&[relation, first, second]: &&Fact| {
+                relation == from && !state.contains(&[to, first, second])
+            };
+            let free: Vec<Fact> = state.iter().filter(free).copied().collect();
+            let &[_, first, second] = rng.pick(&free).expect("a pair to carry");
+            state.remove(&[from, first, second]);
+            state.insert([to, first, second]);
+            let mut others: Vec<u8> = (1..=16).filter(|&o| o != first && o != second).collect();
+            rng.shuffle(&mut others);
+            record.steps.push([action, first, second, others[0], others[1]]);
+            record.states.push(state.iter().copied().collect());
+        }
+        draft.records.push(record);
+    }
+    draft
+}
+
+/// Of each of 16 relations as many facts, of two different objects of 16.
+fn pairs_of_each(count: usize, rng: &mut Rng) -> BTreeSet<Fact> {
+    let mut facts = BTreeSet::new();
+    for relation in 1..=16 {
+        while facts.len() < count * usize::from(relation) {
+            let (first, second) = (rng.range(1, 16) as u8, rng.range(1, 16) as u8);
+            if first != second {
+                facts.insert([relation, first, second]);
+            }
+        }
+    }
+    facts
 }

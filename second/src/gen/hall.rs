@@ -3,7 +3,8 @@
 use std::collections::BTreeSet;
 
 use super::draft::{BookDraft, Fact, RecordDraft, Step};
-use super::facts::random_fact;
+use super::facts::{all_facts, random_fact};
+use super::front::draw_front;
 use super::rng::Rng;
 
 pub type State = BTreeSet<Fact>;
@@ -72,11 +73,7 @@ impl World {
 
     /// `draw` gives the hidden rule of each lifted atom.
     pub fn with_rules(book: BookDraft, mut draw: impl FnMut() -> Rule) -> Self {
-        let rules = book
-            .moves
-            .iter()
-            .map(|entry| hidden_atoms(&book.relations, entry, &mut draw))
-            .collect();
+        let rules = book.moves.iter().map(|entry| hidden_atoms(&book, entry, &mut draw)).collect();
         Self { book, rules }
     }
 
@@ -95,7 +92,7 @@ impl World {
             return state;
         }
         for _ in 0..rng.range(0, limit) {
-            if let Some(fact) = random_fact(&self.book.relations, objects, rng) {
+            if let Some(fact) = random_fact(&self.book, objects, rng) {
                 state.insert(fact);
             }
         }
@@ -152,15 +149,17 @@ impl World {
         self.bind(index, objects, rng)
     }
 
-    /// A step of the move of this index, by an injective binding of the right
-    /// kinds.
+    /// A step of the move of this index, by an injective binding of objects that
+    /// suit their parameters.
     pub fn bind(&self, index: usize, objects: &[u8], rng: &mut Rng) -> Option<Step> {
         let entry = self.book.moves[index];
         let mut step = [0; 5];
         step[0] = index as u8 + 1;
         for parameter in 1..=usize::from(entry[0]) {
             let free: Vec<u8> = (1..=objects.len() as u8)
-                .filter(|&object| objects[usize::from(object) - 1] == entry[parameter])
+                .filter(|&object| {
+                    self.book.suits(objects[usize::from(object) - 1], entry[parameter])
+                })
                 .filter(|object| !step[1..parameter].contains(object))
                 .collect();
             step[parameter] = *rng.pick(&free)?;
@@ -208,19 +207,39 @@ impl World {
         atoms.iter().filter_map(move |atom| Some((atom.fact(step), part(&atom.rule)?)))
     }
 
-    /// Turns one fact: of the step's bound ones half of the time, else any.
+    /// Turns one fact: of the step's bound ones most of the time, else any, or
+    /// one of its objects that is not bound, where there is such a one.
     fn slip(&self, objects: &[u8], step: &Step, next: &mut State, rng: &mut Rng) {
-        let bound = &self.rules[usize::from(step[0]) - 1];
-        let fact = if rng.chance(65) {
-            rng.pick(bound).map(|atom| atom.fact(step))
-        } else {
-            random_fact(&self.book.relations, objects, rng)
+        let beside = self.beside(objects, step);
+        let fact = match rng.below(20) {
+            0..=6 if !beside.is_empty() => rng.pick(&beside).copied(),
+            0..=12 => rng.pick(&self.bound_facts(step)).copied(),
+            _ => random_fact(&self.book, objects, rng),
         };
         if let Some(fact) = fact {
             if !next.remove(&fact) && next.len() < 256 {
                 next.insert(fact);
             }
         }
+    }
+}
+
+/// Facts of a step's objects.
+impl World {
+    fn bound_facts(&self, step: &Step) -> Vec<Fact> {
+        self.rules[usize::from(step[0]) - 1].iter().map(|atom| atom.fact(step)).collect()
+    }
+
+    /// Those that are not bound: an object suits a place that its parameter does
+    /// not suit.
+    pub fn beside(&self, objects: &[u8], step: &Step) -> Vec<Fact> {
+        let bound = self.bound_facts(step);
+        let used = step[1..].iter().take_while(|&&object| object > 0);
+        let kinds: Vec<u8> = used.map(|&object| objects[usize::from(object) - 1]).collect();
+        let object = |parameter: u8| if parameter == 0 { 0 } else { step[usize::from(parameter)] };
+        let over_step = all_facts(&self.book, &kinds).into_iter();
+        let facts = over_step.map(|[relation, a, b]| [relation, object(a), object(b)]);
+        facts.filter(|fact| !bound.contains(fact)).collect()
     }
 }
 
@@ -240,46 +259,22 @@ impl HiddenAtom {
     }
 }
 
-/// Kinds, relations and moves, and no record.
-pub fn draw_front(shape: &Shape, rng: &mut Rng) -> BookDraft {
-    let kinds = rng.count(shape.kinds);
-    let mut book = BookDraft { kinds, ..BookDraft::default() };
-    for _ in 0..rng.count(shape.relations) {
-        book.relations.push(draw_entry(kinds, rng));
-    }
-    for _ in 0..rng.count(shape.moves) {
-        book.moves.push(draw_entry(kinds, rng));
-    }
-    book
-}
-
-/// A relation or a move: a count, kinds, zeros. The count leaves the last byte 0.
-fn draw_entry<const N: usize>(kinds: usize, rng: &mut Rng) -> [u8; N] {
-    let mut entry = [0; N];
-    let count = if kinds == 0 { 0 } else { rng.range(0, N - 2) };
-    entry[0] = count as u8;
-    entry[1..=count].fill_with(|| rng.range(1, kinds) as u8);
-    entry
-}
-
+/// A parameter makes a lifted atom if its own kind suits the place.
 fn hidden_atoms(
-    relations: &[[u8; 4]],
+    book: &BookDraft,
     entry: &[u8; 6],
     draw: &mut impl FnMut() -> Rule,
 ) -> Vec<HiddenAtom> {
-    let fillers = |kind: u8| -> Vec<Option<usize>> {
-        if kind == 0 {
-            return vec![None];
-        }
-        (0..usize::from(entry[0])).filter(|&p| entry[p + 1] == kind).map(Some).collect()
-    };
+    let kinds = &entry[1..=usize::from(entry[0])];
     let mut atoms = Vec::new();
-    for (number, relation) in (1..).zip(relations) {
-        for &first in &fillers(relation[1]) {
-            for &second in &fillers(relation[2]) {
-                let parameters = [first, second];
-                atoms.push(HiddenAtom { relation: number, parameters, rule: draw() });
-            }
+    for (relation, places) in (1..).zip(&book.relations) {
+        let seconds = book.fillers(kinds, places[2]);
+        for first in book.fillers(kinds, places[1]) {
+            atoms.extend(seconds.iter().map(|&second| HiddenAtom {
+                relation,
+                parameters: [first, second],
+                rule: draw(),
+            }));
         }
     }
     atoms

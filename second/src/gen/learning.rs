@@ -26,7 +26,7 @@ impl LearnStream {
         let mut rng = Rng::of_case(!self.seed, index);
         let (round, turn) = (index / 20, index % 20);
         let (label, book, moves) = if turn < 4 {
-            let case = self.books.of_number(((4 * round + turn) % 10 + 1) as u32, &mut rng);
+            let case = self.books.of_row(4 * round + turn, &mut rng);
             // What would pass for the moves of a damaged book.
             let moves = case.book.get(5).copied().unwrap_or(0);
             (case.label, case.book, usize::from(moves % 33))

@@ -12,9 +12,20 @@ pub struct BookStream {
     seed: u64,
 }
 
+/// The rows of a book's form, in the order of the table.
+const FORM: [u32; 11] = [1, 2, 3, 21, 4, 5, 6, 7, 8, 9, 10];
+
 /// Kinds of random damage, whose answer only an implementation can tell.
-const RANDOM: [&str; 6] =
-    ["two faults", "bytes changed", "truncated", "bytes put in", "bytes taken out", "random bytes"];
+const RANDOM: [&str; 8] = [
+    "two faults",
+    "bytes changed",
+    "truncated",
+    "bytes put in",
+    "bytes taken out",
+    "parents left in",
+    "parents left out",
+    "random bytes",
+];
 
 impl BookStream {
     #[must_use]
@@ -50,21 +61,29 @@ impl BookStream {
         BookCase { label: aim.label, book, aimed: Some(answer) }
     }
 
-    /// A book with a fault of this number, 1 to 10.
+    /// A book with a fault of a row of its form: of each in turn.
     #[must_use]
-    pub fn of_number(&self, number: u32, rng: &mut Rng) -> BookCase {
+    pub fn of_row(&self, turn: usize, rng: &mut Rng) -> BookCase {
+        let number = FORM[turn % FORM.len()];
         let fitting: Vec<usize> = (0..self.aims.len())
             .filter(|&index| self.aims[index].refusal as u32 == number)
             .collect();
-        let index = *rng.pick(&fitting).expect("every row from 1 to 10 has an aim");
+        let index = *rng.pick(&fitting).expect("every row of a book's form has an aim");
         self.aimed(index, rng)
     }
 
     fn random(&self, index: usize, rng: &mut Rng) -> BookCase {
         let what = RANDOM[index % RANDOM.len()];
-        let mut bytes = book::to_damage(rng).bytes();
+        let draft = book::to_damage(rng);
+        let mut bytes = draft.bytes();
         match what {
             "two faults" => bytes = self.two_faults(rng),
+            // The header says that there are none, or that there are.
+            "parents left in" => set_offsets(&mut bytes, &draft, 16),
+            "parents left out" => {
+                bytes = BookDraft { parents: Vec::new(), ..draft.clone() }.bytes();
+                set_offsets(&mut bytes, &draft, 16 + draft.kinds);
+            }
             "bytes changed" => change_bytes(&mut bytes, rng),
             "truncated" => {
                 bytes.truncate(rng.range(0, bytes.len()));
@@ -112,6 +131,15 @@ impl BookStream {
     }
 }
 
+/// Offsets of sections that touch from where the relations are to begin.
+fn set_offsets(bytes: &mut [u8], draft: &BookDraft, relations_at: usize) {
+    let moves_at = relations_at + 4 * draft.relations.len();
+    let records_at = moves_at + 6 * draft.moves.len();
+    for (field, at) in (4..).zip([relations_at, moves_at, records_at]) {
+        put_number(bytes, 2 * field, at);
+    }
+}
+
 fn good(rng: &mut Rng) -> BookCase {
     let dynamics = *rng
         .pick(&[Dynamics::Follows, Dynamics::Slips, Dynamics::Random])
@@ -154,9 +182,11 @@ fn renew_end(bytes: &mut [u8], rng: &mut Rng) {
 fn random_bytes(rng: &mut Rng) -> Vec<u8> {
     let mut bytes: Vec<u8> = (0..rng.range(0, 200)).map(|_| small_byte(rng)).collect();
     if bytes.len() >= 16 && rng.chance(70) {
-        let (relations, moves) = (rng.below(3), rng.below(2));
-        let counts = [rng.below(4), relations, moves, rng.below(3)];
-        let offsets = [16, 16 + 4 * relations, 16 + 4 * relations + 6 * moves, bytes.len()];
+        let (kinds, relations, moves) = (rng.below(4), rng.below(3), rng.below(2));
+        let counts = [kinds, relations, moves, rng.below(3)];
+        let relations_at = 16 + if rng.chance(50) { kinds } else { 0 };
+        let moves_at = relations_at + 4 * relations;
+        let offsets = [relations_at, moves_at, moves_at + 6 * moves, bytes.len()];
         for (field, number) in counts.into_iter().chain(offsets).enumerate() {
             put_number(&mut bytes, 2 * field, number);
         }

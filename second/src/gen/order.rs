@@ -70,11 +70,8 @@ fn made_up(world: &World, shape: &Shape, rng: &mut Rng) -> RecordDraft {
 fn goal(book: &BookDraft, objects: &[u8], end: &[Fact], rng: &mut Rng) -> Vec<(u8, Fact)> {
     let mut entries = BTreeMap::new();
     for _ in 0..rng.range(0, 6) {
-        let fact = if rng.chance(50) {
-            rng.pick(end).copied()
-        } else {
-            random_fact(&book.relations, objects, rng)
-        };
+        let fact =
+            if rng.chance(50) { rng.pick(end).copied() } else { random_fact(book, objects, rng) };
         if let Some(fact) = fact {
             entries.insert(fact, u8::from(end.contains(&fact)));
         }
@@ -89,7 +86,7 @@ fn goal(book: &BookDraft, objects: &[u8], end: &[Fact], rng: &mut Rng) -> Vec<(u
 }
 
 fn turn_one(book: &BookDraft, objects: &[u8], state: &mut State, rng: &mut Rng) {
-    if let Some(fact) = random_fact(&book.relations, objects, rng) {
+    if let Some(fact) = random_fact(book, objects, rng) {
         if !state.remove(&fact) && state.len() < 256 {
             state.insert(fact);
         }
@@ -102,7 +99,7 @@ pub fn at_the_limits() -> Plan {
         kinds: 1,
         relations: vec![[2, 1, 1, 0]],
         moves: vec![[0; 6]],
-        records: Vec::new(),
+        ..BookDraft::default()
     };
     let start = fullbook::first_facts(16, 256);
     let goal = start.iter().take(64).map(|&fact| (1, fact)).collect();

@@ -4,7 +4,7 @@ use super::aim::{Aim, Hit};
 use super::draft::{put_number, OrderDraft};
 use super::order::Plan;
 use super::rng::Rng;
-use super::spoil::{object_twice, over, Scene, SpoilStep, FACT_FAULTS, STEP_FAULTS};
+use super::spoil::{over, Scene, FACT_FAULTS, STEP_FAULTS, TWICE_FAULTS};
 use crate::answer::Refusal;
 
 pub fn aims() -> Vec<Aim<Plan>> {
@@ -17,7 +17,7 @@ pub fn aims() -> Vec<Aim<Plan>> {
 }
 
 fn scene(plan: &Plan) -> Scene<'_> {
-    Scene { relations: &plan.book.relations, moves: &plan.book.moves, objects: &plan.order.objects }
+    Scene { book: &plan.book, objects: &plan.order.objects }
 }
 
 fn header() -> Vec<Aim<Plan>> {
@@ -186,16 +186,14 @@ fn goal_entries() -> Vec<Aim<Plan>> {
 }
 
 fn steps() -> impl Iterator<Item = Aim<Plan>> {
-    STEP_FAULTS.into_iter().chain([("object twice", object_twice as SpoilStep)]).map(
-        |(what, spoil)| {
-            Aim::new("plan step", what, Refusal::PlanStep, move |plan: &Plan, rng: &mut Rng| {
-                let count = plan.order.steps.len();
-                let index = (count > 0).then(|| rng.below(count))?;
-                let mut order = plan.order.clone();
-                order.steps[index] = spoil(order.steps[index], &scene(plan), rng)?;
-                let place = order.layout().steps + 5 * index;
-                Some(Hit { bytes: order.bytes(), place })
-            })
-        },
-    )
+    STEP_FAULTS.into_iter().chain(TWICE_FAULTS).map(|(what, spoil)| {
+        Aim::new("plan step", what, Refusal::PlanStep, move |plan: &Plan, rng: &mut Rng| {
+            let count = plan.order.steps.len();
+            let index = (count > 0).then(|| rng.below(count))?;
+            let mut order = plan.order.clone();
+            order.steps[index] = spoil(order.steps[index], &scene(plan), rng)?;
+            let place = order.layout().steps + 5 * index;
+            Some(Hit { bytes: order.bytes(), place })
+        })
+    })
 }

@@ -3,7 +3,7 @@
 use super::aim::{Aim, Hit};
 use super::draft::{put_number, BookDraft, Fact, RecordDraft, RecordLayout};
 use super::rng::Rng;
-use super::spoil::{object_twice, over, Scene, FACT_FAULTS, STEP_FAULTS};
+use super::spoil::{over, Scene, FACT_FAULTS, STEP_FAULTS, TWICE_FAULTS};
 use crate::answer::Refusal;
 
 pub fn aims() -> Vec<Aim<BookDraft>> {
@@ -250,7 +250,7 @@ fn states() -> Vec<Aim<BookDraft>> {
 }
 
 fn scene<'a>(draft: &'a BookDraft, record: &'a RecordDraft) -> Scene<'a> {
-    Scene { relations: &draft.relations, moves: &draft.moves, objects: &record.objects }
+    Scene { book: draft, objects: &record.objects }
 }
 
 fn steps() -> Vec<Aim<BookDraft>> {
@@ -261,8 +261,8 @@ fn steps() -> Vec<Aim<BookDraft>> {
         site.hit(place)
     })];
     let spoils = STEP_FAULTS.map(|(what, spoil)| (what, Refusal::Step, spoil));
-    let twice = ("object twice", Refusal::ObjectTwice, object_twice as super::spoil::SpoilStep);
-    aims.extend(spoils.into_iter().chain([twice]).map(|(what, refusal, spoil)| {
+    let twice = TWICE_FAULTS.map(|(what, spoil)| (what, Refusal::ObjectTwice, spoil));
+    aims.extend(spoils.into_iter().chain(twice).map(|(what, refusal, spoil)| {
         Aim::new("step", what, refusal, move |draft: &BookDraft, rng: &mut Rng| {
             let mut site = site(draft, rng)?;
             let count = site.record.steps.len();

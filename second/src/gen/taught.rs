@@ -26,12 +26,15 @@ impl World {
     /// are needed neither way.
     fn one_step(&self, index: usize, free: impl Fn(usize) -> bool, rng: &mut Rng) -> RecordDraft {
         let (entry, atoms) = (self.book.moves[index], &self.rules[index]);
-        let mut objects = entry[1..=usize::from(entry[0])].to_vec();
+        let mut objects = Vec::new();
+        let mut step = [index as u8 + 1, 0, 0, 0, 0];
+        for parameter in 1..=usize::from(entry[0]) {
+            objects.extend(rng.pick(&self.book.suiting(entry[parameter])));
+            step[parameter] = objects.len() as u8;
+        }
         if self.book.kinds > 0 {
             objects.extend((0..rng.below(4)).map(|_| rng.range(1, self.book.kinds) as u8));
         }
-        rng.shuffle(&mut objects);
-        let step = self.bind(index, &objects, rng).expect("each parameter has an object");
         let others = (FACT_LIMIT - atoms.len()).min(20);
         let mut before = self.state(&objects, others, rng);
         for (number, atom) in atoms.iter().enumerate() {
@@ -44,6 +47,8 @@ impl World {
         }
         let after = self.apply(&step, &before).expect("the needs are met");
         let states = [before, after].map(|state| state.into_iter().collect()).to_vec();
-        RecordDraft { objects, states, steps: vec![step] }
+        let mut numbers: Vec<u8> = (1..=objects.len() as u8).collect();
+        rng.shuffle(&mut numbers);
+        RecordDraft { objects, states, steps: vec![step] }.renumbered(&numbers)
     }
 }

@@ -7,7 +7,7 @@ use super::order::{self, Plan};
 use super::rng::Rng;
 
 const SHAPE: Shape =
-    Shape { kinds: 2, relations: 3, moves: 2, records: 3, objects: 3, steps: 3, facts: 4 };
+    Shape { kinds: 3, relations: 3, moves: 2, records: 3, objects: 3, steps: 3, facts: 4 };
 
 /// A book with few lifted atoms and an order for it, with steps in most cases;
 /// some books are impossible.
@@ -28,8 +28,8 @@ fn draw_any(rng: &mut Rng) -> Plan {
         }
     };
     let dynamics = match rng.below(100) {
-        0..=69 => Dynamics::Follows,
-        70..=89 => Dynamics::Slips,
+        0..=64 => Dynamics::Follows,
+        65..=89 => Dynamics::Slips,
         _ => Dynamics::Random,
     };
     let records = rng.count(SHAPE.records);
@@ -45,13 +45,15 @@ pub(super) fn few_atoms(book: &BookDraft, rng: &mut Rng) -> bool {
         0..=1 => 4 + usize::from(rng.chance(4)),
         _ => 3,
     };
-    book.moves.iter().all(|entry| atom_count(&book.relations, entry) <= limit)
+    most_atoms(book) <= limit
 }
 
-pub(super) fn atom_count(relations: &[[u8; 4]], entry: &[u8; 6]) -> usize {
-    let fillers = |kind: u8| match kind {
-        0 => 1,
-        _ => entry[1..=usize::from(entry[0])].iter().filter(|&&filler| filler == kind).count(),
+/// The lifted atoms of the move that has most of them.
+pub(super) fn most_atoms(book: &BookDraft) -> usize {
+    let count = |entry: &[u8; 6]| -> usize {
+        let kinds = &entry[1..=usize::from(entry[0])];
+        let fillers = |place: u8| book.fillers(kinds, place).len();
+        book.relations.iter().map(|places| fillers(places[1]) * fillers(places[2])).sum()
     };
-    relations.iter().map(|relation| fillers(relation[1]) * fillers(relation[2])).sum()
+    book.moves.iter().map(count).max().unwrap_or(0)
 }

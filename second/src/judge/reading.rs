@@ -52,10 +52,12 @@ pub(super) fn read_book<const WORDS: usize>(
     book: &[u8],
 ) -> (Vec<Vec<Atom>>, Vec<Transition<WORDS>>) {
     let mut reader = Reader(book);
-    let [_, relations, moves, records] = [(); 4].map(|()| reader.number());
-    reader.take(8);
+    let [_, relations, moves, records, relations_at] = [(); 5].map(|()| reader.number());
+    reader.take(6);
+    let parents = reader.take(relations_at - 16);
     let relations: Vec<&[u8]> = (0..relations).map(|_| reader.take(4)).collect();
-    let atoms: Vec<Vec<Atom>> = (0..moves).map(|_| atoms(&relations, reader.take(6))).collect();
+    let atoms: Vec<Vec<Atom>> =
+        (0..moves).map(|_| atoms(parents, &relations, reader.take(6))).collect();
     let mut transitions = Vec::new();
     for _ in 0..records {
         let head = reader.take(4);
@@ -73,11 +75,19 @@ pub(super) fn read_book<const WORDS: usize>(
     (atoms, transitions)
 }
 
-fn atoms(relations: &[&[u8]], entry: &[u8]) -> Vec<Atom> {
+/// Climbs from a kind to its parent, and on, until it comes to the one named or
+/// to a kind that has no parent. Without parents no kind has one.
+fn suits(parents: &[u8], kind: u8, named: u8) -> bool {
+    let above = |&kind: &u8| parents.get(usize::from(kind) - 1).copied().filter(|&up| up > 0);
+    std::iter::successors(Some(kind), above).any(|kind| kind == named)
+}
+
+fn atoms(parents: &[u8], relations: &[&[u8]], entry: &[u8]) -> Vec<Atom> {
+    let parameters = || 0..usize::from(entry[0]);
     let fillers = |kind: u8| -> Vec<Option<usize>> {
         match kind {
             0 => vec![None],
-            _ => (0..usize::from(entry[0])).filter(|&p| entry[1 + p] == kind).map(Some).collect(),
+            _ => parameters().filter(|&p| suits(parents, entry[1 + p], kind)).map(Some).collect(),
         }
     };
     let mut atoms = Vec::new();

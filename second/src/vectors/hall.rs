@@ -10,7 +10,7 @@ pub fn unrecorded() -> BookDraft {
         kinds: 2,
         relations: vec![[2, 1, 2, 0], [1, 2, 0, 0]],
         moves: vec![[3, 1, 2, 2, 0, 0]],
-        records: Vec::new(),
+        ..BookDraft::default()
     }
 }
 
@@ -29,6 +29,11 @@ pub fn with(records: impl IntoIterator<Item = RecordDraft>) -> BookDraft {
 
 pub fn small_hall() -> BookDraft {
     with([filed()])
+}
+
+/// The small hall, whose two kinds have these parents.
+pub fn with_parents(parents: &[u8]) -> BookDraft {
+    BookDraft { parents: parents.to_vec(), ..small_hall() }
 }
 
 /// Where the parts of the small hall stand.
@@ -92,10 +97,10 @@ pub fn m2() -> OrderDraft {
 /// One relation and `moves` moves, all without places; the fact is `F`.
 pub fn one_fact(moves: usize, records: impl IntoIterator<Item = RecordDraft>) -> BookDraft {
     BookDraft {
-        kinds: 0,
         relations: vec![[0; 4]],
         moves: vec![[0; 6]; moves],
         records: records.into_iter().collect(),
+        ..BookDraft::default()
     }
 }
 

@@ -48,12 +48,7 @@ fn totals() -> Vec<Vector> {
         states: vec![Vec::new(); 65],
         steps: vec![[1, 0, 0, 0, 0]; 64],
     };
-    let book = BookDraft {
-        kinds: 0,
-        relations: Vec::new(),
-        moves: vec![[0; 6]],
-        records: vec![record; 64],
-    };
+    let book = BookDraft { moves: vec![[0; 6]], records: vec![record; 64], ..BookDraft::default() };
     // The fact holds before each of the other move's 3 steps, and stays.
     let holds = story(&[true; 4], &[32; 3]);
     let mut moves = vec![[&[0][..], &[0], &[], &[]]; 31];
@@ -84,7 +79,7 @@ fn four_parameters() -> Vec<Vector> {
         kinds: 1,
         relations: vec![[2, 1, 1, 0]; 16],
         moves: vec![[4, 1, 1, 1, 1, 0]],
-        records: Vec::new(),
+        ..BookDraft::default()
     };
     let all: Vec<usize> = (0..256).collect();
     // 16(4, 3) appears and 16(3, 4) vanishes; of the record's 16 objects the

@@ -2,21 +2,22 @@
 //! row stands before 13, and of the right one. No byte of it may change.
 
 use super::hall::{
-    changed, empty_end, filed, m2, small_hall, unbound, with, AFTER, HEAD, MOVE, OBJECTS,
-    RELATIONS, STATE, STEP,
+    changed, empty_end, filed, m2, small_hall, unbound, with, with_parents, AFTER, HEAD, MOVE,
+    OBJECTS, RELATIONS, STATE, STEP,
 };
 use super::Vector;
 use crate::answer::{Answer, Refusal};
 use crate::calls::Job::{self, Add, Check, Learn};
 use crate::limits::{END_SHEET_LENGTH, RULES_LENGTH};
 
-/// The small hall with a fault of each row from 1 to 10.
+/// The small hall with a fault of each row of a book's form.
 fn malformed() -> Vec<(Vec<u8>, Answer)> {
     let hall = |at: usize, new: &[u8]| changed(small_hall().bytes(), &[(at, new)]);
     vec![
         (small_hall().bytes()[..15].to_vec(), Refusal::Length.at(0)),
         (hall(1, &[9]), Refusal::HeaderCounts.at(0)),
         (hall(15, &[59]), Refusal::HeaderOffsets.at(0)),
+        (with_parents(&[0, 2]).bytes(), Refusal::Parent.at(17)),
         (hall(RELATIONS, &[3]), Refusal::Relation.at(RELATIONS)),
         (hall(MOVE, &[5]), Refusal::Move.at(MOVE)),
         (hall(HEAD + 1, &[65]), Refusal::Record.at(HEAD)),

@@ -70,6 +70,7 @@ fn marks() -> BookDraft {
             states: vec![bare.clone(), both.clone(), both.clone(), bare, both, left],
             steps: vec![mark(1), look(1), unmark(1), mark(1), clear(1)],
         }],
+        ..BookDraft::default()
     }
 }
 
@@ -160,6 +161,7 @@ fn one_a_step() -> Vector {
             states: vec![before, after],
             steps: vec![[1, 1, 2, 0, 0]],
         }],
+        ..BookDraft::default()
     };
     let pairs = facts(2, 16).into_iter().filter(|[_, first, second]| first < second);
     let added: Vec<Fact> = pairs.take(64).collect();
@@ -183,6 +185,7 @@ fn all_facts() -> Vec<Vector> {
             states: vec![facts(1, 4), all.clone(), all],
             steps: vec![[1, 1, 2, 3, 4]; 2],
         }],
+        ..BookDraft::default()
     };
     // Of the objects 1 2, 3 4, and so on to 15 16, every two pairs.
     let steps: Vec<Step> = (1..=13)

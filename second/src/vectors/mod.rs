@@ -11,6 +11,7 @@ mod both;
 mod both_orders;
 mod cuts;
 mod each_byte;
+mod families;
 pub mod file;
 mod further;
 mod hall;
@@ -19,7 +20,11 @@ mod lent;
 mod many;
 mod offsets;
 mod paper;
+mod parents;
 mod rows;
+mod wagon;
+mod wagon_learning;
+mod wagon_plans;
 
 pub use file::{missing, parse, print, run, Failure, Vector};
 
@@ -66,6 +71,11 @@ pub fn all() -> Vec<Vector> {
     vectors.extend(lent::all());
     vectors.extend(adding::all());
     vectors.extend(further::all());
+    vectors.extend(parents::all());
+    vectors.extend(wagon::all());
+    vectors.extend(wagon_learning::all());
+    vectors.extend(wagon_plans::all());
+    vectors.extend(families::all());
     vectors.extend(aimed::books());
     vectors.extend(aimed::orders());
     vectors.extend(aimed::additions());

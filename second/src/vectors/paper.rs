@@ -16,6 +16,13 @@ pub fn check(name: &str, book: Vec<u8>, order: Vec<u8>, answer: Answer) -> Vecto
     Vector::new(name, &[Check], book, answer).order(order).output(END_SHEET_LENGTH)
 }
 
+/// A book that learns this sheet, with an output of its length.
+pub fn learn(name: impl Into<String>, book: &BookDraft, sheet: Vec<u8>) -> Vector {
+    Vector::new(name, &[Learn], book.bytes(), Answer::success(book.steps()))
+        .output(sheet.len())
+        .after(sheet)
+}
+
 /// The needs and effects that M1 lists, by the numbers of the bound facts: 1
 /// and 2 are "bank at spot" of parameters 1 2 and 1 3, 20 and 24 "spot clear"
 /// of parameters 2 and 3.
@@ -91,12 +98,12 @@ pub fn decisions() -> Vec<Vector> {
     let both_places = BookDraft {
         kinds: 1,
         relations: vec![[2, 1, 1, 0]],
-        moves: Vec::new(),
         records: vec![RecordDraft {
             objects: vec![1],
             states: vec![vec![[1, 1, 1]]],
             steps: Vec::new(),
         }],
+        ..BookDraft::default()
     };
     let twice = order(&START, &[(1, AT_2), (0, AT_2)], &[]);
     vec![

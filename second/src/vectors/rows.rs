@@ -5,7 +5,7 @@ use super::hall::{
     end_sheet, filed, one_fact, order, sheet, small_hall, story, with, AT_2, AT_4, ROLL_2_3,
     ROLL_3_4, START, START_2_CLEAR,
 };
-use super::paper::{check, m1_sheet};
+use super::paper::{check, learn, m1_sheet};
 use super::Vector;
 use crate::answer::{Answer, Refusal};
 use crate::calls::Job::{Add, Check, Learn};
@@ -151,11 +151,6 @@ fn conflicts() -> Vec<Vector> {
 }
 
 fn learned() -> Vec<Vector> {
-    let learn = |name, book: &BookDraft, sheet: Vec<u8>| {
-        Vector::new(name, &[Learn], book.bytes(), Answer::success(book.steps()))
-            .output(sheet.len())
-            .after(sheet)
-    };
     let renumbered = with([filed().renumbered(&[3, 1, 2])]);
     // Spot 2 is clear before as well: clear of the first spot is needed no more.
     let more = with([filed(), four(&START_2_CLEAR[..3], &[[1, 1, 3], [2, 2, 0]])]);
@@ -265,6 +260,7 @@ pub fn plans_without_places() -> Vec<Vector> {
             states: vec![Vec::new(), vec![fact], vec![fact, [2, 1, 0]]],
             steps: vec![turn, put(1)],
         }],
+        ..BookDraft::default()
     };
     let plan = |name, goal: &[(u8, Fact)], steps: &[_], answer| {
         let (goal, steps) = (goal.to_vec(), steps.to_vec());

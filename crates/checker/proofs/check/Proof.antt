@@ -1,13 +1,19 @@
 -- `checker::check` meets its contract: rows 1 to 12, row 13, then the order.
+use mathlib.Core.Path.{refl}
+use Rattle.mask.specs.Sets.{empty}
 use Rattle.checker.proofs.Rows.{at-book, at-size, ready-by, at-rest}
 use borrow.Author.Needs.{needs}
 use Rattle.checker.proofs.check.Statement.{statement}
 use Rattle.checker.proofs.check.Tie as tie
 
+observe-book-requires : tie.Need-observe-book-requires
+unfolding empty
+observe-book-requires c κs = (c .before .read .ensures, refl)
+
 pub check-spec : {M : Type 1} → statement M
 check-spec =
     tie.close
-    (tie.spec (λ c κs. search needs) (λ c. search needs) (λ c κs. search needs) (λ c κs. search needs)
+    (tie.spec (λ c κs. search needs) (λ c. search needs) observe-book-requires (λ c κs. search needs)
     (λ c. at-book _ _ _ _ (c .before .before .before .observe-book .ensures) (c .before .is-refused .ensures) _ _ (c .if1 .taken))
     (λ c. let i = c .before in at-size _ _ _ _ (i .before .before .before .observe-book .ensures) (i .before .is-refused .ensures) _ _ (i .if1 .left) (c .if2 .taken))
     (λ c. search needs)

@@ -5,16 +5,15 @@ use mathlib.Core.Path.{_≡_}
 use borrow.Author.Needs.{needs}
 use Rattle.observed.specs.Rules.{conflictObserved}
 use Rattle.model.specs.Quantify.{least}
-use Rattle.terms.specs.Schema.{schema}
 use Rattle.model.proofs.Quantify.{least-first, least-next, least-found, least-unfound}
 use Rattle.conflicts.proofs.first_conflict.Statement.{statement}
 use Rattle.conflicts.proofs.first_conflict.Tie as tie
 
 abbrev Inv-loop : tie.InvT-loop
-Inv-loop book h observed count i₀ i = (i ≤ count) × (least i (conflictObserved (schema h book) observed) ≡ 0)
+Inv-loop moves observed count i₀ i = (i ≤ count) × (least i (conflictObserved observed) ≡ 0)
 
 abbrev μ-loop : tie.MeasureT-loop
-μ-loop book h observed count i₀ i = count - i
+μ-loop moves observed count i₀ i = count - i
 
 returns : tie.Need-returns Inv-loop μ-loop
 returns c =
@@ -35,5 +34,5 @@ pub first-conflict-spec : {M : Type 1} → statement M
 first-conflict-spec =
     tie.close
     (tie.spec
-    Inv-loop μ-loop (λ c. search needs) (λ c. (omega arith, least-first _)) (λ c. omega arith) (λ c. omega arith) (λ c κs. search needs)
+    Inv-loop μ-loop (λ c. (omega arith, least-first _)) (λ c. omega arith) (λ c. omega arith) (λ c κs. search needs)
     returns (λ c. omega arith) loop-again returns-2)

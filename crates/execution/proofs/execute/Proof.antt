@@ -8,7 +8,7 @@ use Rattle.terms.specs.Schema.{schema}
 use Rattle.format.specs.Order.{planFrom}
 use Rattle.statemask.specs.Statemask.{execute}
 use Rattle.execution.specs.Execution.{Executable}
-use Rattle.execution.proofs.Plan.{executable-move, executable-next, execute-none, execute-here, execute-more, executes}
+use Rattle.execution.proofs.Plan.{executable-step, executable-next, execute-none, execute-here, execute-more, executes}
 use Rattle.execution.proofs.execute.Statement.{statement}
 use Rattle.execution.proofs.execute.Tie as tie
 
@@ -23,33 +23,36 @@ abbrev μ-loop : tie.MeasureT-loop
 loop-holds : tie.Need-loop-holds Inv-loop μ-loop
 loop-holds c = (c .before .before .before .pre, omega arith, refl)
 
-rules-of-requires : tie.Need-rules-of-requires Inv-loop μ-loop
-rules-of-requires c κs =
-    let d = c .before .before in
-    executable-move _ _ _ _ (d .before .loop .inv .0) (d .loop-test .taken) _ (c .before .read .ensures)
+is-inapplicable-requires : tie.Need-is-inapplicable-requires Inv-loop μ-loop
+is-inapplicable-requires c κs =
+    let d = c .before in
+    let e = d .before in
+    executable-step _ _ _ _ (e .before .loop .inv .0) (e .loop-test .taken) _ (d .read .ensures)
 
 returns : tie.Need-returns Inv-loop μ-loop
 returns c =
     let d = c .before in
     let e = d .before .before in
-    let f = e .before .before in
-    let g = f .before in
+    let f = e .before in
     executes _ _ _ _ _ _
-    (sym
-    (execute-here _ _ _ _ _ _ _ (g .loop-test .taken) _ (f .read .ensures) _ (e .rules-of .ensures) _ (d .is-inapplicable .ensures) (c .if1 .taken))
-    ∙ g .before .loop .inv .2)
+    (sym (execute-here _ _ _ _ _ _ _ (f .loop-test .taken) _ (e .read .ensures) (sym (d .is-inapplicable .ensures) ∙ c .if1 .taken)) ∙ f .before .loop .inv .2)
+
+advance-requires : tie.Need-advance-requires Inv-loop μ-loop
+advance-requires c κs =
+    let d = c .before .before .before .before in
+    let e = d .before in
+    executable-step _ _ _ _ (e .before .loop .inv .0) (e .loop-test .taken) _ (d .read .ensures)
 
 loop-again : tie.Need-loop-again Inv-loop μ-loop
 loop-again c =
     let b = c .before .before in
     let d = b .before in
     let e = d .before .before in
-    let f = e .before .before in
-    let g = f .before in
-    let inv = g .before .loop .inv in (
-      executable-next _ _ _ _ (inv .0) (g .loop-test .taken),
+    let f = e .before in
+    let inv = f .before .loop .inv in (
+      executable-next _ _ _ _ (inv .0) (f .loop-test .taken),
       omega arith,
-      execute-more _ _ _ _ _ _ _ (g .loop-test .taken) _ (f .read .ensures) _ (e .rules-of .ensures) _ (d .is-inapplicable .ensures) _ (b .if1 .left) (c .advance .ensures)
+      execute-more _ _ _ _ _ _ _ (f .loop-test .taken) _ (e .read .ensures) _ (sym (d .is-inapplicable .ensures) ∙ b .if1 .left) (c .advance .ensures)
           ∙ inv .2,
     )
 
@@ -59,5 +62,5 @@ returns-2 c = executes _ _ _ _ _ _ (sym (execute-none _ _ _ _ _ _ _ (omega arith
 pub execute-spec : {M : Type 1} → statement M
 execute-spec =
     tie.close
-    (tie.spec Inv-loop μ-loop loop-holds (λ c κs. search needs) rules-of-requires (λ c κs. search needs) returns (λ c κs. search needs)
-    (λ c. search needs) (λ c. search needs) (λ c. search needs) (λ c. search needs) loop-again returns-2)
+    (tie.spec Inv-loop μ-loop loop-holds (λ c κs. search needs) is-inapplicable-requires returns advance-requires (λ c. search needs)
+    (λ c. search needs) (λ c. search needs) (λ c. search needs) loop-again returns-2)

@@ -1,12 +1,17 @@
 -- `learner::learn` meets its contract: rows 1 to 12 by what was observed, row 13, then the sheet from what is observed.
 use Prim.Native.Nat.{_*_}
-use mathlib.Core.Path.{sym, ap, _∙_}
+use mathlib.Core.Path.{refl, sym, ap, _∙_}
 use Rattle.answer.specs.Turns.{is-good}
+use Rattle.mask.specs.Sets.{empty}
 use Rattle.wellformed.proofs.Headers.{moves-few}
 use Rattle.learner.proofs.Book.{moves-own, learn-refused, learn-size, learn-done, sheet-by, form-good}
 use borrow.Author.Needs.{needs}
 use Rattle.learner.proofs.learn.Statement.{statement}
 use Rattle.learner.proofs.learn.Tie as tie
+
+observe-book-requires : tie.Need-observe-book-requires
+unfolding empty
+observe-book-requires c κs = (c .before .read .ensures, refl)
 
 returns : tie.Need-returns
 returns c = learn-refused _ _ _ _ (c .before .before .before .observe-book .ensures .says) (c .before .is-refused .ensures) (c .if1 .taken)
@@ -43,5 +48,5 @@ returns-3 c =
 pub learn-spec : {M : Type 1} → statement M
 learn-spec =
     tie.close
-    (tie.spec (λ c κs. search needs) (λ c. search needs) (λ c κs. search needs) (λ c κs. search needs) returns (λ c. search needs) (λ c. search needs)
+    (tie.spec (λ c κs. search needs) (λ c. search needs) observe-book-requires (λ c κs. search needs) returns (λ c. search needs) (λ c. search needs)
     returns-2 (λ c. search needs) write-sheet-requires (λ c. search needs) returns-3)

@@ -1,6 +1,7 @@
 -- `observe_book` meets its contract: each return by the rows before it.
 use mathlib.Core.Path.{_∙_}
 use Rattle.wellformed.proofs.Headers.{moves-few}
+use Rattle.notes.proofs.Start.{nothing-sized}
 use Rattle.learner.proofs.Book.{moves-own, at-form, formed, at-unbound, at-conflict, at-end}
 use borrow.Author.Needs.{needs}
 use Rattle.learner.proofs.observe_book.Statement.{statement}
@@ -20,7 +21,7 @@ conflict-among-requires c κs =
     let x = c .before .before .before .before in
     let f = x .before .before .before .before in
     let p = f .before .before .before .before .pre in
-    (f .observe-form .kept .1 .1 .0 ∙ p .1, rw (moves-own _ _ (p .0)) (moves-few _ _ (formed _ _ _ (f .observe-form .ensures) _ (x .before .is-refused .ensures) (x .if1 .left))))
+    (f .observe-form .kept .1 .1 .0 ∙ nothing-sized _ (p .1), rw (moves-own _ _ (p .0)) (moves-few _ _ (formed _ _ _ (f .observe-form .ensures) _ (x .before .is-refused .ensures) (x .if1 .left))))
 
 returns-3 : tie.Need-returns-3
 returns-3 c =

@@ -3,6 +3,7 @@ use mathlib.Core.Path.{sym, _∙_}
 use native.Mathlib.Omega.{arith}
 use Rattle.answer.specs.Turns.{is-good}
 use Rattle.format.proofs.Header.{sections-good}
+use Rattle.notes.proofs.Start.{nothing-sized}
 use Rattle.learner.proofs.Book.{at-sections, scanned-own, at-records}
 use borrow.Author.Needs.{needs}
 use Rattle.learner.proofs.observe_form.Statement.{statement}
@@ -11,13 +12,19 @@ use Rattle.learner.proofs.observe_form.Tie as tie
 returns : tie.Need-returns
 returns c = at-sections _ _ (c .before .before .before .before .before .pre .0) _ _ _ (c .before .before .sections .ensures) (c .before .is-refused .ensures) (c .if1 .taken)
 
+nothing-seen-requires : tie.Need-nothing-seen-requires
+nothing-seen-requires c κs =
+    let x = c .before in
+    let e = sym (x .before .before .sections .ensures) ∙ is-good _ (sym (x .before .is-refused .ensures) ∙ x .if1 .left) in
+    (x .before .before .before .before .before .pre .1, sections-good _ _ _ e .counts .moves)
+
 records-requires : tie.Need-records-requires
 records-requires c κs =
     let x = c .before .before .before .before .before .before .before in
     let p = c .before .before .before .before .before .before .before .before .before .before .before .before .pre in
     let e = sym (x .before .before .sections .ensures) ∙ is-good _ (sym (x .before .is-refused .ensures) ∙ x .if1 .left) in
     let g = sections-good _ _ _ e in
-    (g .size .most, omega (arith, g .offsets .within, g .size .most), g .counts .records, λ _. (rw (← p .0) (g .counts .moves), c .before .before .before .before .before .nothing-seen .kept .0 ∙ p .1))
+    (g .size .most, omega (arith, g .offsets .within, g .size .most), g .counts .records, λ _. (rw (← p .0) (g .counts .moves), c .before .before .before .before .before .nothing-seen .kept .1 .1 .0 ∙ nothing-sized _ (p .1)))
 
 returns-2 : tie.Need-returns-2
 returns-2 c =
@@ -29,5 +36,5 @@ returns-2 c =
 pub observe-form-spec : {M : Type 1} → statement M
 observe-form-spec =
     tie.close
-    (tie.spec (λ c κs. search needs) (λ c κs. search needs) returns (λ c κs. search needs) (λ c. search needs) (λ c. search needs) records-requires
+    (tie.spec (λ c κs. search needs) (λ c κs. search needs) returns nothing-seen-requires (λ c. search needs) (λ c. search needs) records-requires
     (λ c. search needs) returns-2)

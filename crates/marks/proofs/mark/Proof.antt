@@ -1,19 +1,19 @@
 -- `marks::mark` meets its contract: the mask stays, or has the bit of the bound fact.
 use mathlib.Core.Path.{_∙_}
 use native.Mathlib.Omega.{arith}
-use Rattle.marks.proofs.Atoms.{mark-unbound, mark-bound}
+use Rattle.marks.proofs.Atoms.{as-unbound, as-bound}
 use borrow.Author.Needs.{needs}
 use Rattle.marks.proofs.mark.Statement.{statement}
 use Rattle.marks.proofs.mark.Tie as tie
 
 returns : tie.Need-returns
-returns c = mark-unbound _ _ _ (c .before .before .pre) _ (c .if1 .taken)
+returns c = as-unbound _ _ _ (c .if1 .taken)
 
 returns-2 : tie.Need-returns-2
 returns-2 c =
     let n = c .before .before in
     let i = n .before .before .before in
-    n .set-bit .ensures ∙ mark-bound _ _ _ (i .before .before .pre) _ _ (i .if1 .left) (omega arith)
+    n .set-bit .ensures ∙ as-bound _ _ _ _ (i .if1 .left) (omega arith)
 
 pub mark-spec : {M : Type 1} → statement M
 mark-spec =

@@ -1,21 +1,26 @@
--- `marks::place` meets its contract, from the table.
+-- `marks::pair` meets its contract: the places are not both the binding's, or the move's set decides.
 use native.Mathlib.Omega.{arith}
-use Prim.Native.Nat.{_<_}
-use Rattle.marks.proofs.Atoms.{pair-by}
 use borrow.Author.Needs.{needs}
+use Rattle.marks.proofs.Atoms.{pair-none, pair-some}
 use Rattle.marks.proofs.pair.Statement.{statement}
 use Rattle.marks.proofs.pair.Tie as tie
 
 returns : tie.Need-returns
-returns c =
-    let d = c .before .before .before in
-    let a = d .before .before .before .before in
-    let h : a .args .f .first .0 < 256 = omega arith in
-    let k : a .args .f .second .0 < 256 = omega arith in
-    pair-by _ _ _ _ _ (a .pre) (d .wide .ensures .0) (c .wide2 .ensures .0) h k
+returns c = pair-none _ _ _ _ (c .before .places .ensures) (c .if1 .taken)
+
+returns-2 : tie.Need-returns-2
+returns-2 c =
+    let t = c .before in
+    let i = t .before .before in
+    rw (c .if2 .taken) at (pair-some _ _ _ _ (i .before .places .ensures) (i .if1 .left) _ (omega arith) _ (t .test-bit .ensures))
+
+returns-3 : tie.Need-returns-3
+returns-3 c =
+    let t = c .before in
+    let i = t .before .before in
+    rw (c .if2 .left) at (pair-some _ _ _ _ (i .before .places .ensures) (i .if1 .left) _ (omega arith) _ (t .test-bit .ensures))
 
 pub pair-spec : {M : Type 1} → statement M
 pair-spec =
     tie.close
-    (tie.spec (λ c. search needs) (λ c. search needs) (λ c κs. search needs) (λ c. search needs) (λ c. search needs) (λ c. search needs)
-    (λ c κs. search needs) (λ c. search needs) returns)
+    (tie.spec (λ c κs. search needs) returns (λ c κs. search needs) (λ c. search needs) (λ c. search needs) (λ c κs. search needs) returns-2 returns-3)

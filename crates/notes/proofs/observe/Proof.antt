@@ -4,28 +4,43 @@ use native.Mathlib.Omega.{arith}
 use borrow.Author.Needs.{needs}
 use Rattle.terms.specs.declared.Step.{Step}
 use Rattle.format.specs.Decode.{stateEnd}
-use Rattle.notes.proofs.Steps.{observed-by}
+use Rattle.notes.proofs.Steps.{bound-part, observed-by}
 use Rattle.notes.proofs.observe.Statement.{statement}
 use Rattle.notes.proofs.observe.Tie as tie
 
+set-at-requires : tie.Need-set-at-requires
+set-at-requires c κs =
+    let e = ap (λ (step : Step). step .action .0) (c .read .ensures) in
+    (omega arith, omega arith, omega arith)
+
+mark-step-requires : tie.Need-mark-step-requires
+unfolding stateEnd
+mark-step-requires c κs =
+    let p = c .before .before .before .before .before .before .before .before .before .before .before .before .pre in
+    ((omega arith, omega arith, p .1 .1 .0, p .1 .1 .1), (p .0 .3, c .before .before .before .before .before .before .empty32 .ensures, c .before .before .before .before .before .empty322 .ensures))
+
 note-requires : tie.Need-note-requires
 note-requires c κs =
-    let r = c .before .before .before .before .before .before .before .before in
-    let p = r .before .before .before .pre in
+    let r = c .before .before .before .before .before .before .before .before .before .before .before .before .before .before in
+    let p = r .before .before .before .before .pre in
     let e = ap (λ (step : Step). step .action .0) (r .read .ensures) in
     (omega arith, omega arith, p .0 .2)
 
 returns : tie.Need-returns
 returns c =
     let n = c .before .before .before in
-    let m = n .before .before .before .before in
-    let r = m .before .before .before .before .before in
-    observed-by _ _ _ _ _ _ _ _ _ _ _ (r .read .ensures) (m .mark-step .ensures) (n .note .ensures) (c .first-named .ensures)
+    let m = n .before .before .before .before .before .before in
+    let b = m .before .before .before .before .before .before .before .before in
+    let r = b .before in (
+      m .mark-step .ensures .0,
+      observed-by _ _ _ _ _ _ _ _ _ _ _ _ (r .read .ensures) (bound-part _ _ _ (b .set-at .ensures .0)) (m .mark-step .ensures .1) (n .note .ensures) (c .first-named .ensures),
+    )
 
 pub observe-spec : {M : Type 1} → statement M
 unfolding stateEnd
 observe-spec =
     tie.close
     (tie.spec
-    (λ c κs. search needs) (λ c. search needs) (λ c κs. search needs) (λ c κs. search needs) (λ c. search needs) (λ c. search needs)
-    (λ c κs. search needs) note-requires (λ c κs. search needs) (λ c. search needs) returns)
+    (λ c κs. search needs) (λ c. search needs) set-at-requires (λ c. search needs) (λ c κs. search needs) (λ c κs. search needs) (λ c. search needs)
+    (λ c. search needs) (λ c. search needs) (λ c. search needs) (λ c. search needs) mark-step-requires note-requires (λ c κs. search needs)
+    (λ c. search needs) (λ c. search needs) returns)

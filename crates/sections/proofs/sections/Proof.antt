@@ -4,8 +4,10 @@ use mathlib.Core.Bool.{false}
 use lib.ListN.{length}
 use denote.Ref.{now}
 use Rattle.format.specs.Header.{lengthBad, countsBad, offsetsBad}
+use native.Mathlib.Omega.{arith}
 use borrow.Author.Needs.{needs}
-use Rattle.sections.proofs.Tests.{row-one, row-two, row-three, row-four, row-five}
+use Rattle.format.proofs.Header.{offsets-good}
+use Rattle.sections.proofs.Tests.{row-one, row-two, row-three, row-twenty-one, row-four, row-five}
 use Rattle.sections.proofs.sections.Statement.{statement}
 use Rattle.sections.proofs.sections.Tie as tie
 
@@ -37,21 +39,38 @@ unmet e =
       sym (e .before .offsets-bad .ensures) ∙ e .if3 .left,
     )
 
+sub-parents : tie.Need-sub-parents
+sub-parents c =
+    let o = offsets-good _ _ (unmet (c .before) .2) in
+    omega (arith, o .behind)
+
 returns-4 : tie.Need-returns-4
 returns-4 c =
     let f = c .before .before in
-    let u = unmet (f .before) in
-    row-four _ _ (u .0) (u .1) (u .2) _ (f .relations .ensures) (sym (c .before .is-refused .ensures) ∙ c .if4 .taken)
+    let u = unmet (f .before .before) in
+    row-twenty-one _ _ (u .0) (u .1) (u .2) _ (f .parents .ensures) (sym (c .before .is-refused .ensures) ∙ c .if4 .taken)
 
 returns-5 : tie.Need-returns-5
 returns-5 c =
-    let g = c .before in
-    let f = g .before .before in
-    let u = unmet (f .before) in
-    row-five _ _ (u .0) (u .1) (u .2) _ (f .relations .ensures) (sym (g .before .is-refused .ensures) ∙ g .if4 .left) _ (c .moves .ensures)
+    let g = c .before .before in
+    let e = g .before in
+    let f = e .before .before in
+    let u = unmet (f .before .before) in
+    row-four _ _ (u .0) (u .1) (u .2) _ (f .parents .ensures) (sym (e .before .is-refused .ensures) ∙ e .if4 .left) _ (g .relations .ensures)
+    (sym (c .before .is-refused2 .ensures) ∙ c .if5 .taken)
+
+returns-6 : tie.Need-returns-6
+returns-6 c =
+    let d = c .before in
+    let g = d .before .before in
+    let e = g .before in
+    let f = e .before .before in
+    let u = unmet (f .before .before) in
+    row-five _ _ (u .0) (u .1) (u .2) _ (f .parents .ensures) (sym (e .before .is-refused .ensures) ∙ e .if4 .left) _ (g .relations .ensures)
+    (sym (d .before .is-refused2 .ensures) ∙ d .if5 .left) _ (c .moves .ensures)
 
 pub sections-spec : {M : Type 1} → statement M
 sections-spec =
     tie.close
-    (tie.spec (λ c κs. search needs) returns (λ c κs. search needs) returns-2 (λ c κs. search needs) returns-3 (λ c κs. search needs)
-    (λ c κs. search needs) returns-4 (λ c κs. search needs) returns-5)
+    (tie.spec (λ c κs. search needs) returns (λ c κs. search needs) returns-2 (λ c κs. search needs) returns-3 (λ c. search needs) sub-parents
+    (λ c κs. search needs) (λ c κs. search needs) returns-4 (λ c κs. search needs) (λ c κs. search needs) returns-5 (λ c κs. search needs) returns-6)
