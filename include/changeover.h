@@ -8,12 +8,13 @@
  * (archive or shared library); of other libraries it needs memcpy and memset
  * and nothing else.
  *
- * Stack. A thread with a stack of 72 KiB can make every call, one of 24 KiB
- * every call but changeover_add. Besides what a call uses, these figures have
- * room for what the C library takes of the same stack: for the thread itself
- * (some 4.5 KiB), and for the dynamic linker, which with lazy binding looks a
- * function up when it is first called (some 3 KiB). Not in them are the
- * program's thread-local variables, its own functions and signal handlers.
+ * Stack. A thread with a stack of 80 KiB can make every call, one of 32 KiB
+ * every call but changeover_add. In these figures is what a call uses (at most
+ * some 18 KiB, changeover_add some 63 KiB), and what the C library takes of the
+ * same stack: for the thread itself (some 4.5 KiB), and for the dynamic linker,
+ * which with lazy binding looks a function up when it is first called, however
+ * deep in the call that is (some 3 KiB). The rest is to spare. Not in them are
+ * the program's thread-local variables, its own functions and signal handlers.
  *
  * Lent memory. Each pointer is lent for the time of the call with its length
  * in bytes; nothing outside is read or written. Inputs are only read; two
@@ -156,7 +157,7 @@ enum changeover_lengths {
 };
 
 /* Bytes of stack for a thread that makes any call but adding, and for one that adds. */
-enum changeover_stack { CHANGEOVER_STACK = 24 * 1024, CHANGEOVER_STACK_ADD = 72 * 1024 };
+enum changeover_stack { CHANGEOVER_STACK = 32 * 1024, CHANGEOVER_STACK_ADD = 80 * 1024 };
 
 /* The four sets of a move's 128 bytes in a rule sheet, in their order. */
 enum changeover_set {
