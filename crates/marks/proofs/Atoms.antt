@@ -17,7 +17,7 @@ use Rattle.terms.specs.declared.Fact.{Fact}
 use Rattle.terms.specs.Steps.{objectOf}
 use Rattle.observed.specs.Inverse.{gives, paramOf, placeBound, factBound, atomOf, mark}
 use Rattle.observed.proofs.Params.{param-most}
-use Rattle.marks.specs.Marks.{digit, placesOf, pairOf, markedAs, noDigits, Inverts}
+use Rattle.marks.specs.Marks.{digit, placesOf, pairOf, markedAs, noDigits, givenEach, Inverts}
 
 -- ---- the table
 
@@ -73,61 +73,58 @@ module _ (b : Binding) (x : Object) where
       go false false false false true = refl
       go false false false false false = refl
 
--- the objects of the four parameters put into an empty table, the last first, and then the object 0
-pub inverts-by : (b : Binding) (o₁ o₂ o₃ o₄ : Object) (t₀ t₁ t₂ t₃ t₄ t : List ℕ)
+-- what the code puts in one by one
+pub given-by : (b : Binding) (d₀ d₁ d₂ d₃ d₄ : ℕ) (o₁ o₂ o₃ o₄ : Object) (t₀ t₁ t₂ t₃ t₄ t : List ℕ)
     → o₁ ≡ objectOf b (record { 0 = 1 })
     → o₂ ≡ objectOf b (record { 0 = 2 })
     → o₃ ≡ objectOf b (record { 0 = 3 })
     → o₄ ≡ objectOf b (record { 0 = 4 })
-    → t₀ ≡ noDigits
-    → t₁ ≡ set t₀ (o₄ .0) 3
-    → t₂ ≡ set t₁ (o₃ .0) 2
-    → t₃ ≡ set t₂ (o₂ .0) 1
-    → t₄ ≡ set t₃ (o₁ .0) 0
-    → t ≡ set t₄ 0 0
-    → Inverts b t
-unfolding gives
-inverts-by b o₁ o₂ o₃ o₄ t₀ t₁ t₂ t₃ t₄ t i₁ i₂ i₃ i₄ e₀ e₁ e₂ e₃ e₄ e =
-    let w₁ = table-put table-none t₁ (o₄ .0) 3 (rw e₀ at e₁) in
-    let w₄ = table-put (table-put (table-put w₁ t₂ (o₃ .0) 2 e₂) t₃ (o₂ .0) 1 e₃) t₄ (o₁ .0) 0 e₄ in
-    let w = table-put w₄ t 0 0 e in
-    record {
-      long = w .long;
-      gives = λ x h. w .has x h ∙ rw (i₁, i₂, i₃, i₄, eqb-flip 0 x) (sym (digit-is b (record { 0 = x })));
-    }
+    → t₁ ≡ set t₀ (o₄ .0) d₄
+    → t₂ ≡ set t₁ (o₃ .0) d₃
+    → t₃ ≡ set t₂ (o₂ .0) d₂
+    → t₄ ≡ set t₃ (o₁ .0) d₁
+    → t ≡ set t₄ 0 d₀
+    → t ≡ givenEach b d₀ d₁ d₂ d₃ d₄ t₀
+unfolding givenEach
+given-by b d₀ d₁ d₂ d₃ d₄ o₁ o₂ o₃ o₄ t₀ t₁ t₂ t₃ t₄ t i₁ i₂ i₃ i₄ e₁ e₂ e₃ e₄ e = rw (e, e₄, e₃, e₂, e₁, i₁, i₂, i₃, i₄)
 
--- and taken out again
-pub restores-by : (b : Binding) (o₁ o₂ o₃ o₄ : Object) (t₀ t₁ t₂ t₃ t₄ t : List ℕ)
-    → o₁ ≡ objectOf b (record { 0 = 1 })
-    → o₂ ≡ objectOf b (record { 0 = 2 })
-    → o₃ ≡ objectOf b (record { 0 = 3 })
-    → o₄ ≡ objectOf b (record { 0 = 4 })
-    → Inverts b t₀
-    → t₁ ≡ set t₀ (o₄ .0) 16
-    → t₂ ≡ set t₁ (o₃ .0) 16
-    → t₃ ≡ set t₂ (o₂ .0) 16
-    → t₄ ≡ set t₃ (o₁ .0) 16
-    → t ≡ set t₄ 0 16
-    → t ≡ noDigits
-unfolding gives
-restores-by b o₁ o₂ o₃ o₄ t₀ t₁ t₂ t₃ t₄ t i₁ i₂ i₃ i₄ e₀ e₁ e₂ e₃ e₄ e =
-    let w₀ : Table t₀ (λ x. digit b (record { 0 = x })) = record { long = e₀ .long; has = e₀ .gives } in
-    let w₃ = table-put (table-put (table-put w₀ t₁ (o₄ .0) 16 e₁) t₂ (o₃ .0) 16 e₂) t₃ (o₂ .0) 16 e₃ in
-    let w = table-put (table-put w₃ t₄ (o₁ .0) 16 e₄) t 0 16 e in
-    ext-getD 0 t noDigits (w .long ∙ sym (table-none .long))
-    (λ x h.
-    let l : x < 256 = omega (arith, w .long) in
-    w .has x l ∙ rw (i₁, i₂, i₃, i₄, eqb-flip 0 x, digit-is b (record { 0 = x })) (none (eqb x 0) (gives b 1 (record { 0 = x })) (gives b 2 (record { 0 = x })) (gives b 3 (record { 0 = x })) (gives b 4 (record { 0 = x })))
-    ∙ sym (table-none .has x l))
-  where
-    none : (z g₁ g₂ g₃ g₄ : Bool)
-        → _≡_ {A = ℕ} (cond z 16 (cond g₁ 16 (cond g₂ 16 (cond g₃ 16 (cond g₄ 16 (cond z 0 (cond g₁ 0 (cond g₂ 1 (cond g₃ 2 (cond g₄ 3 16)))))))))) 16
-    none true g₁ g₂ g₃ g₄ = refl
-    none false true g₂ g₃ g₄ = refl
-    none false false true g₃ g₄ = refl
-    none false false false true g₄ = refl
-    none false false false false true = refl
-    none false false false false false = refl
+module _ (b : Binding) where
+  -- which digit an object then has
+  given-table : {f : ℕ → ℕ} (d₀ d₁ d₂ d₃ d₄ : ℕ) (t : List ℕ) → Table t f
+      → Table (givenEach b d₀ d₁ d₂ d₃ d₄ t)
+      (λ x. cond (eqb 0 x) d₀ (cond (gives b 1 (record { 0 = x })) d₁ (cond (gives b 2 (record { 0 = x })) d₂ (cond (gives b 3 (record { 0 = x })) d₃ (cond (gives b 4 (record { 0 = x })) d₄ (f x))))))
+  unfolding givenEach gives
+  given-table d₀ d₁ d₂ d₃ d₄ t w =
+      table-put (table-put (table-put (table-put (table-put w _ _ d₄ refl) _ _ d₃ refl) _ _ d₂ refl) _ _ d₁ refl) _ 0 d₀ refl
+
+  -- the digits of the parameters put into an empty table
+  inverts-given : Inverts b (givenEach b 0 0 1 2 3 noDigits)
+  inverts-given =
+      let w = given-table 0 0 1 2 3 noDigits table-none in
+      record { long = w .long; gives = λ x h. w .has x h ∙ rw (eqb-flip 0 x) (sym (digit-is b (record { 0 = x }))) }
+
+  pub inverts-by : (t₀ t : List ℕ) → t₀ ≡ noDigits → t ≡ givenEach b 0 0 1 2 3 t₀ → Inverts b t
+  inverts-by t₀ t e f = rw (f, e) inverts-given
+
+  -- and taken out again
+  pub restores-given : (t : List ℕ) → Inverts b t → givenEach b 16 16 16 16 16 t ≡ noDigits
+  restores-given t inverts =
+      let w₀ : Table t (λ x. digit b (record { 0 = x })) = record { long = inverts .long; has = inverts .gives } in
+      let w = given-table 16 16 16 16 16 t w₀ in
+      ext-getD 0 (givenEach b 16 16 16 16 16 t) noDigits (w .long ∙ sym (table-none .long))
+      (λ x h.
+      let l : x < 256 = omega (arith, w .long) in
+      w .has x l ∙ rw (eqb-flip 0 x, digit-is b (record { 0 = x })) (none (eqb x 0) (gives b 1 (record { 0 = x })) (gives b 2 (record { 0 = x })) (gives b 3 (record { 0 = x })) (gives b 4 (record { 0 = x })))
+      ∙ sym (table-none .has x l))
+    where
+      none : (z g₁ g₂ g₃ g₄ : Bool)
+          → _≡_ {A = ℕ} (cond z 16 (cond g₁ 16 (cond g₂ 16 (cond g₃ 16 (cond g₄ 16 (cond z 0 (cond g₁ 0 (cond g₂ 1 (cond g₃ 2 (cond g₄ 3 16)))))))))) 16
+      none true g₁ g₂ g₃ g₄ = refl
+      none false true g₂ g₃ g₄ = refl
+      none false false true g₃ g₄ = refl
+      none false false false true g₄ = refl
+      none false false false false true = refl
+      none false false false false false = refl
 
 -- ---- a fact
 pub places-by : (b : Binding) (f : Fact) (t : List ℕ) (m n : ℕ)

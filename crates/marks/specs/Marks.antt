@@ -5,11 +5,12 @@ use mathlib.Core.Path.{_≡_}
 use mathlib.Core.Bool.{Bool, cond, _||_}
 use mathlib.Core.List.{List, _∷_}
 use lib.Dec.{leb}
-use lib.ListN.{length, getD, replicate}
+use lib.ListN.{length, getD, set, replicate}
 use Rattle.mask.specs.Bits.{setBit}
 use Rattle.terms.specs.declared.Object.{Object}
 use Rattle.terms.specs.declared.Binding.{Binding}
 use Rattle.terms.specs.declared.Fact.{Fact}
+use Rattle.terms.specs.Steps.{objectOf}
 use Rattle.limits.specs.Limits.{factSize, atomsPerRelation, farCeiling}
 use Rattle.format.specs.Decode.{factsAt}
 use Rattle.observed.specs.Inverse.{paramOf, placeBound, factBound, marks, atomsIn, unboundChanged}
@@ -37,6 +38,14 @@ markedAs m f pair = cond (leb atomsPerRelation pair) m (setBit m (atomsPerRelati
 
 unfoldable pub noDigits : List ℕ
 noDigits = replicate 256 atomsPerRelation
+
+-- a table with a digit put in for the object of each parameter, the last first, and then for the object 0
+unfoldable pub givenEach : Binding → ℕ → ℕ → ℕ → ℕ → ℕ → List ℕ → List ℕ
+givenEach b d₀ d₁ d₂ d₃ d₄ t =
+    let fourth = set t (objectOf b (record { 0 = 4 }) .0) d₄ in
+    let third = set fourth (objectOf b (record { 0 = 3 }) .0) d₃ in
+    let second = set third (objectOf b (record { 0 = 2 }) .0) d₂ in
+    set (set second (objectOf b (record { 0 = 1 }) .0) d₁) 0 d₀
 
 -- a table of the digits, by the number of the object
 pub record Inverts (b : Binding) (t : List ℕ) : Type 0 where

@@ -8,7 +8,7 @@ ghost use Rattle.limits.specs.Limits.{setSize, nearCeiling, farCeiling};
 ghost use Rattle.mask.specs.Sets.{empty};
 ghost use Rattle.format.specs.Decode.{stateAt, stateEnd};
 ghost use Rattle.observed.specs.Inverse.{marks, sameFact, unboundChanged};
-ghost use Rattle.marks.specs.Marks.{noDigits, Inverts, placesOf, pairOf, markedAs, rest, next, Ahead, Comes, Turned, StepMarked};
+ghost use Rattle.marks.specs.Marks.{noDigits, givenEach, Inverts, placesOf, pairOf, markedAs, rest, next, Ahead, Comes, Turned, StepMarked};
 use terms::Binding;
 use terms::Fact;
 use terms::Object;
@@ -37,17 +37,23 @@ fn give(t: &mut [u8], x: Object, digit: u8)
     t[i] = digit;
 }
 
-// What each object adds to a bound fact's number in the second place, by the object's number. A parameter of a lower number is put in
-// later, and so counts; an unused place, object 0, adds nothing.
+// A digit for the object 0 and one for the object of each parameter. A parameter of a lower number is put in later, and so counts.
+fn give_each(t: &mut [u8], b: Binding, d0: u8, d1: u8, d2: u8, d3: u8, d4: u8)
+    ensures { λ _. ⌜ now (t .exit) ≡ givenEach b d0 d1 d2 d3 d4 (now (t .entry)) ⌝ }
+{
+    give(t, b.object(Param(4)), d4);
+    give(t, b.object(Param(3)), d3);
+    give(t, b.object(Param(2)), d2);
+    give(t, b.object(Param(1)), d1);
+    give(t, Object(0), d0);
+}
+
+// What each object adds to a bound fact's number in the second place, by the object's number; an unused place, object 0, adds nothing.
 fn invert(t: &mut [u8], b: Binding)
     requires { ⌜ now t ≡ noDigits ⌝ }
     ensures { λ _. ⌜ Inverts b (now (t .exit)) ⌝ }
 {
-    give(t, b.object(Param(4)), 3);
-    give(t, b.object(Param(3)), 2);
-    give(t, b.object(Param(2)), 1);
-    give(t, b.object(Param(1)), 0);
-    give(t, Object(0), 0);
+    give_each(t, b, 0, 0, 1, 2, 3);
 }
 
 // What a table has for an object of no parameter.
@@ -58,11 +64,7 @@ fn restore(t: &mut [u8], b: Binding)
     requires { ⌜ Inverts b (now t) ⌝ }
     ensures { λ _. ⌜ now (t .exit) ≡ noDigits ⌝ }
 {
-    give(t, b.object(Param(4)), NO_DIGIT);
-    give(t, b.object(Param(3)), NO_DIGIT);
-    give(t, b.object(Param(2)), NO_DIGIT);
-    give(t, b.object(Param(1)), NO_DIGIT);
-    give(t, Object(0), NO_DIGIT);
+    give_each(t, b, NO_DIGIT, NO_DIGIT, NO_DIGIT, NO_DIGIT, NO_DIGIT);
 }
 
 fn wide(n: u8) -> usize
