@@ -1,6 +1,6 @@
--- Laws for the proofs of src/, by subject: words of bits (Words), of a set (Sets), and of what holds (Rows); Needs and Effects.
-pub mod Words
+-- Laws for the proofs of src/, by subject: words of a set of what is observed (Sets), rows and columns of a step's objects (Objects), the needs of
+-- the relations so far (Needs) and the state after them (Next).
 pub mod Sets
-pub mod Rows
+pub mod Objects
 pub mod Needs
-pub mod Effects
+pub mod Next

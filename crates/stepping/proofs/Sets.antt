@@ -9,7 +9,7 @@ use Rattle.mask.specs.Sets.{number}
 use Rattle.atoms.proofs.Words.{number-same}
 use Rattle.observed.specs.Observed.{setAt, observedSet}
 use Rattle.observed.proofs.Parts.{part-byte}
-use Rattle.stepping.specs.Stepping.{StartsRelation}
+use Rattle.rows.specs.Rows.{StartsRelation}
 
 pub starts : (n : ℕ) → n % 16 ≡ 0 → n < 256 → StartsRelation n
 starts n e h = record { whole = e; within = omega arith }

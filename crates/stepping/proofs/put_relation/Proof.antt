@@ -1,42 +1,51 @@
--- `stepping::put_relation` meets its contract: the value is put at the facts of the bits passed.
+-- `stepping::put_relation` meets its contract: no effect of the relation's bound facts, or the removed ones and then the added ones in its rows.
 use borrow.Author.Needs.{needs}
-use native.Mathlib.Omega.{arith}
-use mathlib.Core.Logic.{⊎-elim}
-use mathlib.Core.Path.{_∙_}
-use Rattle.terms.specs.Schema.{schema}
-use Rattle.terms.specs.Steps.{ground}
-use Rattle.stepping.proofs.Effects.{Putting, putting-first, putting-inside, putting-some, putting-skip, putting-last}
+use mathlib.Core.Path.{refl, _∙_}
+use Rattle.stepping.proofs.Objects.{rows-inside, placing}
+use Rattle.stepping.proofs.Next.{next-more, next-none}
 use Rattle.stepping.proofs.put_relation.Statement.{statement}
 use Rattle.stepping.proofs.put_relation.Tie as tie
 
-abbrev Inv-loop : tie.InvT-loop
-Inv-loop book h b from bits value state₀ left₀ n₀ state left n = Putting value (ground (schema h book) b) from bits state₀ state left n
+returns : tie.Need-returns
+returns c m e =
+    let w2 = c .before in
+    let w1 = w2 .before in
+    let q = w1 .before .before .before .before .pre in
+    next-none _ _ _ m _ (q .2) (q .1 .bounded) _ (λ j h. refl) _ _ _ (w1 .set-word .ensures) (w2 .set-word2 .ensures) (c .if1 .taken) e
 
-abbrev μ-loop : tie.MeasureT-loop
-μ-loop book h b from bits value state₀ left₀ n₀ state left n = left
+put-rows-requires : tie.Need-put-rows-requires
+put-rows-requires c κs =
+    let x = c .before in
+    let t = x .before in
+    let q = t .before .before .before .before .before .before .before .before .before .pre in
+    (q .0, t .table-at .ensures .1, rows-inside _ _ _ _ (q .1 .bounded) (q .3) (x .rows-of .ensures), q .2)
 
-loop-holds : tie.Need-loop-holds Inv-loop μ-loop
-loop-holds c = putting-first _ _ _ _ _ (omega arith)
+put-rows-requires-2 : tie.Need-put-rows-requires-2
+put-rows-requires-2 c κs =
+    let d = c .before .before .before in
+    let x = d .before .before in
+    let t = x .before in
+    let q = t .before .before .before .before .before .before .before .before .before .pre in
+    (d .put-rows .kept .1 .1 .1 .1 .1 .1 .0 ∙ q .0, t .table-at .ensures .1, rows-inside _ _ _ _ (q .1 .bounded) (q .3) (x .rows-of .ensures), q .2)
 
-ground-requires : tie.Need-ground-requires Inv-loop μ-loop
-ground-requires c κs =
-    let d = c .before .before in
-    let inside = putting-inside _ _ _ _ _ _ _ _ (d .before .loop .inv) (d .loop-test .taken) in
-    omega arith
-
-loop-again : tie.Need-loop-again Inv-loop μ-loop
-loop-again c =
-    let d = c .before in
-    let was = d .before .loop .inv in
-    let some = d .loop-test .taken in
-    ⊎-elim
-    (λ w. putting-some _ _ _ _ _ _ _ _ was _ _ some (w .0 .taken) (w .2 .ensures) (w .4 ∙ w .3 .ensures))
-    (λ w. putting-skip _ _ _ _ _ _ _ _ was _ some (w .0 .left) (w .1))
-    (c .if1 .came)
-
-returns : tie.Need-returns Inv-loop μ-loop
-returns c = putting-last _ _ _ _ _ _ _ _ (c .before .loop .inv) (omega arith)
+returns-2 : tie.Need-returns-2
+returns-2 c m e =
+    let a = c .before .before in
+    let d = a .before .before .before .before in
+    let x = d .before .before in
+    let t = x .before in
+    let p = t .before in
+    let r = p .before in
+    let w2 = r .before .before in
+    let w1 = w2 .before in
+    let q = w1 .before .before .before .before .pre in
+    let places = rw (r .atom-relation .ensures) at (p .places .ensures) in
+    let at = placing _ _ _ _ _ _ _ _ (q .1 .bounded) (q .2) (q .3) (q .4) places (t .table-at .ensures .0) (x .rows-of .ensures) in
+    next-more _ _ _ m _ (q .2) (q .1 .bounded) _ (at .is) _ _ _ _ _ (w1 .set-word .ensures) (w2 .set-word2 .ensures) e
+    (d .put-rows .ensures _ (at .small) (at .right)) (a .put-rows2 .ensures _ (at .small) (at .right))
 
 pub put-relation-spec : {M : Type 1} → statement M
 put-relation-spec =
-    tie.close (tie.spec Inv-loop μ-loop loop-holds ground-requires (λ c κs. search needs) (λ c. omega arith) (λ c. omega arith) loop-again returns)
+    tie.close
+    (tie.spec (λ c κs. search needs) (λ c κs. search needs) returns (λ c κs. search needs) (λ c κs. search needs) (λ c κs. search needs)
+    (λ c κs. search needs) put-rows-requires put-rows-requires-2 (λ c. search needs) returns-2)

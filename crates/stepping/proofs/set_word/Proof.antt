@@ -5,7 +5,7 @@ use Rattle.stepping.proofs.set_word.Statement.{statement}
 use Rattle.stepping.proofs.set_word.Tie as tie
 
 returns : tie.Need-returns
-returns c = set-word-by _ _ _ _ _ _ (c .before .before .before .pre .2) (c .before .set-at .ensures .0) (c .word-at .ensures)
+returns c = set-word-by _ _ _ _ _ _ (c .before .before .before .pre .2) (c .before .set-at .ensures .0) (c .word-at .ensures .0)
 
 pub set-word-spec : {M : Type 1} → statement M
 set-word-spec = tie.close (tie.spec (λ c κs. search needs) (λ c. search needs) (λ c κs. search needs) returns)

@@ -3,7 +3,7 @@
 use Prim.Native.Nat.{ℕ, zero, suc, _+_, _-_, _*_, _/_, _%_, _^_, _<_}
 use native.Mathlib.Nat.{pow-suc, pow-succ', mul-assoc, zero-add, suc-add, add-zero, one-mul}
 use native.Mathlib.Omega.{arith}
-use mathlib.Core.Path.{_≡_, refl, sym, ap₂, _∙_}
+use mathlib.Core.Path.{_≡_, refl, sym, ap, ap₂, _∙_}
 use mathlib.Core.Bool.{Bool, true, false, not, _&&_, _||_}
 use mathlib.Core.List.{List}
 use lib.Bits.{bitAnd, bitOr, and-lt, or-lt}
@@ -15,21 +15,12 @@ use Rattle.mask.specs.Bits.{bitOf, testBit}
 use Rattle.mask.specs.Sets.{digit, number}
 use Rattle.mask.proofs.Numbers.{bit-and, bit-or, bit-none, bits-ext, number-lt, bit-number}
 use Rattle.mask.proofs.Whole.{test-at}
+use Rattle.atoms.proofs.Words.{bit-high, number-low, number-same}
 use Rattle.model.specs.Quantify.{below}
 use Rattle.model.proofs.Quantify.{below-in, below-out}
 
 -- ---- digits
-digit-eqb : (d : ℕ) → d < 2 → digit (eqb d 1) ≡ d
-unfolding digit
-digit-eqb zero h = refl
-digit-eqb (suc zero) h = refl
-digit-eqb (suc (suc d)) h = absurd (omega arith)
-
-pub digit-bit : (x k : ℕ) → digit (bitOf x k) ≡ x / 2 ^ k % 2
-unfolding bitOf
-digit-bit x k = digit-eqb (x / 2 ^ k % 2) (omega arith)
-
-pub digit-not : (b : Bool) → digit b + digit (not b) ≡ 1
+digit-not : (b : Bool) → digit b + digit (not b) ≡ 1
 unfolding digit
 digit-not true = refl
 digit-not false = refl
@@ -98,3 +89,35 @@ word-number m i low high =
     let s : 8 * (i + 1) ≡ 8 * i + 8 = omega arith in
     let up = rw s at (byte-number m (i + 1) high) in
     omega (arith, byte-number m i low, up, number-cut (testBit m) (8 * i) 8 8)
+
+-- ---- the bits of a number
+pub number-bits : (k x : ℕ) → x < 2 ^ k → x ≡ number (bitOf x) 0 k
+number-bits k x h =
+    bits-ext k x (number (bitOf x) 0 k) h (number-lt (bitOf x) 0 k) (λ j l. sym (bit-number (bitOf x) 0 k j l ∙ ap (bitOf x) (zero-add j)))
+
+pub bit-from : (p : ℕ → Bool) (k j : ℕ) → j < k → bitOf (number p 0 k) j ≡ p j
+bit-from p k j l = bit-number p 0 k j l ∙ ap p (zero-add j)
+
+-- the low bits, and those from one on
+pub bit-low : (x k j : ℕ) → j < k → bitOf (x % 2 ^ k) j ≡ bitOf x j
+bit-low x k j l = rw (number-low (bitOf x) x 0 k (λ i h. ap (bitOf x) (sym (zero-add i)))) (bit-from (bitOf x) k j l)
+
+pub bit-field : (x s k j : ℕ) → j < k → bitOf (x / 2 ^ s % 2 ^ k) j ≡ bitOf x (s + j)
+bit-field x s k j l = bit-low (x / 2 ^ s) k j l ∙ bit-high x s j
+
+-- k has four bits of a word, from one on
+abbrev pub Part : ℕ → ℕ → ℕ → Type 0
+Part w s k = (q : ℕ) → q < 4 → bitOf k q ≡ bitOf w (s + q)
+
+pub part-low : (w : ℕ) → Part w 0 (w % 16)
+part-low w q h = bit-low w 4 q h ∙ ap (bitOf w) (sym (zero-add q))
+
+pub part-field : (w s : ℕ) → Part w s (w / 2 ^ s % 16)
+part-field w s q h = bit-field w s 4 q h
+
+-- the values of a predicate from a number on, as those of one from 0 on
+pub number-from : (p q : ℕ → Bool) (x at k : ℕ) → x ≡ number p at k → ((j : ℕ) → j < k → p (at + j) ≡ q j) → x ≡ number q 0 k
+number-from p q x at k e same = e ∙ number-same q p 0 at k (λ j l. same j l ∙ ap q (sym (zero-add j)))
+
+pub number-at : (p : ℕ → Bool) (x at from k : ℕ) → at ≡ from → x ≡ number p at k → x ≡ number p from k
+number-at p x at from k e f = f ∙ ap (λ (i : ℕ). number p i k) e

@@ -1,0 +1,88 @@
+-- Rows and columns of a state's facts, and names for what the functions pass on to each other. A state is a mask of 512 bytes.
+use Prim.Native.Nat.{ℕ, _+_, _*_, _/_, _%_, _≤_, _<_}
+use mathlib.Core.Path.{_≡_}
+use mathlib.Core.Bool.{Bool, false, cond, not, _&&_, _||_}
+use mathlib.Core.List.{List, [], _∷_}
+use lib.Dec.{eqb, leb}
+use lib.ListN.{getD}
+use Rattle.limits.specs.Limits.{maxObjects, maxParams, maxAtoms, atomsPerRelation, stateSize}
+use Rattle.mask.specs.Bits.{bitOf, testBit}
+use Rattle.mask.specs.Sets.{number, maskOf}
+use Rattle.model.specs.Quantify.{below}
+
+-- the first bound fact of a relation
+pub record StartsRelation (n : ℕ) : Type 0 where
+  pub whole : n % atomsPerRelation ≡ 0
+  pub within : n + atomsPerRelation ≤ maxAtoms
+
+-- ---- rows and columns
+
+-- numbers of objects from 0: rows or columns of a relation's facts in a state
+abbrev pub Indices : List ℕ → Type 0
+Indices xs = (q : ℕ) → getD xs q 0 < maxObjects
+
+-- where a place is unused
+abbrev pub unused : List ℕ
+unused = 0 ∷ 0 ∷ 0 ∷ 0 ∷ []
+
+-- the rows or columns in a place of a relation with so many places
+unfoldable pub inPlace : ℕ → ℕ → List ℕ → List ℕ
+inPlace places i xs = cond (leb i places) xs unused
+
+-- The fact that bound fact j of a relation is, n being the first of them, by the rows and the columns of the parameters. Row r has facts 16 * r and on.
+unfoldable pub factAt : ℕ → List ℕ → List ℕ → ℕ → ℕ
+factAt n xs ys j = 16 * (n + getD xs (j / 4) 0) + getD ys (j % 4) 0
+
+-- the columns of the parameters in a set of four bits, as bits of a row
+unfoldable pub columnSet : List ℕ → ℕ → ℕ
+columnSet ys k = number (λ y. below maxParams (λ q. bitOf k q && eqb (getD ys q 0) y)) 0 maxObjects
+
+-- a table has them for every such set, from an index on
+abbrev pub Tabled : List ℕ → ℕ → List ℕ → Type 0
+Tabled t at ys = (k : ℕ) → k < 16 → getD t (at + k) 0 ≡ columnSet ys k
+
+-- a table has them for a step's objects and for an unused place
+pub record Tables (t ys : List ℕ) : Type 0 where
+  pub used : Tabled t 0 ys
+  pub none : Tabled t 16 unused
+
+unfoldable pub tableAt : ℕ → ℕ
+tableAt places = cond (leb 2 places) 0 16
+
+-- what holds of all columns that a table has from an index on
+abbrev pub ForColumns : List ℕ → ℕ → (List ℕ → Type 0) → Type 0
+ForColumns t at P = (ys : List ℕ) → Indices ys → Tabled t at ys → P ys
+
+-- ---- needs
+
+-- none of sixteen facts holds
+abbrev pub Clear : List ℕ → (ℕ → ℕ) → Type 0
+Clear m g = (j : ℕ) → j < atomsPerRelation → testBit m (g j) ≡ false
+
+-- a need of a row is unmet: of the columns that are to hold, and of those that are not to
+unfoldable pub rowUnmet : List ℕ → ℕ → ℕ → ℕ → Bool
+rowUnmet m row positive negative =
+    below maxObjects (λ y. bitOf positive y && not (testBit m (16 * row + y)) || bitOf negative y && testBit m (16 * row + y))
+
+-- a need of one of sixteen bound facts is unmet, as words say which are to hold and which are not to
+unfoldable pub wordUnmet : List ℕ → (ℕ → ℕ) → ℕ → ℕ → Bool
+wordUnmet m g positive negative =
+    below atomsPerRelation (λ j. bitOf positive j && not (testBit m (g j)) || bitOf negative j && testBit m (g j))
+
+-- ---- effects
+
+-- a state with the value at the facts of a set, and every other as it was
+unfoldable pub putAt : Bool → (ℕ → Bool) → List ℕ → List ℕ
+putAt value p m = maskOf stateSize (λ f. cond (p f) value (testBit m f))
+
+-- a row's bits with the value at some columns
+unfoldable pub changed : Bool → ℕ → ℕ → ℕ
+changed value row columns = number (λ y. cond (bitOf columns y) value (bitOf row y)) 0 maxObjects
+
+-- the facts of a row in a set of columns
+unfoldable pub inRow : ℕ → ℕ → ℕ → Bool
+inRow row columns f = eqb (f / 16) row && bitOf columns (f % 16)
+
+-- the facts of those of sixteen bound facts that a word has
+unfoldable pub inWord : (ℕ → ℕ) → ℕ → ℕ → Bool
+inWord g bits f = below atomsPerRelation (λ j. bitOf bits j && eqb (g j) f)
