@@ -6,7 +6,7 @@
  *   book    book_begin, book_parents if kinds have any, relations, moves, records,
  *           book_end
  *   record  record_begin, a state, then a step and a state in turn, record_end
- *   order   order_begin, order_start, order_goal, steps, order_end
+ *   order   order_begin, order_start for each start, order_goal, steps, order_end
  * A record is made in a book, or alone for changeover_add.
  *
  * What does not fit is remembered, nothing is written any more, and the length
@@ -36,8 +36,9 @@ struct builder {
     size_t capacity, length;
     int overflow; /* the capacity was reached, or a count was too great for its bytes */
     size_t kinds, parents, relations, moves, records; /* counts of a book */
-    size_t objects, start, goal, steps;      /* of an order; objects and steps also of a record */
+    size_t objects, starts, goal, steps;     /* of an order; objects and steps also of a record */
     size_t record;                           /* where the record begins */
+    size_t starts_end;                       /* where the last start of an order ends */
 };
 
 static inline void builder_begin(struct builder *b, uint8_t *out, size_t capacity)
@@ -81,16 +82,6 @@ static inline void builder_put_sorted(struct builder *b, size_t list, const uint
     memcpy(room, entry, size);
 }
 
-static inline void builder_put_facts(struct builder *b, const struct fact *facts, size_t count)
-{
-    size_t list = b->length;
-
-    for (size_t i = 0; i < count; i++) {
-        const uint8_t entry[3] = {facts[i].relation, facts[i].first, facts[i].second};
-        builder_put_sorted(b, list, entry, sizeof entry);
-    }
-}
-
 /* Sets a number of one byte or two, high byte first, in room that was had before. */
 static inline void builder_set(struct builder *b, size_t at, size_t value, size_t width)
 {
@@ -101,6 +92,19 @@ static inline void builder_set(struct builder *b, size_t at, size_t value, size_
     if (width == 2)
         b->out[at++] = (uint8_t)(value >> 8);
     b->out[at] = (uint8_t)(value & 0xff);
+}
+
+/* A state of a record, or a start of an order: how many facts, and the facts. */
+static inline void builder_put_state(struct builder *b, const struct fact *facts, size_t count)
+{
+    size_t at = b->length, list = at + 2;
+
+    builder_room(b, 2);
+    builder_set(b, at, count, 2);
+    for (size_t i = 0; i < count; i++) {
+        const uint8_t entry[3] = {facts[i].relation, facts[i].first, facts[i].second};
+        builder_put_sorted(b, list, entry, sizeof entry);
+    }
 }
 
 /* Sets the header, which books and orders have alike: four counts, four offsets. */
@@ -184,11 +188,7 @@ static inline void record_begin(struct builder *b, const uint8_t *kinds, size_t 
 
 static inline void record_state(struct builder *b, const struct fact *facts, size_t count)
 {
-    size_t at = b->length;
-
-    builder_room(b, 2);
-    builder_set(b, at, count, 2);
-    builder_put_facts(b, facts, count);
+    builder_put_state(b, facts, count);
 }
 
 /* The length of the record, 0 if it did not fit. */
@@ -210,10 +210,12 @@ static inline void order_begin(struct builder *b, const uint8_t *kinds, size_t c
     builder_put(b, kinds, count);
 }
 
+/* One of the states that the plan may begin in. An order has 1 to 16 of them. */
 static inline void order_start(struct builder *b, const struct fact *facts, size_t count)
 {
-    b->start = count;
-    builder_put_facts(b, facts, count);
+    builder_put_state(b, facts, count);
+    b->starts++;
+    b->starts_end = b->length;
 }
 
 /* Row 20 counts the entries as they are sorted here, not as they were given. */
@@ -232,11 +234,11 @@ static inline void order_goal(struct builder *b, const struct goal_entry *entrie
 /* The length of the order, 0 if it did not fit. */
 static inline size_t order_end(struct builder *b)
 {
-    size_t start_at = 16 + b->objects;
-    size_t goal_at = start_at + 3 * b->start;
+    size_t starts_at = 16 + b->objects;
+    size_t goal_at = b->starts_end;
     size_t steps_at = goal_at + 4 * b->goal;
-    const size_t header[8] = {b->objects, b->start, b->goal, b->steps,
-                              16,         start_at, goal_at, steps_at};
+    const size_t header[8] = {b->objects, b->starts, b->goal, b->steps,
+                              16,         starts_at, goal_at, steps_at};
 
     return builder_end(b, header);
 }

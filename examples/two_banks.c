@@ -1,11 +1,13 @@
 /*
  * A hall with two banks and a lift (two_banks.h): its book is built with
- * builder.h, looked over and learned, plans are checked, and a record is added,
- * by which a plan passes that was refused before. What is printed says why. The
- * exit status is 0 if each answer is the one that main says.
+ * builder.h, looked over and learned, plans (two_banks_plans.h) are checked, some
+ * of them from several starts, and a record is added, by which a plan passes that
+ * was refused before. What is printed says why. The exit status is 0 if each
+ * answer is the one that main says.
  */
 #include "changeover.h"
 #include "two_banks.h"
+#include "two_banks_plans.h"
 
 #include <inttypes.h>
 #include <stdio.h>
@@ -34,34 +36,14 @@ static void make_book(struct bytes *book, size_t count)
     book->len = book_end(&b);
 }
 
-/*
- * The hall of all orders: its objects, what they are called, and the facts at the
- * start. No record has a wagon, but it is a bank.
- */
-static const uint8_t hall[] = {BANK, WAGON, SPOT, SPOT, SPOT, LIFT};
-static const char *const hall_words[] = {"bank 1", "wagon 2", "spot 3",
-                                         "spot 4", "spot 5",  "lift 6"};
-static const struct fact start[] = {{UNDER, 6, 5}, {CLEAR, 5, 0}, {AT, 2, 4}, {AT, 1, 3}};
-
-struct step {
-    uint8_t move, objects[4];
-};
-
-struct plan {
-    const char *title;
-    const struct goal_entry *goal;
-    size_t goal_count;
-    const struct step *steps;
-    size_t step_count;
-};
-
 static void make_order(struct bytes *order, const struct plan *plan)
 {
     struct builder b;
 
     builder_begin(&b, order->at, sizeof order->at);
     order_begin(&b, hall, COUNT(hall));
-    order_start(&b, start, COUNT(start));
+    for (size_t i = 0; i < plan->start_count; i++)
+        order_start(&b, plan->starts[i].facts, plan->starts[i].count);
     order_goal(&b, plan->goal, plan->goal_count);
     for (size_t i = 0; i < plan->step_count; i++) {
         const uint8_t *objects = plan->steps[i].objects;
@@ -156,12 +138,15 @@ static void print_rules(const uint8_t *sheet, const uint8_t *earlier)
 }
 
 /* Whether an answer is the one that was to come; prints it if not. */
-static int expect(uint64_t answer, enum changeover_numbers number, uint32_t place)
+static int expect(uint64_t answer, enum changeover_numbers number, uint32_t place,
+                  unsigned position)
 {
-    if (changeover_number(answer) == number && changeover_place(answer) == place)
+    if (changeover_number(answer) == number && changeover_place(answer) == place &&
+        changeover_position(answer) == position)
         return 1;
-    printf("WRONG: %u %" PRIu32 ", %s\n", (unsigned)changeover_number(answer),
-           changeover_place(answer), changeover_words(changeover_number(answer)));
+    printf("WRONG: %u %" PRIu32 ", start %u, %s\n", (unsigned)changeover_number(answer),
+           changeover_place(answer), changeover_position(answer),
+           changeover_words(changeover_number(answer)));
     return 0;
 }
 
@@ -173,9 +158,9 @@ static int learn(const struct bytes *book, size_t count, uint32_t steps, uint8_t
     printf("book of %u bytes, %" PRIu32 " steps\n", (unsigned)book->len, steps);
     for (size_t i = 0; i < count; i++)
         printf("    record %u: %s\n", (unsigned)(i + 1), records[i].words);
-    return expect(changeover_look_over(book->at, book->len), CHANGEOVER_SUCCESS, steps) &&
+    return expect(changeover_look_over(book->at, book->len), CHANGEOVER_SUCCESS, steps, 0) &&
            expect(changeover_learn(book->at, book->len, sheet, sheet_len), CHANGEOVER_SUCCESS,
-                  steps);
+                  steps, 0);
 }
 
 static uint64_t check(const struct bytes *book, const struct plan *plan, uint8_t *end)
@@ -186,12 +171,15 @@ static uint64_t check(const struct bytes *book, const struct plan *plan, uint8_t
     return changeover_check(book->at, book->len, order.at, order.len, end, CHANGEOVER_END_LEN);
 }
 
-static void print_start(void)
+static void print_starts(void)
 {
-    printf("\nthe hall of the orders\n");
-    for (size_t i = 0; i < COUNT(start); i++) {
-        printf("    at the start: ");
-        print_fact(hall_words, &start[i]);
+    printf("\nthe starts of the orders\n");
+    for (size_t i = 0; i < COUNT(starts); i++) {
+        printf("    start %u: ", (unsigned)(i + 1));
+        for (size_t j = 0; j < starts[i].count; j++) {
+            printf("%s", j == 0 ? "" : ", ");
+            print_fact(hall_words, &starts[i].facts[j]);
+        }
         printf("\n");
     }
 }
@@ -199,6 +187,8 @@ static void print_start(void)
 static void print_plan(const struct plan *plan)
 {
     printf("\n%s\n", plan->title);
+    if (plan->start_count > 1)
+        printf("    from each of the starts 1 to %u\n", (unsigned)plan->start_count);
     for (size_t i = 0; i < plan->step_count; i++) {
         const struct step *step = &plan->steps[i];
 
@@ -214,17 +204,42 @@ static int in_end(const uint8_t *end, const struct fact *fact)
     return changeover_in_end(end, fact->relation, fact->first, fact->second);
 }
 
-static void print_end(const uint8_t *end)
+static void print_end(const uint8_t *end, const char *when)
 {
     struct fact facts[FACTS_MAX];
     size_t count = all_facts(hall, COUNT(hall), facts);
 
     for (size_t i = 0; i < count; i++)
         if (in_end(end, &facts[i])) {
-            printf("    at the end: ");
+            printf("    %s: ", when);
             print_fact(hall_words, &facts[i]);
             printf("\n");
         }
+}
+
+/* The same plan from one of its starts alone. */
+static struct plan from_start(const struct plan *plan, size_t position)
+{
+    struct plan alone = *plan;
+
+    alone.starts = &plan->starts[position - 1];
+    alone.start_count = 1;
+    return alone;
+}
+
+/* With more than one start the end sheet is not written; so each start is checked alone. */
+static void print_ends(const struct bytes *book, const struct plan *plan)
+{
+    uint8_t end[CHANGEOVER_END_LEN];
+
+    for (size_t i = 1; i <= plan->start_count; i++) {
+        struct plan alone = from_start(plan, i);
+        char when[40];
+
+        snprintf(when, sizeof when, "at the end, from start %u", (unsigned)i);
+        if (changeover_ok(check(book, &alone, end)))
+            print_end(end, when);
+    }
 }
 
 /* What a bound fact becomes in a step: the step says which object a parameter stands for. */
@@ -238,15 +253,15 @@ static struct fact fact_in_step(const struct fact *bound, const struct step *ste
 }
 
 /*
- * Which needs of a step are unmet. The check gives only the step's number; but
- * the plan up to that step, with no goal, passes, and its end sheet has the
- * facts that hold before the step.
+ * Which needs of a step are unmet. The check gives only the numbers of the step
+ * and of the start; but from that start alone the plan up to that step, with no
+ * goal, passes, and its end sheet has the facts that hold before the step.
  */
 static void print_unmet(const struct bytes *book, const uint8_t *sheet, const struct plan *plan,
-                        size_t number)
+                        size_t number, size_t position)
 {
     const struct step *step = &plan->steps[number - 1];
-    struct plan up_to_step = *plan;
+    struct plan up_to_step = from_start(plan, position);
     struct fact bound[FACTS_MAX];
     size_t count = all_facts(moves[step->move - 1].kinds, 4, bound);
     uint8_t end[CHANGEOVER_END_LEN];
@@ -284,24 +299,28 @@ static void print_missed(const struct plan *plan, size_t number)
     printf(", which %s\n", entry[0] ? "shall hold" : "shall not hold");
 }
 
-/* Checks a plan, which must have this number and place, and prints why. */
+/* Checks a plan, which must have this number, place and position, and prints why. */
 static int checked(const struct bytes *book, const uint8_t *sheet, const struct plan *plan,
-                   enum changeover_numbers number, uint32_t place)
+                   enum changeover_numbers number, uint32_t place, unsigned position)
 {
     uint8_t end[CHANGEOVER_END_LEN];
 
     print_plan(plan);
-    if (!expect(check(book, plan, end), number, place))
+    if (!expect(check(book, plan, end), number, place, position))
         return 0;
     if (number == CHANGEOVER_SUCCESS) {
         printf("  passes, %" PRIu32 " steps\n", place);
-        print_end(end);
+        if (plan->start_count == 1)
+            print_end(end, "at the end");
+        else
+            print_ends(book, plan);
         return 1;
     }
-    printf("  refused %u, %s %" PRIu32 ": %s\n", (unsigned)number,
-           number == CHANGEOVER_NEED_UNMET ? "step" : "entry", place, changeover_words(number));
+    printf("  refused %u, %s %" PRIu32 ", start %u: %s\n", (unsigned)number,
+           number == CHANGEOVER_NEED_UNMET ? "step" : "entry", place, position,
+           changeover_words(number));
     if (number == CHANGEOVER_NEED_UNMET)
-        print_unmet(book, sheet, plan, place);
+        print_unmet(book, sheet, plan, place, position);
     else
         print_missed(plan, place);
     return 1;
@@ -320,33 +339,9 @@ static int add(const struct bytes *book, struct bytes *longer)
     printf("\na record of %u bytes is added\n", (unsigned)record.len);
     return expect(changeover_add(book->at, book->len, record.at, record.len, longer->at,
                                  sizeof longer->at),
-                  CHANGEOVER_SUCCESS, (uint32_t)all.len) &&
+                  CHANGEOVER_SUCCESS, (uint32_t)all.len, 0) &&
            memcmp(longer->at, all.at, all.len) == 0;
 }
-
-static const struct goal_entry swapped[] = {
-    {1, {TURNED, 2, 0}}, {0, {TURNED, 1, 0}}, {1, {AT, 2, 3}}, {1, {AT, 1, 4}}};
-static const struct step swap_steps[] = {{ROLL, {1, 3, 5, 0}},
-                                         {ROLL, {2, 4, 3, 0}},
-                                         {ROLL, {1, 5, 4, 0}},
-                                         {TURN, {2, 3, 0, 0}}};
-static const struct plan swap = {"swap bank and wagon, turn the wagon", swapped, 4, swap_steps, 4};
-static const struct plan no_turn = {"the same goal, but no turn", swapped, 4, swap_steps, 3};
-
-static const struct goal_entry at_5[] = {{1, {AT, 1, 5}}};
-static const struct step onto_raised_steps[] = {{RAISE, {6, 5, 0, 0}}, {ROLL, {1, 3, 5, 0}}};
-static const struct plan onto_raised = {"raise the lift, roll bank 1 onto it", at_5, 1,
-                                        onto_raised_steps, 2};
-
-static const struct goal_entry not_turned[] = {{0, {TURNED, 1, 0}}};
-static const struct step back_steps[] = {{TURN, {1, 3, 0, 0}}, {TURN_BACK, {1, 3, 0, 0}}};
-static const struct plan back = {"turn bank 1, turn it back", not_turned, 1, back_steps, 2};
-
-static const struct goal_entry turned_high[] = {{1, {TURNED, 1, 0}}, {1, {RAISED, 5, 0}}};
-static const struct step high_steps[] = {
-    {ROLL, {1, 3, 5, 0}}, {RAISE, {6, 5, 0, 0}}, {TURN, {1, 5, 0, 0}}};
-static const struct plan high = {"raise the lift with bank 1 on it, turn the bank there",
-                                 turned_high, 2, high_steps, 3};
 
 int main(void)
 {
@@ -365,17 +360,23 @@ int main(void)
         return 1;
     print_rules(sheet, first_sheet);
 
-    print_start();
+    print_starts();
 
-    if (!checked(&book, sheet, &swap, CHANGEOVER_SUCCESS, 4) ||
-        !checked(&book, sheet, &no_turn, CHANGEOVER_GOAL_MISSED, 4) ||
-        !checked(&book, sheet, &onto_raised, CHANGEOVER_NEED_UNMET, 2) ||
-        !checked(&book, sheet, &back, CHANGEOVER_NEED_UNMET, 2) ||
-        !checked(&book, sheet, &high, CHANGEOVER_NEED_UNMET, 2))
+    if (!checked(&book, sheet, &swap, CHANGEOVER_SUCCESS, 4, 0) ||
+        !checked(&book, sheet, &no_turn, CHANGEOVER_GOAL_MISSED, 4, 1) ||
+        !checked(&book, sheet, &onto_raised, CHANGEOVER_NEED_UNMET, 2, 1) ||
+        !checked(&book, sheet, &back, CHANGEOVER_NEED_UNMET, 2, 1) ||
+        !checked(&book, sheet, &high, CHANGEOVER_NEED_UNMET, 2, 1))
+        return 1;
+
+    /* The last plan fails from start 2 by 20, and from start 3 by 19: start 2 is told of. */
+    if (!checked(&book, sheet, &move_up, CHANGEOVER_SUCCESS, 2, 0) ||
+        !checked(&book, sheet, &one_start_more, CHANGEOVER_NEED_UNMET, 1, 3) ||
+        !checked(&book, sheet, &unturned, CHANGEOVER_GOAL_MISSED, 3, 2))
         return 1;
 
     if (!add(&book, &longer) || !learn(&longer, 4, 11, longer_sheet))
         return 1;
     print_rules(longer_sheet, sheet);
-    return checked(&longer, longer_sheet, &high, CHANGEOVER_SUCCESS, 3) ? 0 : 1;
+    return checked(&longer, longer_sheet, &high, CHANGEOVER_SUCCESS, 3, 0) ? 0 : 1;
 }

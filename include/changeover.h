@@ -33,18 +33,22 @@
  * fact or a step is right if there is such a relation or move, each place or
  * parameter has an object that there is, of a kind that suits, the bytes of
  * unused ones are 0, and no object of a step stands twice; else it is wrong.
- * MEANING.md says all of this at length, FORMAT.md has the bytes of books,
- * orders and sheets; they are in share/doc/changeover, in the sources in docs.
+ * An order has one plan and 1 to 16 starts, each a state that the hall may be in
+ * when the plan begins. MEANING.md says all of this at length, FORMAT.md has the
+ * bytes of books, orders and sheets; they are in share/doc/changeover, in the
+ * sources in docs.
  *
  * The answer packs three numbers:
  *   bits 48 to 63   number: 0 success, else the refusal below
- *   bits 32 to 47   0; kept for a later version
+ *   bits 32 to 47   by 19 and 20 the position of the start, from 1; else 0
  *   bits  0 to 31   place
  * A refusal leaves all lent memory as it was. The rows are tested in the order
- * of the table, in which 21 stands after 3, each thing of a row in file order;
- * "rows 1 to 10" are those from 1 to 10 in it. But 6 to 10 as they come up in
- * the records: a record's head, objects, state, step (9, then 10), state and so
- * on, its tail, then the next record. The answer is the first that is met.
+ * of the table, in which 21 stands after 3 and 22 between the two of 14, each
+ * thing of a row in file order; "rows 1 to 10" are those from 1 to 10 in it. But
+ * 6 to 10 as they come up in the records: a record's head, objects, state, step
+ * (9, then 10), state and so on, its tail, then the next record. And 19 and 20
+ * for one start after the other: 19, 20, then the next start. The answer is the
+ * first that is met.
  *
  *   No.  met when                                          place
  *    0   success                                           see each call
@@ -70,9 +74,15 @@
  *   12   a bound fact was changed to one value, and after  smallest such move
  *        another step of the move has the other
  *   13   a lent output of wrong length                     0
- *   14   order header: length, count or offset wrong       0
+ *   14   order header: length under 16, or objects, goal   0
+ *        entries or steps over their limit
+ *   22   order header: no start, or over 16 of them        0
+ *   14   order header: an offset or the length wrong       0
  *   15   order object: no such kind                        offset in the order
- *   16   start fact wrong or out of order                  offset in the order
+ *   16   start: count cut or over 256; fact cut, wrong or  offset in the order
+ *        out of order; bytes left between the last start   of the count, the
+ *        and the goal                                      fact, the first such
+ *                                                          byte
  *   17   goal entry: first byte over 1; fact wrong or out  offset in the order
  *        of order
  *   18   plan step wrong, as 9 or 10                       offset in the order
@@ -80,8 +90,9 @@
  *   20   a goal entry is false at the end                  entry number from 1
  *
  * Cut means reaching past the end of the record, for a record's head past that
- * of the book; the place is where the thing begins, which may be that end. Of
- * two facts out of order the second is named, of a goal entry its first byte.
+ * of the book, for a start past the offset of the goal; the place is where the
+ * thing begins, which may be that end. Of two facts out of order the second is
+ * named, of a goal entry its first byte.
  */
 #ifndef CHANGEOVER_H
 #define CHANGEOVER_H
@@ -98,10 +109,10 @@
  * books, orders and sheets and what the bits of an answer mean; the shared
  * library's soname has its number.
  */
-#define CHANGEOVER_VERSION_MAJOR 1
-#define CHANGEOVER_VERSION_MINOR 1
+#define CHANGEOVER_VERSION_MAJOR 2
+#define CHANGEOVER_VERSION_MINOR 0
 #define CHANGEOVER_VERSION_PATCH 0
-#define CHANGEOVER_VERSION_STRING "1.1.0"
+#define CHANGEOVER_VERSION_STRING "2.0.0"
 /* One number that grows with the version, for #if. */
 #define CHANGEOVER_VERSION                                                    \
     (CHANGEOVER_VERSION_MAJOR * 1000000 + CHANGEOVER_VERSION_MINOR * 1000 +   \
@@ -137,15 +148,19 @@ enum changeover_numbers {
     CHANGEOVER_OUTPUT_LENGTH = 13,
     CHANGEOVER_ORDER_HEADER = 14,
     CHANGEOVER_ORDER_OBJECT = 15,
-    CHANGEOVER_START_FACT = 16,
+    CHANGEOVER_START = 16,
     CHANGEOVER_GOAL_ENTRY = 17,
     CHANGEOVER_PLAN_STEP = 18,
     CHANGEOVER_NEED_UNMET = 19,
     CHANGEOVER_GOAL_MISSED = 20,
-    CHANGEOVER_PARENT = 21
+    CHANGEOVER_PARENT = 21,
+    CHANGEOVER_START_COUNT = 22
 };
 
-/* Lengths in bytes, and the limit of moves. */
+/*
+ * Lengths in bytes, and the limits of moves and starts. No good order is longer
+ * than CHANGEOVER_ORDER_MAX; the calls take longer ones, and refuse them.
+ */
 enum changeover_lengths {
     CHANGEOVER_BOOK_MIN = 16,
     CHANGEOVER_BOOK_MAX = 60000,
@@ -153,6 +168,8 @@ enum changeover_lengths {
     CHANGEOVER_SET_LEN = 32,
     CHANGEOVER_RULES_LEN = 128,
     CHANGEOVER_SHEET_MAX = 4096,
+    CHANGEOVER_STARTS_MAX = 16,
+    CHANGEOVER_ORDER_MAX = 12928,
     CHANGEOVER_END_LEN = 512
 };
 
@@ -183,10 +200,15 @@ uint64_t changeover_learn(const uint8_t *book, size_t book_len, uint8_t *sheet, 
 
 /*
  * Checks the plan of an order by what the book's records show: all rows.
- * The book is learned anew; no rule sheet is asked for. The end sheet must be
- * exactly 512 bytes, else 13. On success (the plan passes) every byte of the
- * end sheet is written, its bits being the facts that hold after the last
- * step, and the place is the plan's step count.
+ * The book is learned anew; no rule sheet is asked for. The plan passes exactly
+ * if it would pass from each start of the order alone. Else 19 or 20 with its
+ * place is what the first start, in file order, that fails would give alone, and
+ * changeover_position tells which start that is.
+ * The end sheet must be exactly 512 bytes, else 13, however many starts there
+ * are. On success (the plan passes) the place is the plan's step count. If the
+ * order has one start, every byte of the end sheet is then written, its bits
+ * being the facts that hold after the last step; if it has more, the end sheet
+ * stays as it was.
  */
 uint64_t changeover_check(const uint8_t *book, size_t book_len, const uint8_t *order,
                           size_t order_len, uint8_t *end, size_t end_len);
@@ -214,13 +236,19 @@ static inline uint32_t changeover_place(uint64_t answer)
     return (uint32_t)(answer & 0xffffffffu);
 }
 
+/* By 19 and 20 the position, from 1, of the start from which the plan fails; else 0. */
+static inline unsigned changeover_position(uint64_t answer)
+{
+    return (unsigned)(answer >> 32 & 0xffffu);
+}
+
 /* 1 for success, 0 for a refusal. */
 static inline int changeover_ok(uint64_t answer)
 {
     return changeover_number(answer) == CHANGEOVER_SUCCESS;
 }
 
-/* What a number means, in words without a place; for messages. */
+/* What a number means, in words without place and position; for messages. */
 static inline const char *changeover_words(enum changeover_numbers number)
 {
     switch (number) {
@@ -256,8 +284,8 @@ static inline const char *changeover_words(enum changeover_numbers number)
         return "order header: length, count or offset wrong";
     case CHANGEOVER_ORDER_OBJECT:
         return "order object of no such kind";
-    case CHANGEOVER_START_FACT:
-        return "start fact wrong or out of order";
+    case CHANGEOVER_START:
+        return "start: count cut or over 256, fact cut, wrong or out of order, or bytes left over";
     case CHANGEOVER_GOAL_ENTRY:
         return "goal entry: first byte over 1, or fact wrong or out of order";
     case CHANGEOVER_PLAN_STEP:
@@ -268,6 +296,8 @@ static inline const char *changeover_words(enum changeover_numbers number)
         return "a goal entry is false at the end";
     case CHANGEOVER_PARENT:
         return "a kind's parent is not smaller than the kind";
+    case CHANGEOVER_START_COUNT:
+        return "order header: no start, or over 16 of them";
     }
     return "no such number";
 }
@@ -303,8 +333,9 @@ static inline int changeover_in_rules(const uint8_t *sheet, unsigned move, enum 
 }
 
 /*
- * Whether a fact holds at the plan's end, 1 or 0. All numbers count from 1,
- * the two objects being 0 where unused. They must be in the hall's range.
+ * Whether a fact holds at the plan's end, 1 or 0, by the end sheet of an order
+ * with one start. All numbers count from 1, the two objects being 0 where
+ * unused. They must be in the hall's range.
  */
 static inline int changeover_in_end(const uint8_t *end, unsigned relation, unsigned first,
                                     unsigned second)

@@ -1,13 +1,16 @@
-//! The number and the place that every call answers with.
+//! The number, the place and the position that every call answers with.
 
 /// Number 0 is success; any other number is a [`Refusal`].
 #[derive(Clone, Copy, Debug, PartialEq, Eq, PartialOrd, Ord, Hash)]
 pub struct Answer {
     pub number: u32,
     pub place: u32,
+    /// That of the start, from 1, by which a plan fails; 0 unless by 19 or 20.
+    pub position: u32,
 }
 
-/// The rows of the paper's table, by number. 21 stands between 3 and 4.
+/// The rows of the paper's table, by number. 21 stands between 3 and 4, 22 between
+/// the counts and the offsets of 14.
 #[derive(Clone, Copy, Debug, PartialEq, Eq, PartialOrd, Ord, Hash)]
 #[repr(u32)]
 pub enum Refusal {
@@ -26,36 +29,48 @@ pub enum Refusal {
     Output = 13,
     OrderHeader = 14,
     OrderObject = 15,
-    StartFact = 16,
+    Start = 16,
     GoalEntry = 17,
     PlanStep = 18,
     NeedUnmet = 19,
     GoalMissed = 20,
     Parent = 21,
+    StartCount = 22,
 }
 
 impl Refusal {
     #[must_use]
     pub const fn at(self, place: usize) -> Answer {
-        Answer { number: self as u32, place: place as u32 }
+        Answer { number: self as u32, place: place as u32, position: 0 }
     }
 }
 
 impl Answer {
     #[must_use]
     pub const fn success(place: usize) -> Self {
-        Self { number: 0, place: place as u32 }
+        Self { number: 0, place: place as u32, position: 0 }
     }
 
-    /// The form in which the C calls return it: number·2^48 + place.
+    /// The same by the start of this position, from 1.
+    #[must_use]
+    pub const fn from_start(self, position: usize) -> Self {
+        Self { position: position as u32, ..self }
+    }
+
+    /// The form in which the C calls return it: number·2^48 + position·2^32 +
+    /// place.
     #[must_use]
     pub const fn packed(self) -> u64 {
-        ((self.number as u64) << 48) | self.place as u64
+        ((self.number as u64) << 48) | ((self.position as u64) << 32) | self.place as u64
     }
 }
 
 impl std::fmt::Display for Answer {
     fn fmt(&self, f: &mut std::fmt::Formatter<'_>) -> std::fmt::Result {
-        write!(f, "{} at {}", self.number, self.place)
+        write!(f, "{} at {}", self.number, self.place)?;
+        match self.position {
+            0 => Ok(()),
+            position => write!(f, " from start {position}"),
+        }
     }
 }

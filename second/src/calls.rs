@@ -1,5 +1,5 @@
-//! The four calls as every implementation has them: over bytes, with number and
-//! place packed into one answer.
+//! The four calls as every implementation has them: over bytes, with number,
+//! place and position packed into one answer.
 
 use crate::answer::Answer;
 
@@ -37,14 +37,20 @@ impl Job {
         match self {
             Self::LookOver => (0..=10).chain([21]).collect(),
             Self::Learn => (0..=13).chain([21]).collect(),
-            Self::Check => (0..=21).collect(),
+            Self::Check => (0..=22).collect(),
             Self::Add => (0..=10).chain([13, 21]).collect(),
         }
     }
 
     /// Runs this call. `other` is the order or the record, and `output` the
     /// memory lent for what is written; a call that has none takes no notice.
-    pub fn run(self, calls: &impl Calls, book: &[u8], other: &[u8], output: &mut [u8]) -> u64 {
+    pub fn run(
+        self,
+        calls: &(impl Calls + ?Sized),
+        book: &[u8],
+        other: &[u8],
+        output: &mut [u8],
+    ) -> u64 {
         match self {
             Self::LookOver => calls.look_over(book),
             Self::Learn => calls.learn(book, output),
@@ -54,8 +60,9 @@ impl Job {
     }
 }
 
-/// The number and the place of a packed answer; the bits between are dropped.
+/// The number, the place and the position of a packed answer.
 #[must_use]
 pub const fn unpacked(packed: u64) -> Answer {
-    Answer { number: (packed >> 48) as u32, place: packed as u32 }
+    let position = (packed >> 32) as u16 as u32;
+    Answer { number: (packed >> 48) as u32, place: packed as u32, position }
 }

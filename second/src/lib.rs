@@ -17,6 +17,7 @@ pub mod learn;
 pub mod limits;
 pub mod listing;
 pub mod mask;
+mod plan;
 pub mod vectors;
 
 pub use answer::{Answer, Refusal};

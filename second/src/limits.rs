@@ -12,6 +12,7 @@ pub const OBJECT_LIMIT: usize = 16;
 pub const STEP_LIMIT: usize = 64;
 pub const FACT_LIMIT: usize = 256;
 pub const GOAL_LIMIT: usize = 64;
+pub const START_LIMIT: usize = 16;
 
 pub const PLACE_LIMIT: usize = 2;
 pub const PARAMETER_LIMIT: usize = 4;

@@ -38,7 +38,7 @@ pub fn rules(book: &[u8]) -> String {
 #[must_use]
 pub fn plan(book: &[u8], order: &[u8]) -> String {
     match check(book, order, &mut [0; END_SHEET_LENGTH]) {
-        Answer { number: 0, place } => format!("passes {place}\n"),
+        Answer { number: 0, place, .. } => format!("passes {place}\n"),
         refusal => refused(refusal),
     }
 }

@@ -83,7 +83,8 @@ impl AtomMask {
 }
 
 /// A set of facts over the objects of one hall, numbered as in the end sheet:
-/// fact n is in row n div 16, which is that of its relation and first object.
+/// fact n is in row n div 16, which is that of its relation and first object. A
+/// row's number fills a byte, so no access by it is out of range.
 #[derive(Clone, Debug, PartialEq, Eq)]
 pub struct FactSet([Row; RELATION_LIMIT * OBJECT_LIMIT]);
 
@@ -91,24 +92,26 @@ impl FactSet {
     pub const EMPTY: Self = Self([0; RELATION_LIMIT * OBJECT_LIMIT]);
 
     pub fn insert(&mut self, fact: usize) {
-        self.insert_all(fact / 16, 1 << (fact % 16));
+        self.insert_all((fact / 16) as u8, 1 << (fact % 16));
     }
 
     #[inline]
-    pub fn insert_all(&mut self, row: usize, facts: Row) {
+    pub fn insert_all(&mut self, row: u8, facts: Row) {
+        let row = usize::from(row);
         self.0[row] |= facts;
     }
 
     #[inline]
-    pub fn remove_all(&mut self, row: usize, facts: Row) {
+    pub fn remove_all(&mut self, row: u8, facts: Row) {
+        let row = usize::from(row);
         self.0[row] &= !facts;
     }
 
     /// Those of a row's facts that hold.
     #[inline]
     #[must_use]
-    pub fn held(&self, row: usize, facts: Row) -> Row {
-        self.0[row] & facts
+    pub fn held(&self, row: u8, facts: Row) -> Row {
+        self.0[usize::from(row)] & facts
     }
 
     #[must_use]

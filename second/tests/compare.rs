@@ -113,6 +113,38 @@ fn check_finds_a_wrong_end_sheet() {
     assert!(compare::job(Job::Check, RUN, other).is_err());
 }
 
+/// What a check of several starts may do wrong, and a check of one does not show.
+#[test]
+fn check_finds_wrong_starts() {
+    type Starts = fn(&[u8], &mut [u8], Answer) -> Answer;
+    let wrong: [(&str, Starts); 5] = [
+        ("position 1", |_, _, answer| answer.from_start(answer.position.min(1) as usize)),
+        ("position on success", |order, _, answer| match answer.number {
+            0 => answer.from_start(usize::from(order[3] > 1)),
+            _ => answer,
+        }),
+        ("no position", |_, _, answer| answer.from_start(0)),
+        ("22 is 14", |_, _, answer| match answer.number {
+            22 => Refusal::OrderHeader.at(0),
+            _ => answer,
+        }),
+        ("end sheet cleared", |order, end, answer| {
+            if answer.number == 0 && order[3] > 1 {
+                end.fill(0);
+            }
+            answer
+        }),
+    ];
+    for (what, change) in wrong {
+        let other = |book: &[u8], order: &[u8], end: &mut [u8]| {
+            let answer = check::check(book, order, end);
+            change(order, end, answer).packed()
+        };
+        let run = Run { count: 2_000, ..RUN };
+        assert!(compare::job(Job::Check, run, other).is_err(), "not found: {what}");
+    }
+}
+
 /// Over 256 facts may hold while a plan is executed.
 #[test]
 fn check_finds_a_state_of_256_facts() {

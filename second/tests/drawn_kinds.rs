@@ -30,7 +30,7 @@ fn parents_of_0_are_none() {
         if let (Some(record), 0) = (without.records.first(), sheets[0].0.number) {
             let order = OrderDraft {
                 objects: record.objects.clone(),
-                start: record.states[0].clone(),
+                starts: vec![record.states[0].clone()],
                 goal: Vec::new(),
                 steps: record.steps.clone(),
             };

@@ -2,7 +2,7 @@
 
 mod shared;
 
-use second::judge::{verdict, Verdict};
+use second::judge::{verdicts, Verdict};
 use second::{add, form, listing, Answer, Refusal};
 use shared::{hex, learned, order, passes, refused, set};
 
@@ -57,14 +57,14 @@ fn a_wagon_is_planned_with() {
     let [wagon, bank] = [3, 1].map(|kind| order(&[kind, 2, 2, 2], &start, &goal, &rolls));
     passes(&book, &wagon, 2, &[3, 256 + 16, 256 + 32, 512]);
     let end = vec![[1, 1, 4], [2, 2, 0], [2, 3, 0], [3, 1, 0]];
-    assert_eq!(verdict(&book, &wagon), Verdict::Passes { steps: 2, end });
+    assert_eq!(verdicts(&book, &wagon), [Verdict::Passes { steps: 2, end }]);
     // A bank cannot be loaded: the fourth start fact.
-    refused(&book, &bank, Refusal::StartFact.at(20 + 3 * 3));
+    refused(&book, &bank, Refusal::Start.at(22 + 3 * 3));
     // Nor its goal be so, nor move 2 be for it.
     let order_of = |kind: u8, goal: &[_], steps: &[_]| order(&[kind, 2, 2, 2], &[], goal, steps);
-    refused(&book, &order_of(1, &[(0, [3, 1, 0])], &[]), Refusal::GoalEntry.at(20));
-    refused(&book, &order_of(1, &[], &[[2, 1, 0, 0, 0]]), Refusal::PlanStep.at(20));
-    refused(&book, &order_of(3, &[], &[[2, 1, 0, 0, 0]]), Refusal::NeedUnmet.at(1));
+    refused(&book, &order_of(1, &[(0, [3, 1, 0])], &[]), Refusal::GoalEntry.at(22));
+    refused(&book, &order_of(1, &[], &[[2, 1, 0, 0, 0]]), Refusal::PlanStep.at(22));
+    refused(&book, &order_of(3, &[], &[[2, 1, 0, 0, 0]]), Refusal::NeedUnmet.at(1).from_start(1));
 }
 
 /// Its object is the step's, but a bank's parameter makes no bound fact of it.
@@ -76,7 +76,7 @@ fn row_11_by_a_parameter_too_wide() {
     assert_eq!(learned(&book).0, Refusal::UnboundChange.at(step_at));
     let order = order(&[3], &[], &[], &[]);
     refused(&book, &order, Refusal::UnboundChange.at(step_at));
-    assert_eq!(verdict(&book, &order), Verdict::Impossible);
+    assert_eq!(verdicts(&book, &order), [Verdict::Impossible]);
     // The wagon's own parameter does.
     let (answer, sheet) = learned(&with_record(WAGON_LOADED));
     assert_eq!(answer, Answer::success(1));
@@ -131,7 +131,7 @@ fn two_steps_up() {
     passes(&book, &order(&[1, 2, 3], &start, &[(0, [1, 3, 0])], &steps), 3, &[]);
     for object in [1, 2] {
         let order = order(&[1, 2, 3], &start, &[], &[[1, object, 0, 0, 0]]);
-        refused(&book, &order, Refusal::PlanStep.at(16 + 3 + 9));
+        refused(&book, &order, Refusal::PlanStep.at(16 + 3 + 2 + 9));
     }
 }
 

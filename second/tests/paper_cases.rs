@@ -66,7 +66,7 @@ fn example_files() {
 #[test]
 fn m3_a_need_that_does_not_hold() {
     let start = [[1, 1, 2], [2, 2, 0], [2, 3, 0], [2, 4, 0]];
-    refused(&small_hall(), &order(&start, &[AT_4], &ROLLS), Refusal::NeedUnmet.at(1));
+    refused(&small_hall(), &order(&start, &[AT_4], &ROLLS), Refusal::NeedUnmet.at(1).from_start(1));
 }
 
 #[test]
@@ -76,13 +76,17 @@ fn m4_no_steps_passes() {
 
 #[test]
 fn m5_no_steps_misses() {
-    refused(&small_hall(), &order(&START, &[AT_4], &[]), Refusal::GoalMissed.at(1));
+    refused(&small_hall(), &order(&START, &[AT_4], &[]), Refusal::GoalMissed.at(1).from_start(1));
 }
 
 #[test]
 fn m6_never_recorded() {
     for roll in [[1, 1, 2, 3, 0], [1, 1, 3, 4, 0], [1, 1, 4, 2, 0]] {
-        refused(&unrecorded(), &order(&START, &[], &[roll]), Refusal::NeedUnmet.at(1));
+        refused(
+            &unrecorded(),
+            &order(&START, &[], &[roll]),
+            Refusal::NeedUnmet.at(1).from_start(1),
+        );
     }
     let text = "moves 1 records 0 steps 0\n1 1 1 2 B K\n1 1 1 3 B K\n1 2 2 0 B K\n1 2 3 0 B K\n";
     assert_eq!(listing::rules(&unrecorded()), text);
@@ -91,16 +95,15 @@ fn m6_never_recorded() {
 #[test]
 fn m7_no_atoms_passes() {
     let book = hex("0000 0000 0001 0000 0010 0010 0016 0016 000000000000");
-    let order = hex("0000 0000 0000 0001 0010 0010 0010 0010 0100000000");
+    let order = hex("0000 0001 0000 0001 0010 0010 0012 0012 0000 0100000000");
     passes(&book, &order, 1, &[]);
     assert_eq!(listing::rules(&book), "moves 1 records 0 steps 0\n");
 }
 
 #[test]
 fn m8_object_twice() {
-    let order = order(&START, &[AT_4], &[[1, 1, 2, 2, 0]]);
-    let step_at = order.len() - 5;
-    refused(&small_hall(), &order, Refusal::PlanStep.at(step_at));
+    let order = order(&START, &[], &[[1, 1, 2, 2, 0]]);
+    refused(&small_hall(), &order, Refusal::PlanStep.at(31));
 }
 
 #[test]

@@ -11,7 +11,7 @@ mod list;
 
 use second::calls::{unpacked, Calls, Job};
 use second::vectors::{all, missing, parse, print, run, Vector};
-use second::{Answer, Refusal, Second};
+use second::{Answer, Second};
 
 static ALL: LazyLock<Vec<Vector>> = LazyLock::new(all);
 
@@ -20,7 +20,7 @@ fn the_file_is_what_is_printed() {
     let file = concat!(env!("CARGO_MANIFEST_DIR"), "/../tests/vectors/vectors.txt");
     let text = std::fs::read_to_string(file).expect("the file is there");
     assert!(text == print(&ALL), "run `vectors print` and store what it prints");
-    assert!(text.len() < 550_000, "{} bytes", text.len());
+    assert!(text.len() < 700_000, "{} bytes", text.len());
 }
 
 #[test]
@@ -93,7 +93,7 @@ fn found(job: Job, change: impl Fn(Answer) -> Answer) -> bool {
 }
 
 #[test]
-fn a_wrong_number_or_place_is_found() {
+fn a_wrong_number_place_or_position_is_found() {
     for job in Job::ALL {
         for number in job.numbers() {
             let of_number = |answer: Answer| answer.number == number;
@@ -108,7 +108,12 @@ fn a_wrong_number_or_place_is_found() {
                     answer
                 }
             };
+            let position = |answer: Answer| Answer {
+                position: answer.position + u32::from(of_number(answer)),
+                ..answer
+            };
             assert!(found(job, place) && found(job, other), "{} {number}", job.name());
+            assert!(found(job, position), "{} {number}", job.name());
         }
     }
 }
@@ -121,7 +126,7 @@ fn a_cheat_is_found() {
         _ => answer,
     };
     let stops_at_1 = |answer: Answer| match answer.number {
-        19 => Refusal::NeedUnmet.at(1),
+        19 => Answer { place: 1, ..answer },
         _ => answer,
     };
     assert!(found(Job::Check, passes_all) && found(Job::Check, stops_at_1));
@@ -173,7 +178,7 @@ fn plans_go_beyond_256_facts() {
 fn every_mistake_stands_in_the_sources_once() {
     let here = Path::new(env!("CARGO_MANIFEST_DIR"));
     let mistakes = list::all(&here.join("mistakes")).expect("the list can be read");
-    assert!(mistakes.len() >= 450, "{}", mistakes.len());
+    assert!(mistakes.len() >= 600, "{}", mistakes.len());
     for mistake in &mistakes {
         for edit in &mistake.edits {
             let source = std::fs::read_to_string(here.join("src").join(&edit.file));
@@ -190,7 +195,7 @@ fn every_row_has_its_mistakes() {
     let here = Path::new(env!("CARGO_MANIFEST_DIR"));
     let mistakes = list::all(&here.join("mistakes")).expect("the list can be read");
     let about = |what: &str| mistakes.iter().any(|mistake| mistake.about.starts_with(what));
-    for row in 1..=21 {
+    for row in 1..=22 {
         assert!(about(&format!("row {row}, condition")), "{row}");
         assert!(about(&format!("row {row}, place")), "{row}");
         assert!(row == 20 || about(&format!("row {row} before row")), "{row}");

@@ -26,8 +26,9 @@ int whose_fault(uint64_t answer)
     case CHANGEOVER_OUTPUT_LENGTH:
         return 2;
     case CHANGEOVER_ORDER_HEADER:
+    case CHANGEOVER_START_COUNT:
     case CHANGEOVER_ORDER_OBJECT:
-    case CHANGEOVER_START_FACT:
+    case CHANGEOVER_START:
     case CHANGEOVER_GOAL_ENTRY:
     case CHANGEOVER_PLAN_STEP:
         return 3;

@@ -28,7 +28,7 @@ static struct {
     char name[LINE];
     int wanted[JOBS];
     struct bytes book, order, record, after;
-    unsigned long output, number, place;
+    unsigned long output, number, place, position;
 } vector;
 
 /* The keys whose value is bytes. */
@@ -46,7 +46,8 @@ static const struct {
     unsigned long *to, most, left_out;
 } number_keys[] = {{"output", &vector.output, ROOM, 0},
                    {"number", &vector.number, UINT16_MAX, ULONG_MAX},
-                   {"place", &vector.place, UINT32_MAX, ULONG_MAX}};
+                   {"place", &vector.place, UINT32_MAX, ULONG_MAX},
+                   {"position", &vector.position, UINT16_MAX, 0}};
 
 enum { BYTE_KEYS = sizeof byte_keys / sizeof *byte_keys };
 enum { NUMBER_KEYS = sizeof number_keys / sizeof *number_keys };
@@ -55,7 +56,7 @@ enum { NUMBER_KEYS = sizeof number_keys / sizeof *number_keys };
 
 static uint64_t expected_answer(void)
 {
-    return (uint64_t)vector.number << 48 | vector.place;
+    return (uint64_t)vector.number << 48 | (uint64_t)vector.position << 32 | vector.place;
 }
 
 /* The input beside the book, of a call that has one. */

@@ -17,7 +17,7 @@ use Rattle.format.specs.Records.{objectsIn, stepsIn, lengthIn, headBad, object,
 use Rattle.format.specs.LookOver.{stepTotal, allRecords, lookOverBy, lookOver}
 use Rattle.output.specs.Written.{twoBytes}
 use Rattle.jobs.specs.Add.{added, add, addBytes}
-use Rattle.jobs.specs.Cases.{book, book6}
+use Rattle.jobs.specs.Marked.{book, book6}
 
 -- the record, which M6 leaves out
 abbrev recorded : List ℕ

@@ -4,6 +4,7 @@ use mathlib.Core.Bool.{Bool, true, false}
 use mathlib.Core.List.{List}
 use Rattle.answer.specs.declared.Answer.{Answer}
 use Rattle.answer.specs.declared.Answer.the-variants.{Good, Refused}
+use Rattle.answer.specs.declared.Positioned.{Positioned}
 
 infixl 20 _>>=_
 -- what follows, if nothing is refused before it
@@ -34,9 +35,18 @@ unfoldable pub place : Answer → ℕ
 place (Good n) = n
 place (Refused n p) = p
 
--- the two as C has them: number times 2^48, plus place
-unfoldable pub packed : Answer → ℕ
-packed a = number a * 281474976710656 + place a
+-- an answer that is about no start of an order
+unfoldable pub unpositioned : Answer → Positioned
+unpositioned a = record { answer = a; position = 0 }
+
+-- what follows has a position, if nothing is refused before it
+unfoldable pub thenAt : Answer → Positioned → Positioned
+thenAt (Good n) r = r
+thenAt (Refused n p) r = unpositioned (Refused n p)
+
+-- number, position and place as C has them: number times 2^48, plus position times 2^32, plus place
+unfoldable pub packed : Answer → ℕ → ℕ
+packed a position = number a * 281474976710656 + position * 4294967296 + place a
 
 -- the greatest number that the bits from 48 on have room for
 abbrev pub maxNumber : ℕ

@@ -2,12 +2,13 @@
 use Prim.Native.Nat.{ℕ, _≤_}
 use mathlib.Core.Path.{_≡_, refl, sym}
 use mathlib.Core.Bool.{Bool, true, false, _||_}
+use mathlib.Core.List.{List}
 use native.Mathlib.Omega.{arith}
 use borrow.Author.Tests.{ltb-false}
 use lib.Dec.{ltb}
 use Rattle.answer.specs.declared.Answer.{Answer}
 use Rattle.answer.specs.declared.Answer.the-variants.{Good, Refused}
-use Rattle.answer.specs.Answer.{_>>=_, refuse, isRefused, valueOf}
+use Rattle.answer.specs.Answer.{_>>=_, refuse, isRefused, valueOf, kept}
 use Rattle.truth.specs.Bools.{clash, neither}
 
 -- an answer is not both good and refused
@@ -68,6 +69,12 @@ pub parted : (a : Answer) (m : ℕ) (k : ℕ → Answer) → (a >>= k) ≡ Good 
 unfolding _>>=_
 parted (Good n) m k e = (n, refl, e)
 parted (Refused n p) m k e = good-refused m n p (sym e)
+
+-- lent bytes that stay as they were on success stay so in any case
+pub kept-same : (a : Answer) (new old : List ℕ) → new ≡ old → kept a new old ≡ old
+unfolding kept
+kept-same (Good n) new old e = e
+kept-same (Refused n p) new old e = refl
 
 -- four counts, none of them over its limit
 pub none-over : (a b c d k l m n : ℕ) → (ltb k a || ltb l b || ltb m c || ltb n d) ≡ false → (a ≤ k) × (b ≤ l) × (c ≤ m) × (d ≤ n)

@@ -7,3 +7,5 @@ pub mod Turns
 pub mod Bounds
 pub mod Refusals
 pub mod Entries
+pub mod Items
+pub mod Positions

@@ -1,15 +1,24 @@
--- Bounds of what each call answers, whatever the bytes: so number and place can be packed.
+-- Bounds of what each call answers, whatever the bytes: so number, position and place can be packed.
 use Prim.Native.Nat.{ℕ, zero, suc, _+_, _≤_, _<_}
-use mathlib.Core.Path.{_≡_, refl, ap}
+use mathlib.Core.Path.{_≡_, refl, sym, ap, subst}
+use mathlib.Core.Logic.{_⊎_, inl, inr}
+use mathlib.Core.Bool.{true, false}
 use mathlib.Core.List.{List, [], _∷_}
 use native.Mathlib.Omega.{arith}
 use lib.ListN.{length, length-map}
+use Rattle.truth.specs.Bools.{clash}
+use Rattle.answer.specs.declared.Answer.{Answer}
+use Rattle.answer.specs.declared.Answer.the-variants.{Good, Refused}
+use Rattle.answer.specs.declared.Positioned.{Positioned}
+use Rattle.answer.specs.Answer.{isRefused, number, unpositioned, thenAt}
+use Rattle.answer.specs.Laws.{passed, parted, bind-assoc}
+use Rattle.answer.specs.Positions.{then-answer}
 use Rattle.terms.specs.Sections.{sectionsOf}
 use Rattle.terms.specs.Schema.{Schema}
-use Rattle.limits.specs.Limits.{maxLength, maxMoves, maxSteps, maxEntries, stepSize, entrySize}
+use Rattle.limits.specs.Limits.{maxLength, maxMoves, maxSteps, maxStarts, maxEntries, stepSize, entrySize}
 use Rattle.format.specs.LookOver.{lookOver}
 use Rattle.format.specs.Decode.{RecordedStep, stateEnd, recordedStepsAt, stepsOfRecord, recordedStep}
-use Rattle.format.specs.Order.{stepCount, goalCount, goal, goalFrom}
+use Rattle.format.specs.Order.{stepCount, goalCount, goal, goalFrom, orderForm}
 use Rattle.answer.specs.Bounds.{Bounded, bounded-good, bounded-then, bounded-row, bounded-wider}
 use Rattle.format.proofs.LookOver.{look-over-good}
 use Rattle.lookover.proofs.Laws.{look-over-bounded}
@@ -20,13 +29,14 @@ use Rattle.model.specs.Judge.{wrong}
 use Rattle.model.specs.Learned.{conflicting}
 use Rattle.model.proofs.Quantify.{first-most, least-law}
 use Rattle.model.proofs.Lockstep.{run-within}
-use Rattle.jobs.specs.Planning.{domain, schemaOf, stepsOfBook, transitionsOf, startState, goalOf, planOf}
+use Rattle.jobs.specs.Planning.{domain, schemaOf, stepsOfBook, transitionsOf, startStates, goalOf, planOf}
 use Rattle.jobs.specs.Learn.{unboundEffects, conflictAnswer, conflictingMove, learnable, learn}
 use Rattle.jobs.specs.Add.{add}
-use Rattle.jobs.specs.Check.{planRun, orderRun, goalAnswer, runAnswer, check}
+use Rattle.jobs.specs.Check.{planRun, orderRun, goalAnswer, runAnswer, startAnswer, startsAnswer, beforePlan, check}
+use Rattle.jobs.proofs.Starts.{failing-all, failing-some, failing-position}
 use Rattle.wellformed.proofs.Headers.{moves-few}
 use Rattle.wellformed.proofs.Records.{recorded-somewhere}
-use Rattle.wellformed.proofs.Orders.{length-plan}
+use Rattle.wellformed.proofs.Orders.{length-plan, length-starts}
 use Rattle.format.proofs.OrderForm.{order-good, order-bounded}
 use Rattle.scan.specs.Scan.{Observable}
 use Rattle.scan.proofs.Observing.{record-observable}
@@ -103,26 +113,83 @@ plan-bounded s start plan goal steps few short least = go (planRun s start plan)
         reach zero h = omega arith
         reach (suc i) h = (omega arith, omega arith)
 
-check-bounded : (s o : List ℕ) (size : ℕ) → Bounded maxLength (check s o size)
-unfolding check orderRun
+-- ---- the position: that of a start, and of a refusal by 19 or 20
+start-bounded : (s o : List ℕ) (n : ℕ) (start : State) → orderForm (schemaOf s) o ≡ Good n → Bounded maxLength (startAnswer s o start)
+unfolding startAnswer orderRun
+start-bounded s o n start form =
+    let h = order-good (schemaOf s) o n form .header in
+    plan-bounded s start (planOf (schemaOf s) o) (goalOf o) (stepCount o) (h .steps) (rw (plan-count s o) (h .steps)) (rw (goal-count o) (h .entries))
+
+-- a start fails by 19 or 20
+start-row : (s o : List ℕ) (start : State) → isRefused (startAnswer s o start) ≡ true → (number (startAnswer s o start) ≡ 19) ⊎ (number (startAnswer s o start) ≡ 20)
+unfolding startAnswer runAnswer goalAnswer isRefused number
+start-row s o start e = go (orderRun s o start) e
+  where
+    go : (r : Run) → isRefused (runAnswer (stepCount o) (goalOf o) r) ≡ true → (number (runAnswer (stepCount o) (goalOf o) r) ≡ 19) ⊎ (number (runAnswer (stepCount o) (goalOf o) r) ≡ 20)
+    go (stopped k) e = inl refl
+    go (ended end) e = reach (first (wrong end) (goalOf o)) e
+      where
+        reach : (i : ℕ) → isRefused (goalAnswer (stepCount o) i) ≡ true → (number (goalAnswer (stepCount o) i) ≡ 19) ⊎ (number (goalAnswer (stepCount o) i) ≡ 20)
+        reach zero e = clash false e refl
+        reach (suc i) e = inr refl
+
+starts-bounded : (s o : List ℕ) (n : ℕ) → orderForm (schemaOf s) o ≡ Good n → Bounded maxLength (startsAnswer s o .answer) × (startsAnswer s o .position ≤ 1 + maxStarts)
+unfolding startsAnswer
+starts-bounded s o n form =
+    let h = order-good (schemaOf s) o n form .header in
+    let w = failing-position (startAnswer s o) (stepCount o) 1 (startStates o) in
+    (failing-all (startAnswer s o) (stepCount o) (Bounded maxLength) (bounded-good maxLength _ (omega (arith, h .steps))) 1 (startStates o) (λ start m. start-bounded s o n start form), omega (arith, w, length-starts o, h .starts))
+
+starts-row : (s o : List ℕ) → (startsAnswer s o .position ≡ 0) ⊎ ((number (startsAnswer s o .answer) ≡ 19) ⊎ (number (startsAnswer s o .answer) ≡ 20))
+unfolding startsAnswer
+starts-row s o = failing-some (startAnswer s o) (stepCount o) (λ a. (number a ≡ 19) ⊎ (number a ≡ 20)) (start-row s o) 1 (startStates o)
+
+-- what rows 1 to 18 let pass has an order of good form
+form-good : (s o : List ℕ) (size n : ℕ) → beforePlan s o size ≡ Good n → orderForm (schemaOf s) o ≡ Good n
+unfolding beforePlan
+form-good s o size n e = let (total, learns, rest) = parted (learnable s) n _ e in passed _ 13 0 n _ rest .1
+
+check-bounded : (s o : List ℕ) (size : ℕ) → Bounded maxLength (check s o size .answer)
+unfolding check beforePlan
 check-bounded s o size =
-    bounded-then maxLength _ _ (learnable-bounded s)
+    subst (λ (x : Answer). Bounded maxLength x) (sym (then-answer (beforePlan s o size) (startsAnswer s o)))
+    (subst (λ (x : Answer). Bounded maxLength x) (sym (bind-assoc (learnable s) _ _))
+    (bounded-then maxLength _ _ (learnable-bounded s)
     (λ total e l.
-    bounded-row maxLength _ 13 0 _ (omega arith) (omega arith)
+    subst (λ (x : Answer). Bounded maxLength x) (sym (bind-assoc _ _ _))
+    (bounded-row maxLength _ 13 0 _ (omega arith) (omega arith)
     (λ f.
     bounded-then maxLength _ _ (bounded-wider _ maxLength _ (omega arith) (order-bounded (schemaOf s) o))
-    (λ n i j.
-    let c = order-good (schemaOf s) o n i .header .counts in
-    plan-bounded s (startState o) (planOf (schemaOf s) o) (goalOf o) (stepCount o) (c .steps) (rw (plan-count s o) (c .steps)) (rw (goal-count o) (c .entries)))))
+    (λ n i j. starts-bounded s o n i .0))))))
 
-pub look-over-fits : (s : List ℕ) → Fits (lookOver s)
-look-over-fits s = fits-by maxLength _ (look-over-bounded s) (omega arith)
+abbrev Positions : Positioned → Type 0
+Positions r = (r .position ≤ 1 + maxStarts) × ((r .position ≡ 0) ⊎ ((number (r .answer) ≡ 19) ⊎ (number (r .answer) ≡ 20)))
 
-pub learn-fits : (s : List ℕ) (size : ℕ) → Fits (learn s size)
-learn-fits s size = fits-by maxLength _ (learn-bounded s size) (omega arith)
+-- the position of a check is that of one of at most 16 starts, and 0 unless by 19 or 20
+check-position : (s o : List ℕ) (size : ℕ) → Positions (check s o size)
+unfolding check thenAt unpositioned
+check-position s o size = go (beforePlan s o size) refl
+  where
+    go : (a : Answer) → beforePlan s o size ≡ a → Positions (thenAt a (startsAnswer s o))
+    go (Good n) e = (starts-bounded s o n (form-good s o size n e) .1, starts-row s o)
+    go (Refused m p) e = (omega arith, inl refl)
 
-pub check-fits : (s o : List ℕ) (size : ℕ) → Fits (check s o size)
-check-fits s o size = fits-by maxLength _ (check-bounded s o size) (omega arith)
+pub look-over-fits : (s : List ℕ) → Fits (lookOver s) 0
+look-over-fits s = fits-by maxLength _ 0 (look-over-bounded s) (omega arith) (omega arith)
 
-pub add-fits : (s r : List ℕ) (size : ℕ) → Fits (add s r size)
-add-fits s r size = fits-by maxLength _ (add-bounded s r size) (omega arith)
+pub learn-fits : (s : List ℕ) (size : ℕ) → Fits (learn s size) 0
+learn-fits s size = fits-by maxLength _ 0 (learn-bounded s size) (omega arith) (omega arith)
+
+pub check-fits : (s o : List ℕ) (size : ℕ) → Fits (check s o size .answer) (check s o size .position)
+check-fits s o size = fits-by maxLength _ _ (check-bounded s o size) (omega arith) (omega (arith, check-position s o size .0))
+
+pub check-elsewhere : (s o : List ℕ) (size : ℕ) → (number (check s o size .answer) ≡ 19 → ⊥) → (number (check s o size .answer) ≡ 20 → ⊥) → check s o size .position ≡ 0
+check-elsewhere s o size not19 not20 = go (check-position s o size .1)
+  where
+    go : (check s o size .position ≡ 0) ⊎ ((number (check s o size .answer) ≡ 19) ⊎ (number (check s o size .answer) ≡ 20)) → check s o size .position ≡ 0
+    go (inl e) = e
+    go (inr (inl e)) = absurd (not19 e)
+    go (inr (inr e)) = absurd (not20 e)
+
+pub add-fits : (s r : List ℕ) (size : ℕ) → Fits (add s r size) 0
+add-fits s r size = fits-by maxLength _ 0 (add-bounded s r size) (omega arith) (omega arith)

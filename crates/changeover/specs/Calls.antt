@@ -1,6 +1,6 @@
--- The promises of the calls for C, each for all inputs. `r` is what the call returns: `packed` of an answer is number times 2^48 plus place,
--- and the bounds say that the number and the place can be read back from it, with bits 32 to 47 zero.
-use Prim.Native.Nat.{ℕ, _<_}
+-- The promises of the calls for C, each for all inputs. `r` is what the call returns: `packed` of an answer and a position is number times
+-- 2^48, plus position times 2^32, plus place, and each of the three is read back from it.
+use Prim.Native.Nat.{ℕ, _/_, _%_, _<_}
 use mathlib.Core.Path.{_≡_}
 use mathlib.Core.List.{List}
 use lib.ListN.{length}
@@ -11,27 +11,33 @@ use Rattle.jobs.specs.Learn.{learn, learnBytes}
 use Rattle.jobs.specs.Check.{check, checkBytes}
 use Rattle.jobs.specs.Add.{add, addBytes}
 
--- the answer `a` stands in `r`, place and number apart
-pub record Says (a : Answer) (r : ℕ) : Type 0 where
-  pub packs : r ≡ packed a
+-- an answer about the start of an order at a position, or about none of them (0), stands in `r`: number, position and place apart
+pub record Says (a : Answer) (position r : ℕ) : Type 0 where
+  pub packs : r ≡ packed a position
   pub number-fits : number a < 65536
+  pub position-fits : position < 65536
   pub place-fits : place a < 4294967296
+  pub number-read : r / 281474976710656 ≡ number a
+  pub position-read : r / 4294967296 % 65536 ≡ position
+  pub place-read : r % 4294967296 ≡ place a
 
 -- looking over writes nothing
 abbrev pub LookedOver : List ℕ → ℕ → Type 0
-LookedOver book r = Says (lookOver book) r
+LookedOver book r = Says (lookOver book) 0 r
 
 -- learning: the answer, and every byte of the lent sheet afterwards
 pub record Learned (book old new : List ℕ) (r : ℕ) : Type 0 where
-  pub answer : Says (learn book (length old)) r
+  pub answer : Says (learn book (length old)) 0 r
   pub sheet : new ≡ learnBytes book old
 
--- checking: the answer, and every byte of the lent end sheet afterwards
+-- checking: the answer with its position, which is 0 unless by 19 or 20, and every byte of the lent end sheet afterwards
 pub record Checked (book order old new : List ℕ) (r : ℕ) : Type 0 where
-  pub answer : Says (check book order (length old)) r
+  pub answer : Says (check book order (length old) .answer) (check book order (length old) .position) r
+  pub elsewhere : (number (check book order (length old) .answer) ≡ 19 → ⊥) → (number (check book order (length old) .answer) ≡ 20 → ⊥)
+      → check book order (length old) .position ≡ 0
   pub end : new ≡ checkBytes book order old
 
 -- adding: the answer, and every byte of the lent output afterwards
 pub record Added (book record′ old new : List ℕ) (r : ℕ) : Type 0 where
-  pub answer : Says (add book record′ (length old)) r
+  pub answer : Says (add book record′ (length old)) 0 r
   pub out : new ≡ addBytes book record′ old

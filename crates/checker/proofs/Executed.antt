@@ -16,14 +16,14 @@ use Rattle.terms.specs.Schema.{Schema, TypedObjects}
 use Rattle.terms.specs.Steps.{objectOf, stepAt, argumentBad}
 use Rattle.limits.specs.Limits.{maxMoves, maxObjects, stepSize, observedSize}
 use Rattle.format.specs.LookOver.{lookOver}
-use Rattle.format.specs.Order.{GoalEntry, stepCount, stepsAt, orderForm, startFacts, goal, plan, planFrom}
+use Rattle.format.specs.Order.{GoalEntry, startCount, stepCount, startAt, stepsAt, orderForm, starts, goal, plan, planFrom}
 use Rattle.model.specs.Quantify.{Mem, here, there}
 use Rattle.model.specs.Domain.{Transition}
 use Rattle.model.specs.Learned.{learned}
 use Rattle.model.proofs.Impossible.{learned-consistent}
-use Rattle.jobs.specs.Planning.{domain, holding, schemaOf, stepsOfBook, transitionsOf, groundAction, goalEntry, startState, planOf, goalOf}
+use Rattle.jobs.specs.Planning.{domain, holding, schemaOf, stepsOfBook, transitionsOf, groundAction, goalEntry, startStates, planOf, goalOf}
 use Rattle.jobs.specs.Learn.{learnable, learnedFrom}
-use Rattle.jobs.specs.Check.{planRun, orderRun, runAnswer, endSheet}
+use Rattle.jobs.specs.Check.{planRun, orderRun, runAnswer, startAnswer, endSheet}
 use Rattle.observed.specs.Observed.{alwaysBefore, everBefore, added, deleted}
 use Rattle.observed.specs.Rules.{ruleSet}
 use Rattle.observed.specs.Seen.{Seen, inSet}
@@ -35,6 +35,7 @@ use Rattle.wellformed.proofs.Formed.{formed}
 use Rattle.terms.proofs.Atoms.{atom-below}
 use Rattle.wellformed.proofs.Atoms.{ground-below}
 use Rattle.wellformed.proofs.Suits.{object-most, move-known, argument-right}
+use Rattle.wellformed.proofs.Lists.{mem-map-in}
 use Rattle.wellformed.proofs.Orders.{order-right, start-under}
 use Rattle.wellformed.specs.Right.{RightStep, orderTyped, RightOrder}
 use Rattle.wellformed.proofs.Learnable.{inconsistentIn, learnable-inconsistent}
@@ -44,6 +45,7 @@ use Rattle.statemask.proofs.Plan.{execute-start, execute-answer, agrees-sheet}
 use Rattle.format.proofs.OrderForm.{order-good}
 use Rattle.execution.specs.Execution.{Executable}
 use Rattle.learner.specs.Learner.{observedOf}
+use Rattle.checker.specs.Checker.{executedFrom, answerFrom, StartsGood}
 
 -- the sets of a move's rules are its learned ones
 ruled : (sch : Schema) (ts : List Transition) (l : List ℕ) → Seen sch ts l → (a : ℕ) → 1 ≤ a → a ≤ 32 → Ruled (learned (domain sch) ts) a (ruleSet l a)
@@ -128,29 +130,40 @@ module _ (s : List ℕ) (n m : ℕ) (good : lookOver s ≡ Good n) (learns : lea
     right : RightOrder (schemaOf s) o
     right = order-right (schemaOf s) (right-schema s n good .falling) o k order
 
-    start-in-mask : Under (holding (startFacts o))
-    unfolding startState
-    start-in-mask f h = let size = relations-few s n good in start-under (schemaOf s) (right-schema s n good .falling) o k order f (omega arith)
+    start-in-mask : (start : List Fact) → Mem start (starts o) → Under (holding start)
+    unfolding startStates
+    start-in-mask start i f h =
+        let size = relations-few s n good in
+        start-under (schemaOf s) (right-schema s n good .falling) o k order (holding start) (mem-map-in holding (starts o) i) f (omega arith)
+
+    -- the starts are good, and end within the order
+    pub starts-good : StartsGood o (startCount o) (startAt o)
+    unfolding stepsAt
+    starts-good =
+        let g = order-good (schemaOf s) o k order in
+        record { sch = schemaOf s; ob = orderTyped o; good = g .starts; near = omega (arith, g .header .size, g .most); within = omega (arith, g .header .size) }
 
     pub executable : (l : List ℕ) → length l ≡ observedSize → Executable l o (stepCount o) (stepsAt o)
     unfolding plan
     executable l size =
-        let g = order-good (schemaOf s) o k order .header in
+        let g = order-good (schemaOf s) o k order in
         let st : ℕ → Step = λ i. stepAt o (stepsAt o + stepSize * i) in
         record {
-          end = omega (arith, g .size, g .most);
-          within = omega (arith, g .size);
+          end = omega (arith, g .header .size, g .most);
+          within = omega (arith, g .header .size);
           steppable = λ i h.
               let m = mem-plan o (stepCount o) (stepsAt o) i h in
               let (low, high) = moves-known (orderTyped o) (right .few) (plan o) (right .steps) (st i) m in
               record { size = size; counted = low; known = high; bounded = objects-few (orderTyped o) (right .few) (plan o) (right .steps) (st i) m };
         }
 
-    pub order-executed : runAnswer (stepCount o) (goalOf o) (orderRun s o) ≡ executedAnswer (stepCount o) (goal o) (execute (schemaOf s) (observedOf s .masks) (plan o) (startMask (startFacts o)) 1)
-    unfolding goalOf orderRun planOf startState
-    order-executed = plan-answer (orderTyped o) (right .few) (plan o) (right .steps) (startFacts o) start-in-mask (stepCount o) (goal o)
+    -- rows 19 and 20 from a start, and its end sheet where no step stops
+    module _ (start : List Fact) (i : Mem start (starts o)) where
+      pub start-executed : startAnswer s o (holding start) ≡ answerFrom (schemaOf s) (observedOf s .masks) o start
+      unfolding startAnswer orderRun goalOf planOf answerFrom executedFrom
+      start-executed = plan-answer (orderTyped o) (right .few) (plan o) (right .steps) start (start-in-mask start i) (stepCount o) (goal o)
 
-    pub order-sheet : execute (schemaOf s) (observedOf s .masks) (plan o) (startMask (startFacts o)) 1 .stop ≡ 0
-        → execute (schemaOf s) (observedOf s .masks) (plan o) (startMask (startFacts o)) 1 .mask ≡ endSheet (orderRun s o)
-    unfolding orderRun planOf startState
-    order-sheet = plan-sheet (orderTyped o) (right .few) (plan o) (right .steps) (startFacts o) start-in-mask
+      pub start-sheet : executedFrom (schemaOf s) (observedOf s .masks) o start .stop ≡ 0
+          → executedFrom (schemaOf s) (observedOf s .masks) o start .mask ≡ endSheet (orderRun s o (holding start))
+      unfolding orderRun planOf executedFrom
+      start-sheet = plan-sheet (orderTyped o) (right .few) (plan o) (right .steps) start (start-in-mask start i)

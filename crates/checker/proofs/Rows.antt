@@ -1,67 +1,50 @@
 -- The rows of a check one after the other, by what the calls return, and what the lent end sheet holds.
-use Prim.Native.Nat.{ℕ, zero, suc}
+use Prim.Native.Nat.{ℕ, _+_}
 use mathlib.Core.Path.{_≡_, refl, sym, ap, _∙_}
 use mathlib.Core.Bool.{Bool, true, false, not}
-use mathlib.Core.List.{List}
+use mathlib.Core.List.{List, [], _∷_}
 use lib.ListN.{length}
 use borrow.Author.Tests.{eq-eqb, ne-eqb}
 use Rattle.answer.specs.declared.Answer.{Answer}
 use Rattle.answer.specs.declared.Answer.the-variants.{Good, Refused}
-use Rattle.answer.specs.Answer.{_>>=_, refuse, isRefused, valueOf, kept}
-use Rattle.truth.specs.Bools.{clash}
-use Rattle.answer.specs.Laws.{good-refused, stays, bind-good, refuse-unmet}
+use Rattle.answer.specs.declared.Positioned.{Positioned}
+use Rattle.answer.specs.Answer.{_>>=_, refuse, isRefused, valueOf, unpositioned, thenAt, kept}
+use Rattle.answer.specs.Laws.{stays, bind-good, refuse-unmet}
 use Rattle.answer.specs.Turns.{is-good}
-use Rattle.limits.specs.Limits.{endSheetSize, observedSize}
+use Rattle.answer.specs.Positions.{then-refused, then-by}
+use Rattle.input.specs.Bytes.{two}
+use Rattle.limits.specs.Limits.{countSize, endSheetSize, observedSize}
 use Rattle.terms.specs.declared.Sections.{Sections}
+use Rattle.terms.specs.declared.Fact.{Fact}
 use Rattle.terms.specs.Sections.{sectionsOf}
 use Rattle.terms.specs.Schema.{Schema, schema}
 use Rattle.format.specs.LookOver.{lookOver}
-use Rattle.format.specs.Decode.{factsAt}
-use Rattle.format.specs.Order.{GoalEntry, startCount, startAt, stepCount, stepsAt, orderForm, startFacts, goal, plan}
-use Rattle.jobs.specs.Planning.{schemaOf}
+use Rattle.format.specs.Decode.{factsAt, stateAt}
+use Rattle.format.specs.Order.{startCount, startAt, stepCount, stepsAt, orderForm, starts, goal, plan}
+use Rattle.model.specs.Quantify.{here}
+use Rattle.jobs.specs.Planning.{schemaOf, holding, startStates}
 use Rattle.jobs.specs.Learn.{learnable}
-use Rattle.jobs.specs.Check.{orderRun, check, endSheet, checkBytes}
-use Rattle.statemask.specs.Statemask.{Executed, execute, startMask}
-use Rattle.statemask.specs.Executing.{executedAnswer}
+use Rattle.jobs.specs.Check.{orderRun, startAnswer, firstFailing, startsAnswer, beforePlan, check, endSheet, endAfter, checkBytes}
+use Rattle.jobs.proofs.Starts.{failing-same, failing-map, end-map}
+use Rattle.statemask.specs.Statemask.{execute, startMask}
 use Rattle.execution.specs.Execution.{Executable}
 use Rattle.learner.specs.Learner.{observedOf, BookObserved}
 use Rattle.learner.proofs.Book.{schema-own, form-good}
-use Rattle.checker.specs.Checker.{PlanExecuted, RunOutcome, fromOrder, Ready, OrderOutcome, CheckOutcome}
-use Rattle.checker.proofs.Executed.{executable, order-executed, order-sheet}
+use Rattle.checker.specs.Checker.{PlanExecuted, executedFrom, answerFrom, StartsGood, answerEach, StartsOutcome, fromOrder, Ready, OrderOutcome, CheckOutcome}
+use Rattle.checker.proofs.Laws.{refused-kept}
+use Rattle.checker.proofs.Executed.{executable, starts-good, start-executed, start-sheet}
+use Rattle.checker.proofs.Starts.{only-stops}
 
--- a refusal leaves the sheet as it was
-refused-kept : (a r : Answer) (new old : List ℕ) → r ≡ a → isRefused r ≡ true → old ≡ kept a new old
-unfolding kept isRefused
-refused-kept a (Good n) new old e f = clash false f refl
-refused-kept a (Refused n p) new old e f = rw (← e)
+-- the start as the code reads it
+pub start-by : (o : List ℕ) (n at : ℕ) {m : List ℕ} → n ≡ two o at → m ≡ startMask (factsAt o n (at + countSize)) → m ≡ startMask (stateAt o at)
+unfolding stateAt
+start-by o n at p e = rw p at e
 
--- the start facts as the code reads them
-pub start-by : (o : List ℕ) (n at : ℕ) {m : List ℕ} → n ≡ startCount o → at ≡ startAt o → m ≡ startMask (factsAt o n at) → m ≡ startMask (startFacts o)
-unfolding startFacts
-start-by o n at p q e = rw (p, q) at e
-
--- ---- rows 19 and 20
--- masks that come to a good answer have not stopped
-executed-ends : (c : Executed) (steps : ℕ) (goals : List GoalEntry) (m : ℕ) → executedAnswer steps goals c ≡ Good m → c .stop ≡ 0
-unfolding executedAnswer
-executed-ends c steps goals m e = go (c .stop) refl
-  where
-    go : (k : ℕ) → c .stop ≡ k → k ≡ 0
-    go zero h = refl
-    go (suc k) h = good-refused m 19 (suc k) (sym (rw h at e))
-
-module _ (sch : Schema) (l o old state new : List ℕ) (r : Answer) (b : Bool) (start : state ≡ startMask (startFacts o))
-    (out : PlanExecuted (execute sch l (plan o) state 1) (stepCount o) (goal o) new r) (told : b ≡ isRefused r) where
-  own-out : PlanExecuted (execute sch l (plan o) (startMask (startFacts o)) 1) (stepCount o) (goal o) new r
-  own-out = rw start at out
-
-  pub at-plan : b ≡ true → RunOutcome (execute sch l (plan o) (startMask (startFacts o)) 1) o old old r
-  at-plan e = record { says = own-out .says; bytes = refused-kept r r _ old refl (sym told ∙ e) }
-
-  -- a pass: the sheet is the mask
-  pub at-end : b ≡ false → (sheet : List ℕ) → sheet ≡ new → RunOutcome (execute sch l (plan o) (startMask (startFacts o)) 1) o old sheet r
-  unfolding kept
-  at-end e sheet f = record { says = own-out .says; bytes = rw (is-good r (sym told ∙ e)) (f ∙ own-out .mask) }
+-- rows 19 and 20 from it
+pub answer-by : (sch : Schema) (l o state new : List ℕ) (start : List Fact) (r : Answer) → state ≡ startMask start
+    → PlanExecuted (execute sch l (plan o) state 1) (stepCount o) (goal o) new r → r ≡ answerFrom sch l o start
+unfolding answerFrom executedFrom
+answer-by sch l o state new start r e out = rw e at (out .says)
 
 -- ---- rows 14 to 20
 module _ (s o old : List ℕ) (h : Sections) (observed : List ℕ) (ready : Ready s h observed old) (a : Answer) (b : Bool) (form : a ≡ orderForm (schema h s) o) (told : b ≡ isRefused a) where
@@ -69,11 +52,11 @@ module _ (s o old : List ℕ) (h : Sections) (observed : List ℕ) (ready : Read
   form-own = rw (schema-own s h (ready .own)) at form
 
   -- rows 14 to 18
-  pub at-order : b ≡ true → OrderOutcome s o old old a
-  unfolding fromOrder
-  at-order r =
-      let says : a ≡ fromOrder s o = form-own ∙ stays (orderForm (schemaOf s) o) _ (sym (ap isRefused form-own) ∙ sym told ∙ r) in
-      record { says = says; bytes = refused-kept _ a _ old says (sym told ∙ r) }
+  pub at-order : b ≡ true → (p : Positioned) → p ≡ unpositioned a → OrderOutcome s o old old p
+  unfolding fromOrder unpositioned
+  at-order r p q =
+      let says : p ≡ fromOrder s o = q ∙ ap unpositioned form-own ∙ then-refused (orderForm (schemaOf s) o) _ (sym (ap isRefused form-own) ∙ sym told ∙ r) in
+      record { says = says; bytes = refused-kept _ a _ old (sym (ap (λ (x : Positioned). x .answer) q) ∙ ap (λ (x : Positioned). x .answer) says) (sym told ∙ r) }
 
   module _ (passed : b ≡ false) where
     formed : (n : ℕ) × (lookOver s ≡ Good n)
@@ -85,25 +68,48 @@ module _ (s o old : List ℕ) (h : Sections) (observed : List ℕ) (ready : Read
     pub order-executable : Executable observed o (stepCount o) (stepsAt o)
     order-executable = executable s (formed .0) _ (formed .1) (ready .learns) o _ order observed (ready .room)
 
-    module _ (new : List ℕ) (r : Answer) (out : RunOutcome (execute (schema h s) observed (plan o) (startMask (startFacts o)) 1) o old new r) where
-      abbrev own : Executed
-      own = execute (schemaOf s) (observedOf s .masks) (plan o) (startMask (startFacts o)) 1
+    pub order-starts : StartsGood o (startCount o) (startAt o)
+    order-starts = starts-good s (formed .0) _ (formed .1) (ready .learns) o _ order
 
-      ran : RunOutcome own o old new r
+    module _ (new : List ℕ) (r : Positioned) (out : StartsOutcome (schema h s) observed o old new r) where
+      ran : StartsOutcome (schemaOf s) (observedOf s .masks) o old new r
       ran = rw (schema-own s h (ready .own), ready .observes) at out
+
+      -- masks answer from each start as the learned model does
+      each-start : answerEach (schemaOf s) (observedOf s .masks) o ≡ startsAnswer s o
+      unfolding answerEach startsAnswer startStates
+      each-start =
+          failing-same (answerFrom (schemaOf s) (observedOf s .masks) o) (λ start. startAnswer s o (holding start)) (stepCount o) 1 (starts o)
+          (λ start m. sym (start-executed s (formed .0) _ (formed .1) (ready .learns) o _ order start m))
+          ∙ sym (failing-map holding (startAnswer s o) (stepCount o) 1 (starts o))
 
       says : r ≡ fromOrder s o
       unfolding fromOrder
-      says = ran .says ∙ sym (order-executed s (formed .0) _ (formed .1) (ready .learns) o _ order) ∙ sym (bind-good _ _ _ order)
+      says = ran .says ∙ each-start ∙ sym (then-by _ _ _ order)
 
-      -- rows 19 and 20: the mask is asked only where no step stops
-      kept-sheet : (x : Answer) → x ≡ executedAnswer (stepCount o) (goal o) own → kept x (own .mask) old ≡ kept x (endSheet (orderRun s o)) old
-      unfolding kept
-      kept-sheet (Good m) e = order-sheet s (formed .0) _ (formed .1) (ready .learns) o _ order (executed-ends own (stepCount o) (goal o) m (sym e))
-      kept-sheet (Refused m p) e = refl
+      abbrev mask : List Fact → List ℕ
+      mask start = executedFrom (schemaOf s) (observedOf s .masks) o start .mask
+
+      -- the mask of the only start is its end sheet, where no step stops
+      kept-sheet : (xs : List (List Fact)) → starts o ≡ xs → (x : Answer) → x ≡ firstFailing (answerFrom (schemaOf s) (observedOf s .masks) o) (stepCount o) 1 xs .answer
+          → kept x (endAfter mask xs old) old ≡ kept x (endAfter (λ start. endSheet (orderRun s o (holding start))) xs old) old
+      unfolding kept endAfter
+      kept-sheet [] e x w = refl
+      kept-sheet (start ∷ other ∷ rest) e x w = refl
+      kept-sheet (start ∷ []) e (Refused m p) w = refl
+      kept-sheet (start ∷ []) e (Good m) w =
+          start-sheet s (formed .0) _ (formed .1) (ready .learns) o _ order start (rw e here) (only-stops (schemaOf s) (observedOf s .masks) o start m (sym w))
 
       pub at-run : OrderOutcome s o old new r
-      at-run = record { says = says; bytes = rw (← says) (ran .bytes ∙ kept-sheet r (ran .says)) }
+      unfolding answerEach startStates
+      at-run =
+          record {
+            says = says;
+            bytes =
+                ran .bytes
+                ∙ kept-sheet (starts o) refl (r .answer) (ap (λ (x : Positioned). x .answer) (ran .says))
+                ∙ rw (says, end-map holding (λ start. endSheet (orderRun s o start)) (starts o) old);
+          }
 
 -- ---- the whole check
 module _ (s observed : List ℕ) (a : Answer) (b : Bool) (noted : BookObserved s observed a) (told : b ≡ isRefused a) where
@@ -116,22 +122,24 @@ module _ (s observed : List ℕ) (a : Answer) (b : Bool) (noted : BookObserved s
 
   module _ (o old : List ℕ) where
     -- rows 1 to 12
-    pub at-book : b ≡ true → CheckOutcome s o old old a
-    unfolding check checkBytes
-    at-book r =
-        let says : a ≡ check s o (length old) = noted .says ∙ stays (learnable s) _ (sym (ap isRefused (noted .says)) ∙ sym told ∙ r) in
-        record { says = says; bytes = refused-kept _ a _ old says (sym told ∙ r) }
+    pub at-book : b ≡ true → (p : Positioned) → p ≡ unpositioned a → CheckOutcome s o old old p
+    unfolding check checkBytes beforePlan unpositioned
+    at-book r p q =
+        let before : a ≡ beforePlan s o (length old) = noted .says ∙ stays (learnable s) _ (sym (ap isRefused (noted .says)) ∙ sym told ∙ r) in
+        let says : p ≡ check s o (length old) = q ∙ ap unpositioned before ∙ then-refused (beforePlan s o (length old)) _ (sym (ap isRefused before) ∙ sym told ∙ r) in
+        record { says = says; bytes = refused-kept _ a _ old (sym (ap (λ (x : Positioned). x .answer) q) ∙ ap (λ (x : Positioned). x .answer) says) (sym told ∙ r) }
 
     -- row 13
-    pub at-size : b ≡ false → (length old ≡ endSheetSize → ⊥) → CheckOutcome s o old old (Refused 13 0)
-    unfolding check checkBytes refuse _>>=_ isRefused
-    at-size passed h =
-        let says : Refused 13 0 ≡ check s o (length old) = rw (learns passed, ne-eqb (length old) endSheetSize h) in
-        record { says = says; bytes = refused-kept _ (Refused 13 0) _ old says refl }
+    pub at-size : b ≡ false → (length old ≡ endSheetSize → ⊥) → (p : Positioned) → p ≡ unpositioned (Refused 13 0) → CheckOutcome s o old old p
+    unfolding check checkBytes beforePlan refuse _>>=_ thenAt isRefused unpositioned
+    at-size passed h p q =
+        let says : p ≡ check s o (length old) = rw (q, learns passed, ne-eqb (length old) endSheetSize h) in
+        record { says = says; bytes = refused-kept _ (Refused 13 0) _ old (sym (ap (λ (x : Positioned). x .answer) q) ∙ ap (λ (x : Positioned). x .answer) says) refl }
 
     -- rows 14 to 20
-    pub at-rest : b ≡ false → length old ≡ endSheetSize → (new : List ℕ) (r : Answer) → OrderOutcome s o old new r → CheckOutcome s o old new r
-    unfolding check fromOrder checkBytes
+    pub at-rest : b ≡ false → length old ≡ endSheetSize → (new : List ℕ) (r : Positioned) → OrderOutcome s o old new r → CheckOutcome s o old new r
+    unfolding check beforePlan fromOrder checkBytes
     at-rest passed size new r out =
-        let rest : check s o (length old) ≡ fromOrder s o = bind-good _ _ _ (learns passed) ∙ refuse-unmet _ 13 0 _ (ap not (eq-eqb (length old) endSheetSize size)) in
+        let rest : check s o (length old) ≡ fromOrder s o =
+        ap (λ (x : Answer). thenAt x (startsAnswer s o)) (bind-good _ _ _ (learns passed) ∙ refuse-unmet _ 13 0 _ (ap not (eq-eqb (length old) endSheetSize size))) in
         record { says = out .says ∙ sym rest; bytes = rw rest (out .bytes) }

@@ -1,19 +1,22 @@
-// Checking a plan: the book's rows 1 to 12 as in learning, row 13 for the end sheet, the order's rows 14 to 18, then the plan and its goal.
-// Uses learner, orderhead, orders, execution, output, answer, terms and limits, and the definitions of format and statemask. The state is a
-// local mask, so that a refusal leaves the lent sheet untouched.
+// Checking a plan: the book's rows 1 to 12 as in learning, row 13 for the end sheet, the order's rows 14 to 18, then the plan and its goal
+// from each start. The book is learned once, whatever the number of starts.
+// Uses learner, orderhead, orders, states, execution, input, output, answer, terms and limits, and the definitions of format and statemask.
+// The state is a local mask, so that a refusal leaves the lent sheet untouched.
 use answer::Answer;
+use answer::Positioned;
 use terms::Sections;
 ghost use mathlib.Core.Path.{_≡_};
 ghost use Prim.Native.Nat.{_≤_};
 ghost use lib.ListN.{length};
-ghost use Rattle.limits.specs.Limits.{endSheetSize};
+ghost use Rattle.limits.specs.Limits.{maxLength, endSheetSize};
 ghost use Rattle.terms.specs.Schema.{schema};
-ghost use Rattle.format.specs.Order.{goalAt, stepCount, stepsAt, startFacts, goal, plan};
+ghost use Rattle.format.specs.Decode.{stateAt, stateEnd};
+ghost use Rattle.format.specs.Order.{startCount, startAt, stepCount, stepsAt, goal, plan};
 ghost use Rattle.statemask.specs.Statemask.{startMask, execute};
 ghost use Rattle.execution.specs.Execution.{Executable};
-ghost use Rattle.checker.specs.Checker.{PlanExecuted, RunOutcome, Ready, OrderOutcome, CheckOutcome};
+ghost use Rattle.checker.specs.Checker.{PlanExecuted, answerFrom, StartsGood, answerEach, StartsOutcome, Ready, OrderOutcome, CheckOutcome};
 
-// Rows 19 and 20, from the state of the start facts on.
+// Rows 19 and 20, from a state on.
 fn execute_plan(
     book: &[u8],
     h: Sections,
@@ -49,55 +52,97 @@ fn write_end(end: &mut [u8], state: [u8; limits::STATE_SIZE])
     output::write_bytes(end, 0, &state);
 }
 
-// The state of the start facts.
-fn start_of(o: &[u8]) -> [u8; limits::STATE_SIZE]
-    requires { ⌜ goalAt (now o) ≤ length (now o) ⌝ }
-    ensures { λ r. ⌜ r ≡ startMask (startFacts (now (o .entry))) ⌝ }
+// The state of the start at an offset.
+fn start_of(o: &[u8], at: usize) -> [u8; limits::STATE_SIZE]
+    requires { ⌜ (stateEnd (now o) at ≤ maxLength) × (stateEnd (now o) at ≤ length (now o)) ⌝ }
+    ensures { λ r. ⌜ r ≡ startMask (stateAt (now (o .entry)) at) ⌝ }
 {
-    execution::start_mask(
-        o,
-        orderhead::start_count(o) as usize,
-        orderhead::start_at(o),
-    )
+    execution::start_mask(o, input::two_at(o, at) as usize, at + limits::COUNT_SIZE)
 }
 
-// Rows 19 and 20 from the start facts on; where neither is met, the end sheet.
-fn run_order(book: &[u8], h: Sections, observed: &[u8], o: &[u8], end: &mut [u8]) -> Answer
-    requires { ⌜ Executable (now observed) (now o) (stepCount (now o)) (stepsAt (now o)) × (length (now end) ≡ endSheetSize) ⌝ }
-    ensures { λ r. ⌜ RunOutcome (execute (schema h (now (book .entry))) (now (observed .entry)) (plan (now (o .entry))) (startMask (startFacts (now (o .entry)))) 1) (now (o .entry)) (now (end .entry)) (now (end .exit)) r ⌝ }
+// Rows 19 and 20 from the start at an offset.
+fn run_start(book: &[u8], h: Sections, observed: &[u8], o: &[u8], at: usize) -> Answer
+    requires { ⌜ Executable (now observed) (now o) (stepCount (now o)) (stepsAt (now o)) × (stateEnd (now o) at ≤ maxLength) × (stateEnd (now o) at ≤ length (now o)) ⌝ }
+    ensures { λ r. ⌜ r ≡ answerFrom (schema h (now (book .entry))) (now (observed .entry)) (now (o .entry)) (stateAt (now (o .entry)) at) ⌝ }
 {
-    let mut state = start_of(o);
+    let mut state = start_of(o, at);
+    execute_plan(book, h, observed, o, &mut state)
+}
+
+// Rows 19 and 20 from each start: the first that fails, and its position.
+fn run_each(book: &[u8], h: Sections, observed: &[u8], o: &[u8]) -> Positioned
+    requires { ⌜ Executable (now observed) (now o) (stepCount (now o)) (stepsAt (now o)) × StartsGood (now o) (startCount (now o)) (startAt (now o)) ⌝ }
+    ensures { λ r. ⌜ r ≡ answerEach (schema h (now (book .entry))) (now (observed .entry)) (now (o .entry)) ⌝ }
+{
+    let mut left = orderhead::start_count(o);
+    let mut at = orderhead::start_at(o);
+    let mut k: usize = 1;
+    while 0 < left {
+        let a = run_start(book, h, observed, o, at);
+        if answer::is_refused(a) {
+            return Positioned {
+                answer: a,
+                position: k,
+            };
+        }
+        at = states::state_end(o, at);
+        k += 1;
+        left -= 1;
+    }
+    answer::unpositioned(Answer::Good(orderhead::step_count(o) as usize))
+}
+
+// Rows 19 and 20 from the only start; where neither is met, the end sheet.
+fn run_only(book: &[u8], h: Sections, observed: &[u8], o: &[u8], end: &mut [u8]) -> Positioned
+    requires { ⌜ Executable (now observed) (now o) (stepCount (now o)) (stepsAt (now o)) × StartsGood (now o) (startCount (now o)) (startAt (now o)) × (startCount (now o) ≡ 1) × (length (now end) ≡ endSheetSize) ⌝ }
+    ensures { λ r. ⌜ StartsOutcome (schema h (now (book .entry))) (now (observed .entry)) (now (o .entry)) (now (end .entry)) (now (end .exit)) r ⌝ }
+{
+    let mut state = start_of(o, orderhead::start_at(o));
     let a = execute_plan(book, h, observed, o, &mut state);
     if answer::is_refused(a) {
-        return a;
+        return Positioned {
+            answer: a,
+            position: 1,
+        };
     }
     write_end(end, state);
-    a
+    answer::unpositioned(a)
+}
+
+// Rows 19 and 20. With more than one start the end sheet is not written.
+fn run_order(book: &[u8], h: Sections, observed: &[u8], o: &[u8], end: &mut [u8]) -> Positioned
+    requires { ⌜ Executable (now observed) (now o) (stepCount (now o)) (stepsAt (now o)) × StartsGood (now o) (startCount (now o)) (startAt (now o)) × (length (now end) ≡ endSheetSize) ⌝ }
+    ensures { λ r. ⌜ StartsOutcome (schema h (now (book .entry))) (now (observed .entry)) (now (o .entry)) (now (end .entry)) (now (end .exit)) r ⌝ }
+{
+    if orderhead::start_count(o) == 1 {
+        return run_only(book, h, observed, o, end);
+    }
+    run_each(book, h, observed, o)
 }
 
 // Rows 14 to 20 for a book that learns, with an end sheet of its size.
-fn check_order(s: &[u8], h: Sections, observed: &[u8], o: &[u8], end: &mut [u8]) -> Answer
+fn check_order(s: &[u8], h: Sections, observed: &[u8], o: &[u8], end: &mut [u8]) -> Positioned
     requires { ⌜ Ready (now s) h (now observed) (now end) ⌝ }
     ensures { λ r. ⌜ OrderOutcome (now (s .entry)) (now (o .entry)) (now (end .entry)) (now (end .exit)) r ⌝ }
 {
     let a = orders::order_form(s, h, o);
     if answer::is_refused(a) {
-        return a;
+        return answer::unpositioned(a);
     }
     run_order(s, h, observed, o, end)
 }
 
-pub fn check(s: &[u8], o: &[u8], end: &mut [u8]) -> Answer
+pub fn check(s: &[u8], o: &[u8], end: &mut [u8]) -> Positioned
     ensures { λ r. ⌜ CheckOutcome (now (s .entry)) (now (o .entry)) (now (end .entry)) (now (end .exit)) r ⌝ }
 {
     let h = Sections::read(s);
     let mut observed = [0u8; limits::OBSERVED_SIZE];
     let a = learner::observe_book(s, h, &mut observed);
     if answer::is_refused(a) {
-        return a;
+        return answer::unpositioned(a);
     }
     if end.len() != limits::END_SHEET_SIZE {
-        return Answer::Refused(13, 0);
+        return answer::unpositioned(Answer::Refused(13, 0));
     }
     check_order(s, h, &observed, o, end)
 }

@@ -1,87 +1,68 @@
--- Demand 3, proved: bytes of good form meet the hypotheses of `model`, whose verdict theorem does the rest.
-use Prim.Native.Nat.{ℕ, zero, suc, _*_, _≤_, _<_}
+-- Demand 3, proved: bytes of good form meet the hypotheses of `model`, whose verdict theorem says what the plan comes to from each start.
+-- The check's answer is then that of the first start that fails.
+use Prim.Native.Nat.{ℕ, suc, _+_, _*_, _≤_, _<_}
 use mathlib.Core.Path.{_≡_, refl, sym, ap, _∙_, subst}
 use mathlib.Core.Logic.{_⊎_, inl, inr, _↔_}
 use mathlib.Core.Bool.{true, false}
-use mathlib.Core.List.{List}
+use mathlib.Core.List.{List, [], _∷_, _++_}
 use native.Mathlib.Omega.{arith}
 use lib.ListN.{length}
-use Rattle.limits.specs.Limits.{stateSize, endSheetSize, maxFactNumbers}
+use Rattle.limits.specs.Limits.{stateSize, endSheetSize, maxFactNumbers, maxStarts}
 use Rattle.answer.specs.declared.Answer.{Answer}
 use Rattle.answer.specs.declared.Answer.the-variants.{Good, Refused}
-use Rattle.answer.specs.Answer.{_>>=_, number, place, kept}
+use Rattle.answer.specs.declared.Positioned.{Positioned}
+use Rattle.answer.specs.Answer.{_>>=_, isRefused, number, unpositioned, kept}
 use Rattle.truth.specs.Bools.{clash, decide, is-true}
-use Rattle.answer.specs.Laws.{bind-good, bind-refused, refuse-unmet}
+use Rattle.answer.specs.Laws.{kept-same, bind-good, bind-refused, bind-assoc, refuse-unmet}
+use Rattle.answer.specs.Positions.{then-refused, then-by, then-answer}
 use Rattle.answer.specs.Table.{table, rowFrom, row, upTo, MetFrom}
-use Rattle.answer.specs.Refusals.{from-earlier, from-good, from-refused, from-row, from-bind}
+use Rattle.answer.specs.Refusals.{from-earlier, from-good, from-row, from-bind}
 use Rattle.mask.proofs.Whole.{length-maskOf, test-maskOf}
 use Rattle.format.specs.LookOver.{lookOver}
 use Rattle.format.specs.Order.{stepCount, orderForm}
-use Rattle.model.specs.Quantify.{Mem, first}
+use Rattle.model.specs.Quantify.{Mem, here, first}
 use Rattle.model.specs.Domain.{State, GroundAction, GoalLiteral}
-use Rattle.model.specs.Model.{Run, stopped, ended}
-use Rattle.model.specs.Judge.{Verdict, impossible, passes, wrong}
-use Rattle.model.specs.Check.{reached, judgedRun, checked}
+use Rattle.model.specs.Judge.{Verdict, impossible, passes}
+use Rattle.model.specs.Check.{judgedRun, checked}
 use Rattle.model.specs.Formed.{Grounded}
 use Rattle.model.proofs.Judge.{unique}
 use Rattle.model.proofs.Impossible.{learned-valid}
 use Rattle.model.specs.Exact.{Exact}
 use Rattle.model.proofs.Exact.{checked-run, exact}
-use Rattle.jobs.specs.Planning.{domain, schemaOf, transitionsOf, startState, planOf, goalOf}
+use Rattle.jobs.specs.Planning.{domain, schemaOf, transitionsOf, startStates, planOf, goalOf}
 use Rattle.jobs.specs.Learn.{learnable, learnedFrom, learn}
-use Rattle.jobs.specs.Check.{planRun, orderRun, goalAnswer, runAnswer, check, endSheet, checkBytes}
-use Rattle.jobs.specs.Judge.{FitsBook, BookVerdict, OrderVerdict}
-use Rattle.format.proofs.OrderForm.{order-met}
-use Rattle.wellformed.proofs.Headers.{right-schema}
-use Rattle.wellformed.proofs.Headers.{relations-few}
+use Rattle.jobs.specs.Check.{planRun, orderRun, runAnswer, startAnswer, startsAnswer, beforePlan, check, endSheet, endAfter, checkBytes}
+use Rattle.jobs.proofs.Starts.{failing-none, failing-later}
+use Rattle.jobs.specs.Judge.{FitsBook, BookVerdict, StartVerdict}
+use Rattle.format.proofs.OrderForm.{order-good, order-met}
+use Rattle.wellformed.proofs.Headers.{right-schema, relations-few}
 use Rattle.wellformed.proofs.Formed.{formed}
-use Rattle.wellformed.proofs.Orders.{grounded, plan-under, start-under}
+use Rattle.wellformed.proofs.Orders.{grounded, plan-under, length-starts, start-under}
 use Rattle.wellformed.proofs.Ends.{Under, run-under}
 use Rattle.wellformed.proofs.Learnable.{inconsistentIn, learnable-clean, learnable-inconsistent}
-use Rattle.demand.specs.Demand3.{NoneFits, Impossible, Answers, Shows, Demand3}
+use Rattle.demand.proofs.Failing.{comes, pass-comes, AllRunsPass, from-failing, failing-answers, past, none-fails, all-pass}
+use Rattle.demand.specs.Demand3.{NoneFits, Impossible, Answers, AllPass, Decides, Shows, Demand3}
 
--- ---- answers and verdicts
+-- ---- answers
 refused-impossible : (a : Answer) (num p : ℕ) → a ≡ Refused num p → (num ≡ 11) ⊎ (num ≡ 12) → Impossible a
 unfolding number
 refused-impossible a num p e h = rw e h
 
+-- neither 11 nor 12 is 0
+not-passed : (a : Answer) → Impossible a → number a ≡ 0 → ⊥
+not-passed a (inl e) z = omega arith
+not-passed a (inr e) z = omega arith
+
 -- an answer that refuses only with later rows is not 11 or 12
 late : (a : Answer) → MetFrom 13 a → Impossible a → ⊥
 unfolding number table rowFrom row upTo
-late (Good n) from (inl e) = omega arith
-late (Good n) from (inr e) = omega arith
+late (Good n) from h = not-passed (Good n) h refl
 late (Refused num p) from (inl e) = clash (upTo 13 11) (rw e at (from num p refl)) refl
 late (Refused num p) from (inr e) = clash (upTo 13 12) (rw e at (from num p refl)) refl
 
--- what a run comes to as an answer is what it comes to as a verdict
-run-answers : (steps : ℕ) (goal : List GoalLiteral) (r : Run) → Answers steps (judgedRun goal r) (runAnswer steps goal r)
-unfolding judgedRun reached runAnswer goalAnswer number place
-run-answers steps goal (stopped k) = (refl, refl)
-run-answers steps goal (ended end) = go (first (wrong end) goal)
-  where
-    go : (i : ℕ) → Answers steps (reached end i) (goalAnswer steps i)
-    go zero = (refl, refl)
-    go (suc i) = (refl, refl)
-
-from-run : (steps : ℕ) (goal : List GoalLiteral) (r : Run) → MetFrom 13 (runAnswer steps goal r)
-unfolding runAnswer goalAnswer table rowFrom row upTo
-from-run steps goal (stopped k) = from-refused 13 19 k refl
-from-run steps goal (ended end) = go (first (wrong end) goal)
-  where
-    go : (i : ℕ) → MetFrom 13 (goalAnswer steps i)
-    go zero = from-good 13 steps
-    go (suc i) = from-refused 13 20 (suc i) refl
-
--- a run that comes to a pass ended there, and its answer is good
-pass-run : (steps : ℕ) (goal : List GoalLiteral) (r : Run) (end : State) → judgedRun goal r ≡ passes end
-    → (r ≡ ended end) × (runAnswer steps goal r ≡ Good steps)
-unfolding judgedRun reached runAnswer goalAnswer
-pass-run steps goal (stopped k) end e = absurd (let z : _≡_ {A = ℕ} 0 1 = cc in omega arith)
-pass-run steps goal (ended st) end e = go (first (wrong st) goal) e
-  where
-    go : (i : ℕ) → reached st i ≡ passes end → (ended st ≡ ended end) × (goalAnswer steps i ≡ Good steps)
-    go zero h = (let z : st ≡ end = cc in ap ended z, refl)
-    go (suc i) h = absurd (let z : _≡_ {A = ℕ} 0 1 = cc in omega arith)
+some-member : {A : Type 0} (xs : List A) → 1 ≤ length xs → (x : A) × Mem x xs
+some-member [] l = absurd (omega arith)
+some-member (x ∷ xs) l = (x, here)
 
 module _ (s : List ℕ) (n : ℕ) (good : lookOver s ≡ Good n) where
   judge : Exact (domain (schemaOf s)) (FitsBook s) (inconsistentIn s) (checked (domain (schemaOf s)) (transitionsOf s))
@@ -101,12 +82,21 @@ module _ (s : List ℕ) (n : ℕ) (good : lookOver s ≡ Good n) where
   unfolding learn table rowFrom row upTo
   learning size = exactly (learn s size) _ refl (from-row 13 _ 13 0 _ refl (from-good 13 n))
 
-  checking : (o : List ℕ) (size : ℕ) → Impossible (check s o size) ↔ NoneFits s
-  unfolding check table rowFrom row upTo
-  checking o size =
-      exactly (check s o size) _ refl
-      (from-row 13 _ 13 0 _ refl
-      (from-bind 13 _ _ (from-earlier 13 14 _ refl (order-met (schemaOf s) o)) (λ y. from-run (stepCount o) (goalOf o) (orderRun s o))))
+  module _ (o : List ℕ) (size : ℕ) where
+    checking : Impossible (check s o size .answer) ↔ NoneFits s
+    unfolding check beforePlan startsAnswer startAnswer table rowFrom row upTo
+    checking =
+        exactly (check s o size .answer) _ (then-answer (beforePlan s o size) (startsAnswer s o) ∙ bind-assoc (learnable s) _ _)
+        (from-bind 13 _ _ (from-row 13 _ 13 0 _ refl (from-earlier 13 14 _ refl (order-met (schemaOf s) o)))
+        (λ y. from-failing (stepCount o) (goalOf o) (orderRun s o) 1 (startStates o)))
+
+    -- and where checking answers so, it is about no start
+    inconsistent-check : inconsistentIn s ≡ true → Impossible (check s o size .answer) × (check s o size .position ≡ 0)
+    unfolding check beforePlan unpositioned isRefused
+    inconsistent-check e =
+        let (num, p, q, h) = learnable-inconsistent s n good e in
+        let refused = then-refused (beforePlan s o size) (startsAnswer s o) (rw (bind-refused (learnable s) _ num p q)) in
+        (checking .1 (judge .unfit .0 e), sym (ap (λ (r : Positioned). r .position) refused))
 
   -- ---- a plan from any start, with any goal
   module _ (start : State) (plan : List GroundAction) (goal : List GoalLiteral) (grounded : Grounded (domain (schemaOf s)) plan) where
@@ -120,14 +110,16 @@ module _ (s : List ℕ) (n : ℕ) (good : lookOver s ≡ Good n) where
     inconsistent-verdict : inconsistentIn s ≡ true → (v : Verdict) → BookVerdict s start plan goal v → impossible ≡ v
     inconsistent-verdict e v h = sym (judge .refuses plan start goal .1 e) ∙ says v .0 h
 
-    module _ (clean : inconsistentIn s ≡ false) where
-      run-verdict : (v : Verdict) → BookVerdict s start plan goal v → judgedRun goal (planRun s start plan) ≡ v
-      unfolding planRun learnedFrom checked
-      run-verdict v h = sym (checked-run (inconsistentIn s) (domain (schemaOf s)) (learnedFrom s) plan start goal clean) ∙ says v .0 h
+    inconsistent-fails : inconsistentIn s ≡ true → (end : State) → BookVerdict s start plan goal (passes end) → ⊥
+    inconsistent-fails e end h = let q = inconsistent-verdict e (passes end) h in let z : _≡_ {A = ℕ} 0 1 = cc in omega arith
 
-      verdict-answers : (steps : ℕ) (v : Verdict) → BookVerdict s start plan goal v → Answers steps v (runAnswer steps goal (planRun s start plan))
-      verdict-answers steps v h =
-          subst (λ (w : Verdict). Answers steps w (runAnswer steps goal (planRun s start plan))) (run-verdict v h) (run-answers steps goal (planRun s start plan))
+    module _ (clean : inconsistentIn s ≡ false) where
+      -- with a model that fits, it is what the run of the learned one comes to
+      run-verdict : (v : Verdict) → BookVerdict s start plan goal v ↔ (judgedRun goal (planRun s start plan) ≡ v)
+      unfolding planRun learnedFrom checked
+      run-verdict v =
+          let same = checked-run (inconsistentIn s) (domain (schemaOf s)) (learnedFrom s) plan start goal clean in
+          (λ h. sym same ∙ says v .0 h, λ e. says v .1 (same ∙ e))
 
       -- where neither the start nor a step's atoms have a fact from 4096 on, the sheet of a pass shows his end state
       pass-shows : (bound : ℕ) → bound ≤ maxFactNumbers → Under bound start
@@ -136,7 +128,7 @@ module _ (s : List ℕ) (n : ℕ) (good : lookOver s ≡ Good n) where
           → (runAnswer steps goal (planRun s start plan) ≡ Good steps) × Shows (endSheet (planRun s start plan)) end
       unfolding planRun learnedFrom endSheet
       pass-shows bound few under grounds steps end h =
-          let (ends, answer) = pass-run steps goal (planRun s start plan) end (run-verdict (passes end) h) in
+          let (ends, answer) = pass-comes steps _ _ _ (comes steps goal (planRun s start plan)) end (run-verdict (passes end) .0 h) in
           let valid = learned-valid (domain (schemaOf s)) (transitionsOf s) (formed s n good) clean in (
             answer,
             rw ends
@@ -152,43 +144,88 @@ module _ (s : List ℕ) (n : ℕ) (good : lookOver s ≡ Good n) where
     proper : Grounded (domain (schemaOf s)) (planOf (schemaOf s) o)
     proper = grounded (schemaOf s) (right-schema s n good .falling) o m form
 
-    check-runs : inconsistentIn s ≡ false → check s o endSheetSize ≡ runAnswer (stepCount o) (goalOf o) (orderRun s o)
-    unfolding check
-    check-runs clean =
-        bind-good (learnable s) _ n (learnable-clean s n good clean)
-        ∙ refuse-unmet _ 13 0 _ refl
-        ∙ bind-good (orderForm (schemaOf s) o) _ m form
+    some-starts : (1 ≤ length (startStates o)) × (length (startStates o) ≤ maxStarts)
+    some-starts = let h = order-good (schemaOf s) o m form .header in rw (length-starts o) (h .some, h .starts)
 
-    verdict : (v : Verdict) → OrderVerdict s o v → Answers (stepCount o) v (check s o endSheetSize)
-    unfolding orderRun
-    verdict v h = go (decide (inconsistentIn s))
+    module _ (clean : inconsistentIn s ≡ false) where
+      -- only rows 19 and 20 are left
+      check-starts : check s o endSheetSize ≡ startsAnswer s o
+      unfolding check beforePlan
+      check-starts =
+          then-by (beforePlan s o endSheetSize) (startsAnswer s o) m
+          (bind-good (learnable s) _ n (learnable-clean s n good clean) ∙ refuse-unmet _ 13 0 _ refl ∙ form)
+
+      start-verdict : (start : State) (v : Verdict) → StartVerdict s o start v ↔ (judgedRun (goalOf o) (orderRun s o start) ≡ v)
+      unfolding orderRun
+      start-verdict start = run-verdict start (planOf (schemaOf s) o) (goalOf o) proper clean
+
+      runs-pass : (starts : List State) → AllPass s o starts ↔ AllRunsPass (stepCount o) (goalOf o) (orderRun s o) starts
+      runs-pass starts = (
+        λ all start i. let (end, h) = all start i in (end, start-verdict start (passes end) .0 h),
+        λ all start i. let (end, h) = all start i in (end, start-verdict start (passes end) .1 h),
+      )
+
+    verdict : (before : List State) (start : State) (rest : List State) → startStates o ≡ before ++ (start ∷ rest) → AllPass s o before
+        → (v : Verdict) → StartVerdict s o start v → Decides v rest → Answers (stepCount o) (suc (length before)) v (check s o endSheetSize)
+    unfolding startsAnswer startAnswer
+    verdict before start rest parts all v h d = go (decide (inconsistentIn s))
       where
-        go : (inconsistentIn s ≡ true) ⊎ (inconsistentIn s ≡ false) → Answers (stepCount o) v (check s o endSheetSize)
+        go : (inconsistentIn s ≡ true) ⊎ (inconsistentIn s ≡ false) → Answers (stepCount o) (suc (length before)) v (check s o endSheetSize)
         go (inl e) =
-            subst (λ (w : Verdict). Answers (stepCount o) w (check s o endSheetSize))
-            (inconsistent-verdict (startState o) (planOf (schemaOf s) o) (goalOf o) proper e v h) (checking o endSheetSize .1 (judge .unfit .0 e))
-        go (inr e) = rw (check-runs e) (verdict-answers (startState o) (planOf (schemaOf s) o) (goalOf o) proper e (stepCount o) v h)
+            subst (λ (w : Verdict). Answers (stepCount o) (suc (length before)) w (check s o endSheetSize))
+            (inconsistent-verdict start (planOf (schemaOf s) o) (goalOf o) proper e v h) (inconsistent-check o endSheetSize e)
+        go (inr e) =
+            let same = start-verdict e start v .0 h in
+            let moved = past (stepCount o) (goalOf o) (orderRun s o) before (start ∷ rest) 1 (suc (length before)) (omega arith) (runs-pass e before .0 all) in
+            rw (check-starts e, parts, moved, ← same) (failing-answers (stepCount o) (goalOf o) (orderRun s o) (suc (length before)) start rest (rw same d))
 
-    sheet : (end : State) → OrderVerdict s o (passes end) → (lent : List ℕ) → length lent ≡ endSheetSize → Shows (checkBytes s o lent) end
-    unfolding checkBytes kept orderRun domain
-    sheet end h lent long = go (decide (inconsistentIn s))
+    pass : (number (check s o endSheetSize .answer) ≡ 0) ↔ AllPass s o (startStates o)
+    unfolding startsAnswer startAnswer unpositioned number
+    pass = go (decide (inconsistentIn s))
+      where
+        go : (inconsistentIn s ≡ true) ⊎ (inconsistentIn s ≡ false) → (number (check s o endSheetSize .answer) ≡ 0) ↔ AllPass s o (startStates o)
+        go (inl e) = (
+          λ z. absurd (not-passed (check s o endSheetSize .answer) (inconsistent-check o endSheetSize e .0) z),
+          λ all.
+              let (start, i) = some-member (startStates o) (some-starts .0) in
+              let (end, h) = all start i in
+              absurd (inconsistent-fails start (planOf (schemaOf s) o) (goalOf o) proper e end h),
+        )
+        go (inr e) = (
+          λ z. runs-pass e (startStates o) .1 (all-pass (stepCount o) (goalOf o) (orderRun s o) (startStates o) 1 (rw (check-starts e) at z)),
+          λ all. rw (check-starts e, none-fails (stepCount o) (goalOf o) (orderRun s o) (startStates o) 1 (runs-pass e (startStates o) .0 all)),
+        )
+
+    sheet : (start : State) → startStates o ≡ start ∷ [] → (end : State) → StartVerdict s o start (passes end)
+        → (lent : List ℕ) → length lent ≡ endSheetSize → Shows (checkBytes s o lent) end
+    unfolding checkBytes kept endAfter startsAnswer startAnswer isRefused unpositioned orderRun domain
+    sheet start one end h lent long = go (decide (inconsistentIn s))
       where
         go : (inconsistentIn s ≡ true) ⊎ (inconsistentIn s ≡ false) → Shows (checkBytes s o lent) end
-        go (inl e) = absurd (let q = inconsistent-verdict (startState o) (planOf (schemaOf s) o) (goalOf o) proper e (passes end) h in let z : _≡_ {A = ℕ} 0 1 = cc in omega arith)
+        go (inl e) = absurd (inconsistent-fails start (planOf (schemaOf s) o) (goalOf o) proper e end h)
         go (inr e) =
             let few = relations-few s n good in
-            let (answer, shown) = pass-shows (startState o) (planOf (schemaOf s) o) (goalOf o) proper e (256 * schemaOf s .relations) (omega arith)
-            (start-under (schemaOf s) (right-schema s n good .falling) o m form) (plan-under (schemaOf s) (right-schema s n good .falling) o m form) (stepCount o) end h in
-            rw (long, check-runs e, answer) shown
+            let (answer, shown) = pass-shows start (planOf (schemaOf s) o) (goalOf o) proper e (256 * schemaOf s .relations) (omega arith)
+            (start-under (schemaOf s) (right-schema s n good .falling) o m form start (rw one here)) (plan-under (schemaOf s) (right-schema s n good .falling) o m form) (stepCount o) end h in
+            let whole = failing-later (startAnswer s o) (stepCount o) 1 start [] (rw answer) ∙ failing-none (startAnswer s o) (stepCount o) 2 in
+            rw (long, check-starts e, one, whole) shown
+
+  -- with two starts or more, success too leaves the sheet as it was
+  unwritten : (o : List ℕ) (start other : State) (rest : List State) → startStates o ≡ start ∷ other ∷ rest → (lent : List ℕ) → checkBytes s o lent ≡ lent
+  unfolding checkBytes endAfter
+  unwritten o start other rest e lent = rw e (kept-same (check s o (length lent) .answer) lent lent refl)
 
 pub demand3 : Demand3
 demand3 s n good =
     record {
-      unfit = λ o. (λ h. h, λ h. h);
+      unfit = λ o start. (λ h. h, λ h. h);
       learning = learning s n good;
       checking = checking s n good;
       verdict = verdict s n good;
+      pass = pass s n good;
       sheet = sheet s n good;
-      some = λ o m form. some-verdict s n good (startState o) (planOf (schemaOf s) o) (goalOf o) (grounded (schemaOf s) (right-schema s n good .falling) o m form);
-      one = λ o v w. unique (domain (schemaOf s)) (FitsBook s) (planOf (schemaOf s) o) (startState o) (goalOf o) v w;
+      unwritten = unwritten s n good;
+      start = some-starts s n good;
+      some = λ o m form start. some-verdict s n good start (planOf (schemaOf s) o) (goalOf o) (proper s n good o m form);
+      one = λ o start v w. unique (domain (schemaOf s)) (FitsBook s) (planOf (schemaOf s) o) start (goalOf o) v w;
     }

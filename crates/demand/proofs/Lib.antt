@@ -1,4 +1,5 @@
--- The demands, proved: Demand3 and Demand2 for one book, TwoBooks and Renumbered for two. Recorded and Agree serve them.
+-- The demands, proved: Demand3 and Demand2 for one book, TwoBooks and Renumbered for two. Failing, Recorded and Agree serve them.
+pub mod Failing
 pub mod Demand3
 pub mod Recorded
 pub mod Demand2

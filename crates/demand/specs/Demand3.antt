@@ -1,25 +1,28 @@
 -- Demand 3, whole: what learning and checking say of a book of good form is what the judge says, who never sees the rule sheet.
--- The judge is `FitsBook` and `OrderVerdict` of jobs/specs/Judge.antt; `learn`, `check` and `checkBytes` are what the calls return and leave behind.
-use Prim.Native.Nat.{ℕ, _≤_, _<_}
+-- The judge is `FitsBook` and `StartVerdict` of jobs/specs/Judge.antt; `learn`, `check` and `checkBytes` are what the calls return and leave
+-- behind. His verdict is on one start of an order alone; an order has some starts, and the check answers for the first that fails.
+use Prim.Native.Nat.{ℕ, suc, _≤_, _<_}
 use mathlib.Core.Path.{_≡_}
 use mathlib.Core.Logic.{_⊎_, _↔_}
 use mathlib.Core.Bool.{false}
-use mathlib.Core.List.{List}
+use mathlib.Core.List.{List, [], _∷_, _++_}
 use lib.ListN.{length}
-use Rattle.limits.specs.Limits.{endSheetSize, maxFactNumbers}
+use Rattle.limits.specs.Limits.{endSheetSize, maxFactNumbers, maxStarts}
 use Rattle.answer.specs.declared.Answer.{Answer}
 use Rattle.answer.specs.declared.Answer.the-variants.{Good}
+use Rattle.answer.specs.declared.Positioned.{Positioned}
 use Rattle.answer.specs.Answer.{number, place}
 use Rattle.mask.specs.Bits.{testBit}
 use Rattle.format.specs.LookOver.{lookOver}
 use Rattle.format.specs.Order.{stepCount, orderForm}
+use Rattle.model.specs.Quantify.{Mem}
 use Rattle.model.specs.Domain.{State}
 use Rattle.model.specs.Model.{Model}
 use Rattle.model.specs.Judge.{Verdict, impossible, stops, misses, passes}
-use Rattle.jobs.specs.Planning.{schemaOf}
+use Rattle.jobs.specs.Planning.{schemaOf, startStates}
 use Rattle.jobs.specs.Learn.{learn}
 use Rattle.jobs.specs.Check.{check, checkBytes}
-use Rattle.jobs.specs.Judge.{FitsBook, OrderVerdict}
+use Rattle.jobs.specs.Judge.{FitsBook, StartVerdict}
 
 -- no model (rule list) fits the book
 abbrev pub NoneFits : List ℕ → Type 0
@@ -29,12 +32,23 @@ NoneFits s = (M : Model) → FitsBook s M → ⊥
 abbrev pub Impossible : Answer → Type 0
 Impossible a = (number a ≡ 11) ⊎ (number a ≡ 12)
 
--- the number and the place that a verdict has, for a plan of so many steps
-abbrev pub Answers : ℕ → Verdict → Answer → Type 0
-Answers steps impossible a = Impossible a
-Answers steps (stops k) a = (number a ≡ 19) × (place a ≡ k)
-Answers steps (misses i) a = (number a ≡ 20) × (place a ≡ i)
-Answers steps (passes end) a = (number a ≡ 0) × (place a ≡ steps)
+-- the number, the place and the position that a verdict on the start at position k has, for a plan of so many steps
+abbrev pub Answers : ℕ → ℕ → Verdict → Positioned → Type 0
+Answers steps k impossible r = Impossible (r .answer) × (r .position ≡ 0)
+Answers steps k (stops j) r = (number (r .answer) ≡ 19) × (place (r .answer) ≡ j) × (r .position ≡ k)
+Answers steps k (misses i) r = (number (r .answer) ≡ 20) × (place (r .answer) ≡ i) × (r .position ≡ k)
+Answers steps k (passes end) r = (number (r .answer) ≡ 0) × (place (r .answer) ≡ steps) × (r .position ≡ 0)
+
+-- each of the starts has a pass
+abbrev pub AllPass : List ℕ → List ℕ → List State → Type 0
+AllPass s o starts = (start : State) → Mem start starts → (end : State) × StartVerdict s o start (passes end)
+
+-- a verdict that decides an order: one that is no pass, or that on the last start
+abbrev pub Decides : Verdict → List State → Type 0
+Decides impossible rest = Unit {0}
+Decides (stops k) rest = Unit {0}
+Decides (misses i) rest = Unit {0}
+Decides (passes end) rest = rest ≡ []
 
 -- the end sheet holds the state: 512 bytes, the bits set being just the facts that hold
 pub record Shows (sheet : List ℕ) (end : State) : Type 0 where
@@ -45,20 +59,30 @@ pub record Shows (sheet : List ℕ) (end : State) : Type 0 where
 
 -- the calls and the judge agree on a book
 pub record JudgeAgrees (s : List ℕ) : Type 0 where
-  -- The judge says impossible exactly when no model fits the book, whatever the order.
-  pub unfit : (o : List ℕ) → OrderVerdict s o impossible ↔ NoneFits s
+  -- The judge says impossible exactly when no model fits the book, whatever the order and the start.
+  pub unfit : (o : List ℕ) (start : State) → StartVerdict s o start impossible ↔ NoneFits s
   -- Learning answers 11 or 12 exactly then, whatever lent output comes with the book.
   pub learning : (size : ℕ) → Impossible (learn s size) ↔ NoneFits s
   -- And so does checking, whatever order and lent output come with the book.
-  pub checking : (o : List ℕ) (size : ℕ) → Impossible (check s o size) ↔ NoneFits s
-  -- For every order of good form with an end sheet of 512 bytes, the check's number and place are the judge's.
-  pub verdict : (o : List ℕ) (n : ℕ) → orderForm (schemaOf s) o ≡ Good n → (v : Verdict) → OrderVerdict s o v → Answers (stepCount o) v (check s o endSheetSize)
-  -- On a pass the bits set in the end sheet are just the facts of his end state.
-  pub sheet : (o : List ℕ) (n : ℕ) → orderForm (schemaOf s) o ≡ Good n → (end : State) → OrderVerdict s o (passes end)
+  pub checking : (o : List ℕ) (size : ℕ) → Impossible (check s o size .answer) ↔ NoneFits s
+  -- For every order of good form with an end sheet of 512 bytes: of the starts in file order, the first whose verdict is no pass gives the
+  -- check's number and place, and its position; where every start before the last has a pass, the last gives them.
+  pub verdict : (o : List ℕ) (n : ℕ) → orderForm (schemaOf s) o ≡ Good n
+      → (before : List State) (start : State) (rest : List State) → startStates o ≡ before ++ (start ∷ rest) → AllPass s o before
+      → (v : Verdict) → StartVerdict s o start v → Decides v rest → Answers (stepCount o) (suc (length before)) v (check s o endSheetSize)
+  -- So the plan passes exactly if it passes from each start alone.
+  pub pass : (o : List ℕ) (n : ℕ) → orderForm (schemaOf s) o ≡ Good n → (number (check s o endSheetSize .answer) ≡ 0) ↔ AllPass s o (startStates o)
+  -- On a pass of an order with one start the bits set in the end sheet are just the facts of his end state.
+  pub sheet : (o : List ℕ) (n : ℕ) → orderForm (schemaOf s) o ≡ Good n
+      → (start : State) → startStates o ≡ start ∷ [] → (end : State) → StartVerdict s o start (passes end)
       → (lent : List ℕ) → length lent ≡ endSheetSize → Shows (checkBytes s o lent) end
-  -- The judge has a verdict on every order of good form, and only one: so the lines above do not hold for want of a verdict.
-  pub some : (o : List ℕ) (n : ℕ) → orderForm (schemaOf s) o ≡ Good n → (v : Verdict) × OrderVerdict s o v
-  pub one : (o : List ℕ) (v w : Verdict) → OrderVerdict s o v → OrderVerdict s o w → v ≡ w
+  -- With more than one start the lent end sheet is left as it was.
+  pub unwritten : (o : List ℕ) (first second : State) (rest : List State) → startStates o ≡ first ∷ second ∷ rest → (lent : List ℕ) → checkBytes s o lent ≡ lent
+  -- An order of good form has a start. The judge has a verdict on each of its starts, and only one: so the lines above do not hold for want
+  -- of a start or of a verdict.
+  pub start : (o : List ℕ) (n : ℕ) → orderForm (schemaOf s) o ≡ Good n → (1 ≤ length (startStates o)) × (length (startStates o) ≤ maxStarts)
+  pub some : (o : List ℕ) (n : ℕ) → orderForm (schemaOf s) o ≡ Good n → (start : State) → (v : Verdict) × StartVerdict s o start v
+  pub one : (o : List ℕ) (start : State) (v w : Verdict) → StartVerdict s o start v → StartVerdict s o start w → v ≡ w
 
 -- Demand 3: of every book of good form.
 abbrev pub Demand3 : Type 0

@@ -66,7 +66,7 @@ module _ {s t : List ℕ} {at at′ size : ℕ} (c : Copied s at t at′ size) w
         let (m, g, good) = facts-beside n (factAt s a) (a + factSize) (b + factSize) next (facing-on f factSize) rest in
         (m, g, refuse-unmet _ _ _ _ (rw (i, le-ltb end′ (b + factSize) (omega arith), fact-over S T same fall (S .kinds) (omega arith) (omega (arith, kinds)) H K typed (factAt s a) right, order)) ∙ rw i good)
 
-    state-beside : Beside (state S H s end) (state T K t end′) at at′ end
+    state-beside : Beside (state 8 S H s end) (state 8 T K t end′) at at′ end
     unfolding state countBad cut
     state-beside a b next f l e =
         let (test, rest) = passed _ _ _ _ _ e in
@@ -91,7 +91,7 @@ module _ {s t : List ℕ} {at at′ size : ℕ} (c : Copied s at t at′ size) w
     steps-beside : (n : ℕ) → Beside (walk (step S H s end) n) (walk (step T K t end′) n) at at′ end
     steps-beside n a b last f l e =
         walk-beside (step S H s end) (step T K t end′) (Facing at at′) end
-        (λ a next e. omega (arith, state-end S H s end (a + stepSize) next (step-good S H s end a next e .2)))
+        (λ a next e. omega (arith, state-end 8 S H s end (a + stepSize) next (step-good S H s end a next e .2)))
         step-beside n a b last f l e
 
   objects-beside : (kinds end end′ : ℕ) → Facing at at′ end end′ → end ≤ at + size → (n a b last : ℕ) → Facing at at′ a b
@@ -140,8 +140,8 @@ module _ {s t : List ℕ} {at at′ size : ℕ} (c : Copied s at t at′ size) w
         let short : end ≤ at + size = omega arith in
         let ends : Facing at at′ end end′ = record { low = omega arith; level = omega arith } in
         let first : Facing at at′ (a + headSize + objectsIn s a) (b + headSize + objectsIn t b) = record { low = omega arith; level = omega arith } in
-        let after = state-end _ _ s end _ (g .after) (g .start) in
-        let within = state-within _ _ s end _ (g .after) (g .start) in
+        let after = state-end 8 _ _ s end _ (g .after) (g .start) in
+        let within = state-within 8 _ _ s end _ (g .after) (g .start) in
         let typed = typed-beside (h .kinds) a b f (omega arith) x end _ (g .objects) in
         let objects = objects-beside (h .kinds) end end′ ends short (objectsIn s a) (a + headSize) (b + headSize) _ (facing-on f headSize) (g .objects) in
         let (m₂, f₂, start) = state-beside _ _ same fall kinds _ _ typed end end′ ends short _ _ (g .after) first within (g .start) in
@@ -185,15 +185,15 @@ module _ {s t : List ℕ} {at at′ size : ℕ} (c : Copied s at t at′ size) w
         go j x y p q = rw (p, q) (named j)
 
     module _ (S : Schema) (H : TypedObjects) (end : ℕ) (short : end ≤ at + size) where
-      trajectory-recorded : (n a b next last : ℕ) → Facing at at′ a b → state S H s end a ≡ Good next → walk (step S H s end) n next ≡ Good last
+      trajectory-recorded : (n a b next last : ℕ) → Facing at at′ a b → state 8 S H s end a ≡ Good next → walk (step S H s end) n next ≡ Good last
           → placedBy f (recordedStepsAt s n a) ≡ placedBy g (recordedStepsAt t n b)
       unfolding recordedStepsAt recordedStep placedBy
       trajectory-recorded zero a b next last face e w = refl
       trajectory-recorded (suc n) a b next last face e w =
           let (after, good, rest) = trajectory-parted S H s end n a next last e w in
           let behind = step-good S H s end (stateEnd s a) after good .2 in
-          let within = state-ends S H s end a next e .1 in
-          let within′ = state-ends S H s end (stateEnd s a + stepSize) after behind .1 in
+          let within = state-ends 8 S H s end a next e .1 in
+          let within′ = state-ends 8 S H s end (stateEnd s a + stepSize) after behind .1 in
           let reach : stateEnd s a + stepSize ≤ end = step-reach S H s end (stateEnd s a) after good in
           let face′ = end-copied c a b face (omega arith) in
           let face″ = facing-on face′ stepSize in

@@ -1,85 +1,72 @@
--- Row 14, and the parts of rows 15 to 18: what an order's header has, objects and plan steps as entries of one size, goal entries in order.
+-- Rows 14 and 22, and the parts of rows 15 to 18: what an order's header has, objects and plan steps as entries of one size, goal entries in order.
 use Prim.Native.Nat.{ℕ, _+_, _*_, _≤_}
 use mathlib.Core.Path.{_≡_, refl}
 use mathlib.Core.Bool.{false, _||_, not}
 use mathlib.Core.List.{List}
-use native.Mathlib.Omega.{arith}
 use borrow.Author.Tests.{ltb-false, eqb-true, not-false}
 use lib.Dec.{eqb, ltb}
 use lib.ListN.{length}
 use Rattle.truth.specs.Bools.{neither}
-use Rattle.answer.specs.Laws.{none-over}
+use Rattle.answer.specs.declared.Answer.the-variants.{Good}
+use Rattle.answer.specs.Laws.{none-over, passed}
 use Rattle.answer.specs.Entries.{Entry}
 use Rattle.input.specs.Bytes.{byteAt, two}
 use Rattle.terms.specs.declared.Fact.{Fact}
 use Rattle.terms.specs.Schema.{Schema, TypedObjects, outOfRange}
 use Rattle.terms.specs.Facts.{factAt, factBad, precedes}
-use Rattle.limits.specs.Limits.{headerSize, maxObjects, maxFacts, maxEntries, maxSteps, factSize, entrySize, stepSize}
-use Rattle.format.specs.Order.{objectCount, startCount, goalCount, stepCount, startAt, goalAt, stepsAt, orderCountsBad, orderOffsetsBad, orderObject, entryBad, entries, planStep, orderHeaderBad, planStepBad}
+use Rattle.limits.specs.Limits.{headerSize, maxObjects, maxStarts, maxEntries, maxSteps, entrySize, stepSize}
+use Rattle.format.specs.Order.{objectCount, startCount, goalCount, stepCount, startAt, goalAt, stepsAt, orderCountsBad, orderOffsetsBad, orderHeader, orderObject, entryBad, entries, planStep, planStepBad}
 use Rattle.format.proofs.Chains.{Chain}
 
--- the longest order: all counts at their limits
+-- the longest order of good form: all counts at their limits, and 256 facts in each start
 abbrev pub maxOrder : ℕ
-maxOrder = 1376
+maxOrder = 12928
 
-pub record OrderCountsGood (o : List ℕ) : Type 0 where
-  pub objects : objectCount o ≤ maxObjects
-  pub starts : startCount o ≤ maxFacts
-  pub entries : goalCount o ≤ maxEntries
-  pub steps : stepCount o ≤ maxSteps
-
-pub order-counts-good : (o : List ℕ) → orderCountsBad o ≡ false → OrderCountsGood o
-unfolding orderCountsBad
-order-counts-good o e =
-    let w = none-over _ _ _ _ _ _ _ _ e in
-    record { objects = w .0; starts = w .1; entries = w .2; steps = w .3 }
-
--- row 14 is not met
+-- rows 14 and 22 are not met
 pub record OrderHeaderGood (o : List ℕ) : Type 0 where
   pub least : headerSize ≤ length o
-  pub counts : OrderCountsGood o
+  pub objects : objectCount o ≤ maxObjects
+  pub some : 1 ≤ startCount o
+  pub starts : startCount o ≤ maxStarts
+  pub entries : goalCount o ≤ maxEntries
+  pub steps : stepCount o ≤ maxSteps
+  pub touch : startAt o ≤ goalAt o
   pub size : length o ≡ stepsAt o + stepSize * stepCount o
-  pub most : length o ≤ maxOrder
 
--- the last of the offsets' tests
-order-size : (o : List ℕ) → orderOffsetsBad o ≡ false → length o ≡ stepsAt o + stepSize * stepCount o
+-- two of the offsets' tests
+order-offsets : (o : List ℕ) → orderOffsetsBad o ≡ false → (startAt o ≤ goalAt o) × (length o ≡ stepsAt o + stepSize * stepCount o)
 unfolding orderOffsetsBad
-order-size o e =
-    let others =
-    not (eqb (two o 8) headerSize)
-    || not (eqb (two o 10) (startAt o))
-    || not (eqb (two o 12) (goalAt o))
-    || not (eqb (two o 14) (stepsAt o)) in
-    eqb-true (length o) (stepsAt o + stepSize * stepCount o) (not-false _ (neither others _ e .1))
+order-offsets o e =
+    let front = not (eqb (two o 8) headerSize) || not (eqb (two o 10) (startAt o)) in
+    let middle = front || ltb (goalAt o) (startAt o) in
+    let last = neither (middle || not (eqb (two o 14) (stepsAt o))) _ e in
+    let third = neither front _ (neither middle _ (last .0) .0) in
+    (ltb-false _ _ (third .1), eqb-true (length o) (stepsAt o + stepSize * stepCount o) (not-false _ (last .1)))
 
--- with counts in their limits, no section ends past the longest order
-pub section-ends : (o : List ℕ)
-    → OrderCountsGood o
-    → (headerSize + objectCount o ≤ maxOrder)
-    × (startAt o + factSize * startCount o ≤ maxOrder)
-    × (goalAt o + entrySize * goalCount o ≤ maxOrder)
-    × (stepsAt o + stepSize * stepCount o ≤ maxOrder)
-unfolding stepsAt goalAt startAt
-section-ends o c = (omega arith, omega arith, omega arith, omega arith)
-
-pub order-header-good : (o : List ℕ) → orderHeaderBad o ≡ false → OrderHeaderGood o
-unfolding orderHeaderBad
-order-header-good o e =
-    let a = neither _ _ e in
-    let b = neither _ _ (a .0) in
-    let c = order-counts-good o (b .1) in
-    let d = order-size o (a .1) in
-    let m = section-ends o c .3 in
-    record { least = ltb-false _ _ (b .0); counts = c; size = d; most = omega arith }
+pub order-header-good : (o : List ℕ) (n : ℕ) → orderHeader o ≡ Good n → OrderHeaderGood o
+unfolding orderHeader orderCountsBad outOfRange
+order-header-good o n e =
+    let a = passed (orderCountsBad o) 14 0 n _ e in
+    let b = passed (outOfRange maxStarts (startCount o)) 22 0 n _ (a .1) in
+    let c = passed (orderOffsetsBad o) 14 0 n _ (b .1) in
+    let w = none-over _ _ _ _ _ _ _ _ (a .0) in
+    let x = neither _ _ (b .0) in
+    let t = order-offsets o (c .0) in
+    record {
+      least = w .0;
+      objects = w .1;
+      some = ltb-false _ _ (x .0);
+      starts = ltb-false _ _ (x .1);
+      entries = w .2;
+      steps = w .3;
+      touch = t .0;
+      size = t .1;
+    }
 
 -- where each section starts: the end of the one before it
 pub start-at-is : (o : List ℕ) → headerSize + objectCount o ≡ startAt o
 unfolding startAt
 start-at-is o = refl
-
-pub goal-at-is : (o : List ℕ) → startAt o + factSize * startCount o ≡ goalAt o
-unfolding goalAt
-goal-at-is o = refl
 
 pub steps-at-is : (o : List ℕ) → goalAt o + entrySize * goalCount o ≡ stepsAt o
 unfolding stepsAt

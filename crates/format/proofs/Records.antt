@@ -57,7 +57,7 @@ module _ (sch : Schema) (ob : TypedObjects) (s : List ℕ) (end : ℕ) where
   -- a good step suits, has no object twice, and the state after it is good
   pub step-good : (at next : ℕ)
       → step sch ob s end at ≡ Good next
-      → (stepBad sch ob (stepAt s at) ≡ false) × (repeats (stepAt s at) ≡ false) × (state sch ob s end (at + stepSize) ≡ Good next)
+      → (stepBad sch ob (stepAt s at) ≡ false) × (repeats (stepAt s at) ≡ false) × (state 8 sch ob s end (at + stepSize) ≡ Good next)
   unfolding step stepRefused
   step-good at next e =
       let p = passed _ 9 at next _ e in
@@ -69,14 +69,14 @@ module _ (sch : Schema) (ob : TypedObjects) (s : List ℕ) (end : ℕ) where
   step-reach at next e = ltb-false end (at + stepSize) (neither (ltb end (at + stepSize)) (stepBad sch ob (stepAt s at)) (passed _ 9 at next _ e .0) .0)
 
   pub step-within : (at next : ℕ) → step sch ob s end at ≡ Good next → next ≤ end
-  step-within at next e = state-within sch ob s end _ _ (step-good at next e .2)
+  step-within at next e = state-within 8 sch ob s end _ _ (step-good at next e .2)
 
   -- the first step after a good state stands where the state's bytes end
-  pub trajectory-parted : (n at next last : ℕ) → state sch ob s end at ≡ Good next → walk (step sch ob s end) (suc n) next ≡ Good last
+  pub trajectory-parted : (n at next last : ℕ) → state 8 sch ob s end at ≡ Good next → walk (step sch ob s end) (suc n) next ≡ Good last
       → (after : ℕ) × (step sch ob s end (stateEnd s at) ≡ Good after) × (walk (step sch ob s end) n after ≡ Good last)
   trajectory-parted n at next last e w =
       let (after, good, rest) = walk-parted (step sch ob s end) n next last w in
-      (after, subst (λ (x : ℕ). step sch ob s end x ≡ Good after) (state-ends sch ob s end at next e .0) good, rest)
+      (after, subst (λ (x : ℕ). step sch ob s end x ≡ Good after) (state-ends 8 sch ob s end at next e .0) good, rest)
 
 -- a good record: its start state ends at `after`, its steps at `last`, after which it has no bytes
 pub record RecordGood (h : Sections) (s : List ℕ) (at next : ℕ) : Type 0 where
@@ -84,7 +84,7 @@ pub record RecordGood (h : Sections) (s : List ℕ) (at next : ℕ) : Type 0 whe
   pub last : ℕ
   pub head : headBad s at ≡ false
   pub objects : walk (object (h .kinds) s (at + lengthIn s at)) (objectsIn s at) (at + headSize) ≡ Good (at + headSize + objectsIn s at)
-  pub start : state (schema h s) (typedObjects (objectsOf s at) s) s (at + lengthIn s at) (at + headSize + objectsIn s at) ≡ Good after
+  pub start : state 8 (schema h s) (typedObjects (objectsOf s at) s) s (at + lengthIn s at) (at + headSize + objectsIn s at) ≡ Good after
   pub steps : walk (step (schema h s) (typedObjects (objectsOf s at) s) s (at + lengthIn s at)) (stepsIn s at) after ≡ Good last
   pub full : ltb last (at + lengthIn s at) ≡ false
   pub end : next ≡ at + lengthIn s at
@@ -103,7 +103,7 @@ module _ (h : Sections) (s : List ℕ) (at next : ℕ) (good : recordAt h s at �
       let (head, whole) = passed _ 6 at next _ good in
       let (first, objects, behind) = parted (walk (object (h .kinds) s end) (objectsIn s at) (at + headSize)) next _ whole in
       let (last, way, tail) = parted (trajectory (schema h s) (typedObjects (objectsOf s at) s) s end (stepsIn s at) first) next _ behind in
-      let (after, start, steps) = parted (state (schema h s) (typedObjects (objectsOf s at) s) s end first) last _ way in
+      let (after, start, steps) = parted (state 8 (schema h s) (typedObjects (objectsOf s at) s) s end first) last _ way in
       let (full, same) = passed _ 6 at next _ tail in
       let place = objects-end (h .kinds) s end (objectsIn s at) (at + headSize) first objects in
       record {
@@ -111,7 +111,7 @@ module _ (h : Sections) (s : List ℕ) (at next : ℕ) (good : recordAt h s at �
         last = last;
         head = head;
         objects = subst (λ (x : ℕ). walk (object (h .kinds) s end) (objectsIn s at) (at + headSize) ≡ Good x) place objects;
-        start = subst (λ (x : ℕ). state (schema h s) (typedObjects (objectsOf s at) s) s end x ≡ Good after) place start;
+        start = subst (λ (x : ℕ). state 8 (schema h s) (typedObjects (objectsOf s at) s) s end x ≡ Good after) place start;
         steps = steps;
         full = full;
         end = cc;

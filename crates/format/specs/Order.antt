@@ -1,4 +1,4 @@
--- Rows 14 to 18: an order, and what a good one holds. `h` and `s` are the book's.
+-- Rows 14 to 18, 22 among them: an order, and what a good one holds. `sch` is the book's.
 use Prim.Native.Nat.{ℕ, zero, suc, _+_, _*_}
 use mathlib.Core.Bool.{Bool, _||_, not}
 use mathlib.Core.List.{List, [], _∷_}
@@ -15,11 +15,11 @@ use Rattle.terms.specs.declared.Step.{Step}
 use Rattle.terms.specs.Schema.{Schema, TypedObjects, typedObjects, outOfRange}
 use Rattle.terms.specs.Facts.{factAt, factBad, precedes, noFact}
 use Rattle.terms.specs.Steps.{stepAt, stepBad, repeats}
-use Rattle.limits.specs.Limits.{headerSize, maxObjects, maxFacts, maxEntries, maxSteps, factSize, entrySize, stepSize}
-use Rattle.format.specs.States.{facts}
-use Rattle.format.specs.Decode.{factsAt}
+use Rattle.limits.specs.Limits.{headerSize, maxObjects, maxStarts, maxEntries, maxSteps, entrySize, stepSize}
+use Rattle.format.specs.States.{state}
+use Rattle.format.specs.Decode.{stateAt, stateEnd}
 
--- the header: counts and offsets of objects, start facts, goal entries, steps
+-- the header: counts of objects, starts, goal entries, steps
 unfoldable pub objectCount : List ℕ → ℕ
 objectCount o = two o 0
 
@@ -32,30 +32,37 @@ goalCount o = two o 4
 unfoldable pub stepCount : List ℕ → ℕ
 stepCount o = two o 6
 
+-- where the sections begin. The starts are of any length, so that only the header says where they end and the goal entries begin
 unfoldable pub startAt : List ℕ → ℕ
 startAt o = headerSize + objectCount o
 
 unfoldable pub goalAt : List ℕ → ℕ
-goalAt o = startAt o + factSize * startCount o
+goalAt o = two o 12
 
 unfoldable pub stepsAt : List ℕ → ℕ
 stepsAt o = goalAt o + entrySize * goalCount o
 
+-- row 14, before the number of starts is asked
 unfoldable pub orderCountsBad : List ℕ → Bool
 orderCountsBad o =
-    ltb maxObjects (objectCount o) || ltb maxFacts (startCount o) || ltb maxEntries (goalCount o) || ltb maxSteps (stepCount o)
+    ltb (length o) headerSize || ltb maxObjects (objectCount o) || ltb maxEntries (goalCount o) || ltb maxSteps (stepCount o)
 
+-- row 14, after it
 unfoldable pub orderOffsetsBad : List ℕ → Bool
 orderOffsetsBad o =
     not (eqb (two o 8) headerSize)
     || not (eqb (two o 10) (startAt o))
-    || not (eqb (two o 12) (goalAt o))
+    || ltb (goalAt o) (startAt o)
     || not (eqb (two o 14) (stepsAt o))
     || not (eqb (length o) (stepsAt o + stepSize * stepCount o))
 
--- row 14
-unfoldable pub orderHeaderBad : List ℕ → Bool
-orderHeaderBad o = ltb (length o) headerSize || orderCountsBad o || orderOffsetsBad o
+-- rows 14 and 22: where the objects begin is good
+unfoldable pub orderHeader : List ℕ → Answer
+orderHeader o = do
+  _ ← refuse (orderCountsBad o) 14 0
+  _ ← refuse (outOfRange maxStarts (startCount o)) 22 0
+  _ ← refuse (orderOffsetsBad o) 14 0
+  Good headerSize
 
 unfoldable pub orderObjects : List ℕ → Objects
 orderObjects o = record { count = objectCount o; at = headerSize }
@@ -65,6 +72,13 @@ unfoldable pub orderObject : ℕ → List ℕ → ℕ → Answer
 orderObject kinds o at = do
   _ ← refuse (outOfRange kinds (byteAt o at)) 15 at
   Good (at + 1)
+
+-- row 16: the starts, each written as a state of a book, and no bytes left before the goal entries
+unfoldable pub startsForm : Schema → TypedObjects → List ℕ → Answer
+startsForm sch ob o = do
+  last ← walk (state 16 sch ob o (goalAt o)) (startCount o) (startAt o)
+  _ ← refuse (ltb last (goalAt o)) 16 last
+  Good (goalAt o)
 
 -- row 17: a byte 1 or 0, then a fact after the one of the entry before
 unfoldable pub entryBad : Schema → TypedObjects → List ℕ → Fact → ℕ → Bool
@@ -94,19 +108,23 @@ fromGoal sch ob o = do
 -- rows 16 to 18
 unfoldable pub fromStart : Schema → TypedObjects → List ℕ → Answer
 fromStart sch ob o = do
-  _ ← facts 16 sch ob o (length o) (startCount o) noFact (startAt o)
+  _ ← startsForm sch ob o
   fromGoal sch ob o
 
 -- rows 14 to 18; the end of the order is good
 unfoldable pub orderForm : Schema → List ℕ → Answer
 orderForm sch o = do
-  _ ← refuse (orderHeaderBad o) 14 0
+  _ ← orderHeader o
   _ ← walk (orderObject (sch .kinds) o) (objectCount o) headerSize
   fromStart sch (typedObjects (orderObjects o) o) o
 
--- what a good order holds: the start facts, the goal entries, the plan
-unfoldable pub startFacts : List ℕ → List Fact
-startFacts o = factsAt o (startCount o) (startAt o)
+-- what a good order holds: the starts (initial states), each as the facts that hold; the goal entries; the plan
+unfoldable pub startsFrom : List ℕ → ℕ → ℕ → List (List Fact)
+startsFrom o zero at = []
+startsFrom o (suc n) at = stateAt o at ∷ startsFrom o n (stateEnd o at)
+
+unfoldable pub starts : List ℕ → List (List Fact)
+starts o = startsFrom o (startCount o) (startAt o)
 
 pub record GoalEntry : Type 0 where
   pub wanted : Bool

@@ -49,7 +49,7 @@ unfoldable pub step : Schema → TypedObjects → List ℕ → ℕ → ℕ → A
 step sch ob s end at = do
   _ ← refuse (stepRefused sch ob s end at) 9 at
   _ ← refuse (repeats (stepAt s at)) 10 at
-  state sch ob s end (at + stepSize)
+  state 8 sch ob s end (at + stepSize)
 
 -- the objects of the record at an offset
 unfoldable pub objectsOf : List ℕ → ℕ → Objects
@@ -58,7 +58,7 @@ objectsOf s at = record { count = objectsIn s at; at = at + headSize }
 -- the part of a record after its objects: a state, then steps each with the state after it
 unfoldable pub trajectory : Schema → TypedObjects → List ℕ → ℕ → ℕ → ℕ → Answer
 trajectory sch ob s end n at = do
-  next ← state sch ob s end at
+  next ← state 8 sch ob s end at
   walk (step sch ob s end) n next
 
 -- the record at an offset, after what its trajectory answers: no bytes are left

@@ -1,4 +1,4 @@
--- Row 8: a state, as a count and facts that strictly increase. `end` is where the record ends.
+-- Row 8: a state, as a count and facts that strictly increase. `end` is where the record ends; in an order, where the starts end (row 16).
 use Prim.Native.Nat.{ℕ, zero, suc, _+_}
 use mathlib.Core.Bool.{Bool, _||_, not}
 use mathlib.Core.List.{List}
@@ -30,7 +30,8 @@ facts num sch ob s end (suc n) last at = do
   _ ← refuse (factRefused sch ob s end last at) num at
   facts num sch ob s end n (factAt s at) (at + factSize)
 
-unfoldable pub state : Schema → TypedObjects → List ℕ → ℕ → ℕ → Answer
-state sch ob s end at = do
-  _ ← refuse (countBad s end at) 8 at
-  facts 8 sch ob s end (two s at) noFact (at + countSize)
+-- a state, refused with the number given at its count or at a fact
+unfoldable pub state : ℕ → Schema → TypedObjects → List ℕ → ℕ → ℕ → Answer
+state num sch ob s end at = do
+  _ ← refuse (countBad s end at) num at
+  facts num sch ob s end (two s at) noFact (at + countSize)

@@ -1,6 +1,6 @@
 -- Every case is as the paper says: the checker computes them, but for the two books at the limit of 60,000 bytes.
 use mathlib.Core.Path.{refl}
-use Rattle.answer.specs.Answer.{_>>=_, refuse, number, place, kept}
+use Rattle.answer.specs.Answer.{_>>=_, refuse, isRefused, number, place, unpositioned, thenAt, kept}
 use Rattle.answer.specs.Walk.{walk}
 use Rattle.input.specs.Bytes.{byteAt, two}
 use Rattle.output.specs.Written.{twoBytes}
@@ -13,20 +13,20 @@ use Rattle.format.specs.States.{cut, countBad, factRefused, facts, state}
 use Rattle.format.specs.Records.{objectsIn, stepsIn, lengthIn, headBad, object, stepRefused, step, objectsOf, trajectory, closed, body, recordAt}
 use Rattle.format.specs.LookOver.{stepTotal, allRecords, lookOverBy, lookOver}
 use Rattle.format.specs.Decode.{factsAt, stateAt, stateEnd, recordedStep, recordedStepsAt, stepsOfRecord, stepsOfRecords, recordedSteps}
-use Rattle.format.specs.Order.{objectCount, startCount, goalCount, stepCount, startAt, goalAt, stepsAt, orderCountsBad, orderOffsetsBad, orderObjects, orderObject, entryBad, entries, planStep, fromGoal, fromStart, orderForm, startFacts, entryAt, goalFrom, goal, planFrom, plan, orderHeaderBad, planStepBad}
+use Rattle.format.specs.Order.{objectCount, startCount, goalCount, stepCount, startAt, goalAt, stepsAt, orderCountsBad, orderOffsetsBad, orderHeader, orderObjects, orderObject, startsForm, entryBad, entries, planStepBad, planStep, fromGoal, fromStart, orderForm, startsFrom, starts, entryAt, goalFrom, goal, planFrom, plan}
 use Rattle.mask.specs.Sets.{maskOf}
 use Rattle.model.specs.Quantify.{same, below, any, has, later, first, least}
 use Rattle.model.specs.Model.{image, inapplicable, next, run}
 use Rattle.model.specs.Judge.{wrong}
 use Rattle.model.specs.Learned.{saw, before, after, turned, learned, unboundEffect, conflicting}
-use Rattle.jobs.specs.Planning.{domain, holding, groundAction, transition, goalEntry, schemaOf, stepsOfBook, transitionsOf, startState, planOf, goalOf}
+use Rattle.jobs.specs.Planning.{domain, holding, groundAction, transition, goalEntry, schemaOf, stepsOfBook, transitionsOf, startStates, planOf, goalOf}
 use Rattle.jobs.specs.Learn.{unboundEffects, conflictAnswer, conflictingMove, learnable, ruleRow, ruleRows, learnedFrom, ruleSheet, learn, learnBytes}
-use Rattle.jobs.specs.Check.{planRun, orderRun, goalAnswer, runAnswer, check, endSheet, checkBytes}
+use Rattle.jobs.specs.Check.{planRun, orderRun, goalAnswer, runAnswer, startAnswer, firstFailing, startsAnswer, beforePlan, check, endSheet, endAfter, checkBytes}
 use Rattle.jobs.specs.Add.{added, add, addBytes}
 use Rattle.jobs.specs.Listing.{digits, decimal, refusedLine, needLetter, effectLetter, paramShown, atomFront, atomLine, lineIfAtom, atomLines, moveLines, countsLine, rulesLines, rulesPrinted, planLine, planPrinted}
 use Rattle.jobs.specs.Cases.{cases, AllRight}
 use Rattle.jobs.proofs.LongBook.{long-right, longer-right}
 
 pub cases-right : AllRight cases
-unfolding _>>=_ refuse number place walk byteAt two sectionsOf outOfRange parentAt relationAt moveAt schema typedObjects suitsWithin kindSuits objectBad factAt factBad precedes noFact factNumber objectOf stepAt argumentBad stepBad samePair repeats atomRelation atomFirst atomSecond parameterFills isAtom placed ground lengthBad countsBad offsetsBad parentBad kindBad relationBad moveBad parent relation move sections cut countBad factRefused facts state objectsIn stepsIn lengthIn headBad object stepRefused step objectsOf trajectory closed body recordAt stepTotal allRecords lookOverBy lookOver factsAt stateAt stateEnd recordedStep recordedStepsAt stepsOfRecord stepsOfRecords recordedSteps objectCount startCount goalCount stepCount startAt goalAt stepsAt orderCountsBad orderOffsetsBad orderHeaderBad orderObjects orderObject entryBad entries planStepBad planStep fromGoal fromStart orderForm startFacts entryAt goalFrom goal planFrom plan maskOf same below any has later first least image inapplicable next run wrong saw before after turned learned unboundEffect conflicting domain holding groundAction transition goalEntry schemaOf stepsOfBook transitionsOf startState planOf goalOf unboundEffects conflictAnswer conflictingMove learnable ruleRow ruleRows learnedFrom ruleSheet learn kept learnBytes planRun orderRun goalAnswer runAnswer check endSheet checkBytes twoBytes added add addBytes digits decimal refusedLine needLetter effectLetter paramShown atomFront atomLine lineIfAtom atomLines moveLines countsLine rulesLines rulesPrinted planLine planPrinted
-cases-right = (refl, (refl, (refl, (refl, (refl, (refl, (refl, (refl, (refl, (refl, (refl, (refl, (refl, (refl, (refl, (refl, (refl, (refl, (refl, (refl, (long-right, (longer-right, (refl, (refl, (refl, (refl, (refl, (refl, (refl, (refl, (refl, (refl, (refl, (refl, (refl, (refl, (refl, (refl, (refl, (refl, tt))))))))))))))))))))))))))))))))))))))))
+unfolding _>>=_ refuse number place walk byteAt two sectionsOf outOfRange parentAt relationAt moveAt schema typedObjects suitsWithin kindSuits objectBad factAt factBad precedes noFact factNumber objectOf stepAt argumentBad stepBad samePair repeats atomRelation atomFirst atomSecond parameterFills isAtom placed ground lengthBad countsBad offsetsBad parentBad kindBad relationBad moveBad parent relation move sections cut countBad factRefused facts state objectsIn stepsIn lengthIn headBad object stepRefused step objectsOf trajectory closed body recordAt stepTotal allRecords lookOverBy lookOver factsAt stateAt stateEnd recordedStep recordedStepsAt stepsOfRecord stepsOfRecords recordedSteps objectCount startCount goalCount stepCount startAt goalAt stepsAt orderCountsBad orderOffsetsBad orderHeader orderObjects orderObject entryBad entries planStepBad planStep fromGoal startsForm fromStart orderForm startsFrom starts entryAt goalFrom goal planFrom plan maskOf same below any has later first least image inapplicable next run wrong saw before after turned learned unboundEffect conflicting domain holding groundAction transition goalEntry schemaOf stepsOfBook transitionsOf startStates planOf goalOf unboundEffects conflictAnswer conflictingMove learnable ruleRow ruleRows learnedFrom ruleSheet learn kept learnBytes planRun orderRun goalAnswer runAnswer startAnswer firstFailing startsAnswer beforePlan check endSheet endAfter checkBytes isRefused unpositioned thenAt twoBytes added add addBytes digits decimal refusedLine needLetter effectLetter paramShown atomFront atomLine lineIfAtom atomLines moveLines countsLine rulesLines rulesPrinted planLine planPrinted
+cases-right = (refl, (refl, (refl, (refl, (refl, (refl, (refl, (refl, (refl, (refl, (refl, (refl, (refl, (refl, (refl, (refl, (refl, (refl, (refl, (refl, (long-right, (longer-right, (refl, (refl, (refl, (refl, (refl, (refl, (refl, (refl, (refl, (refl, (refl, (refl, (refl, (refl, (refl, (refl, (refl, (refl, (refl, (refl, (refl, (refl, (refl, (refl, (refl, (refl, (refl, (refl, (refl, (refl, (refl, (refl, (refl, tt)))))))))))))))))))))))))))))))))))))))))))))))))))))))

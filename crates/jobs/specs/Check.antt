@@ -1,12 +1,13 @@
 -- Checking a plan: rows 13 to 20, and what the lent end sheet holds afterwards.
 use Prim.Native.Nat.{ℕ, zero, suc}
-use mathlib.Core.Bool.{not}
-use mathlib.Core.List.{List, []}
+use mathlib.Core.Bool.{true, false, not}
+use mathlib.Core.List.{List, [], _∷_}
 use lib.ListN.{length}
 use lib.Dec.{eqb}
 use Rattle.answer.specs.declared.Answer.{Answer}
 use Rattle.answer.specs.declared.Answer.the-variants.{Good, Refused}
-use Rattle.answer.specs.Answer.{_>>=_, refuse, kept}
+use Rattle.answer.specs.declared.Positioned.{Positioned}
+use Rattle.answer.specs.Answer.{_>>=_, refuse, isRefused, unpositioned, thenAt, kept}
 use Rattle.limits.specs.Limits.{stateSize, endSheetSize}
 use Rattle.mask.specs.Sets.{maskOf}
 use Rattle.format.specs.Order.{stepCount, orderForm}
@@ -14,16 +15,16 @@ use Rattle.model.specs.Quantify.{first}
 use Rattle.model.specs.Domain.{State, GroundAction, GoalLiteral}
 use Rattle.model.specs.Model.{Run, stopped, ended, run}
 use Rattle.model.specs.Judge.{wrong}
-use Rattle.jobs.specs.Planning.{domain, schemaOf, startState, planOf, goalOf}
+use Rattle.jobs.specs.Planning.{domain, schemaOf, startStates, planOf, goalOf}
 use Rattle.jobs.specs.Learn.{learnable, learnedFrom}
 
 -- a plan from a start on, under the model learned from the book
 unfoldable pub planRun : List ℕ → State → List GroundAction → Run
 planRun s start plan = run (domain (schemaOf s)) (learnedFrom s) plan start 1
 
--- the order's plan from its start
-unfoldable pub orderRun : List ℕ → List ℕ → Run
-orderRun s o = planRun s (startState o) (planOf (schemaOf s) o)
+-- the order's plan from one start
+unfoldable pub orderRun : List ℕ → List ℕ → State → Run
+orderRun s o start = planRun s start (planOf (schemaOf s) o)
 
 -- rows 19 and 20; success is the plan's step count
 unfoldable pub goalAnswer : ℕ → ℕ → Answer
@@ -34,17 +35,43 @@ unfoldable pub runAnswer : ℕ → List GoalLiteral → Run → Answer
 runAnswer steps goal (stopped k) = Refused 19 k
 runAnswer steps goal (ended end) = goalAnswer steps (first (wrong end) goal)
 
-unfoldable pub check : List ℕ → List ℕ → ℕ → Answer
-check s o size = do
+-- rows 19 and 20 from one start alone
+unfoldable pub startAnswer : List ℕ → List ℕ → State → Answer
+startAnswer s o start = runAnswer (stepCount o) (goalOf o) (orderRun s o start)
+
+-- The first start that fails gives number and place, and its position, where the first of the list has position k; success is the plan's
+-- step count.
+unfoldable pub firstFailing : {A : Type 0} → (A → Answer) → ℕ → ℕ → List A → Positioned
+firstFailing answer steps k [] = unpositioned (Good steps)
+firstFailing answer steps k (start ∷ rest) =
+    elim (isRefused (answer start))
+    [ true ↦ record { answer = answer start; position = k } | false ↦ firstFailing answer steps (suc k) rest ]
+
+-- rows 19 and 20 from each start
+unfoldable pub startsAnswer : List ℕ → List ℕ → Positioned
+startsAnswer s o = firstFailing (startAnswer s o) (stepCount o) 1 (startStates o)
+
+-- rows 1 to 18
+unfoldable pub beforePlan : List ℕ → List ℕ → ℕ → Answer
+beforePlan s o size = do
   _ ← learnable s
   _ ← refuse (not (eqb size endSheetSize)) 13 0
-  _ ← orderForm (schemaOf s) o
-  runAnswer (stepCount o) (goalOf o) (orderRun s o)
+  orderForm (schemaOf s) o
+
+-- all rows; success is the plan's step count
+unfoldable pub check : List ℕ → List ℕ → ℕ → Positioned
+check s o size = thenAt (beforePlan s o size) (startsAnswer s o)
 
 -- the end sheet of a run that ends: the state's mask
 unfoldable pub endSheet : Run → List ℕ
 endSheet (stopped k) = []
 endSheet (ended end) = maskOf stateSize end
 
+-- what a check that passes leaves of a lent end sheet: the sheet of the only start; with more starts nothing is written
+unfoldable pub endAfter : {A : Type 0} → (A → List ℕ) → List A → List ℕ → List ℕ
+endAfter sheet [] lent = lent
+endAfter sheet (start ∷ []) lent = sheet start
+endAfter sheet (start ∷ other ∷ rest) lent = lent
+
 unfoldable pub checkBytes : List ℕ → List ℕ → List ℕ → List ℕ
-checkBytes s o end = kept (check s o (length end)) (endSheet (orderRun s o)) end
+checkBytes s o lent = kept (check s o (length lent) .answer) (endAfter (λ start. endSheet (orderRun s o start)) (startStates o) lent) lent

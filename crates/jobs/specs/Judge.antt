@@ -4,7 +4,7 @@ use mathlib.Core.List.{List}
 use Rattle.model.specs.Domain.{State, GroundAction, GoalLiteral}
 use Rattle.model.specs.Model.{Model, Consistent}
 use Rattle.model.specs.Judge.{Verdict, Judged}
-use Rattle.jobs.specs.Planning.{domain, schemaOf, transitionsOf, startState, planOf, goalOf}
+use Rattle.jobs.specs.Planning.{domain, schemaOf, transitionsOf, planOf, goalOf}
 
 -- the models (rule lists) that fit each record of the book
 abbrev pub FitsBook : List ℕ → Model → Type 0
@@ -14,6 +14,6 @@ FitsBook s M = Consistent (domain (schemaOf s)) (transitionsOf s) M
 abbrev pub BookVerdict : List ℕ → State → List GroundAction → List GoalLiteral → Verdict → Type 0
 BookVerdict s start plan goal v = Judged (domain (schemaOf s)) (FitsBook s) plan start goal v
 
--- his verdict on an order
-abbrev pub OrderVerdict : List ℕ → List ℕ → Verdict → Type 0
-OrderVerdict s o v = BookVerdict s (startState o) (planOf (schemaOf s) o) (goalOf o) v
+-- his verdict on an order's plan from one start alone, with the order's goal
+abbrev pub StartVerdict : List ℕ → List ℕ → State → Verdict → Type 0
+StartVerdict s o start v = BookVerdict s start (planOf (schemaOf s) o) (goalOf o) v

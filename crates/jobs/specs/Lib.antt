@@ -6,4 +6,6 @@ pub mod Check
 pub mod Add
 pub mod Judge
 pub mod Listing
+pub mod Marked
+pub mod Further
 pub mod Cases

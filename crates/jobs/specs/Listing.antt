@@ -119,4 +119,4 @@ planLine (Good steps) = passesWord ++ decimal steps ++ newline
 
 -- what the program `plan` prints of a book and an order
 unfoldable pub planPrinted : List ℕ → List ℕ → List ℕ
-planPrinted s o = planLine (check s o endSheetSize)
+planPrinted s o = planLine (check s o endSheetSize .answer)

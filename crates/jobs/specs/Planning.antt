@@ -10,7 +10,7 @@ use Rattle.terms.specs.Schema.{Schema, schema}
 use Rattle.terms.specs.Facts.{factNumber}
 use Rattle.terms.specs.Steps.{isAtom, ground}
 use Rattle.format.specs.Decode.{RecordedStep, recordedSteps}
-use Rattle.format.specs.Order.{GoalEntry, startFacts, goal, plan}
+use Rattle.format.specs.Order.{GoalEntry, starts, goal, plan}
 use Rattle.model.specs.Quantify.{any}
 use Rattle.model.specs.Domain.{Domain, State, GroundAction, Transition, GoalLiteral}
 
@@ -41,9 +41,9 @@ stepsOfBook s = recordedSteps (sectionsOf s) s
 unfoldable pub transitionsOf : List ℕ → List Transition
 transitionsOf s = map (transition (schemaOf s)) (stepsOfBook s)
 
--- what an order says, for the schema of a book
-unfoldable pub startState : List ℕ → State
-startState o = holding (startFacts o)
+-- what an order says, for the schema of a book: its starts in file order, its plan and its goal
+unfoldable pub startStates : List ℕ → List State
+startStates o = map holding (starts o)
 
 unfoldable pub planOf : Schema → List ℕ → List GroundAction
 planOf sch o = map (groundAction sch) (plan o)

@@ -59,6 +59,9 @@ stepSize = 5
 
 -- ---- an order
 
+abbrev pub maxStarts : ℕ
+maxStarts = 16
+
 abbrev pub maxEntries : ℕ
 maxEntries = 64
 

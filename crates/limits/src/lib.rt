@@ -42,6 +42,8 @@ pub const STEP_SIZE: usize = 5;
 
 // ---- an order
 
+pub const MAX_STARTS: u16 = 16;
+
 pub const MAX_ENTRIES: u16 = 64;
 
 pub const ENTRY_SIZE: usize = 4;

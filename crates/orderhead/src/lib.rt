@@ -1,11 +1,13 @@
-// Row 14 of the refusal table: the header of an order, its counts, and where its sections start by the counts.
-// Uses input, terms, limits and the definitions of format. `o` is the order.
+// Rows 14 and 22 of the refusal table: the header of an order, its counts, and where its sections start.
+// Uses answer, input, terms, limits and the definitions of format. `o` is the order.
+use answer::Answer;
 use terms::Objects;
 ghost use mathlib.Core.Path.{_≡_};
 ghost use Prim.Native.Nat.{_+_, _*_, _≤_};
-ghost use Rattle.limits.specs.Limits.{headerSize, maxObjects, maxTwo, nearCeiling};
+ghost use Rattle.limits.specs.Limits.{headerSize, maxObjects, maxStarts, maxTwo, nearCeiling};
+ghost use Rattle.terms.specs.Schema.{outOfRange};
 ghost use Rattle.format.specs.Order.{objectCount, startCount, goalCount, stepCount};
-ghost use Rattle.format.specs.Order.{startAt, goalAt, stepsAt, orderCountsBad, orderOffsetsBad, orderHeaderBad, orderObjects};
+ghost use Rattle.format.specs.Order.{startAt, goalAt, stepsAt, orderCountsBad, orderOffsetsBad, orderHeader, orderObjects};
 
 const MAX_OBJECTS: u16 = limits::MAX_OBJECTS as u16;
 
@@ -35,7 +37,7 @@ pub fn step_count(o: &[u8]) -> u16
     input::two_at(o, 6)
 }
 
-// Where the sections start by the counts. Row 14 compares the header's offsets with these.
+// Where the sections start: by the counts, and for the goal entries by the header, since the starts are of any length.
 pub fn start_at(o: &[u8]) -> usize
     ensures { λ r. ⌜ (r ≡ startAt (now (o .entry))) × (r ≤ headerSize + maxTwo) ⌝ }
 {
@@ -43,9 +45,9 @@ pub fn start_at(o: &[u8]) -> usize
 }
 
 pub fn goal_at(o: &[u8]) -> usize
-    ensures { λ r. ⌜ (r ≡ goalAt (now (o .entry))) × (r ≤ headerSize + 4 * maxTwo) ⌝ }
+    ensures { λ r. ⌜ (r ≡ goalAt (now (o .entry))) × (r ≤ maxTwo) ⌝ }
 {
-    start_at(o) + limits::FACT_SIZE * start_count(o) as usize
+    input::two_at(o, 12) as usize
 }
 
 pub fn steps_at(o: &[u8]) -> usize
@@ -64,34 +66,55 @@ pub fn objects_of(o: &[u8]) -> Objects
     }
 }
 
+// Row 14 before the number of starts is asked: too short, or a count over its limit.
 fn counts_bad(o: &[u8]) -> bool
     ensures { λ r. ⌜ r ≡ orderCountsBad (now (o .entry)) ⌝ }
 {
-    (MAX_OBJECTS < object_count(o))
-        | (limits::MAX_FACTS < start_count(o))
+    (o.len() < limits::HEADER_SIZE)
+        | (MAX_OBJECTS < object_count(o))
         | (limits::MAX_ENTRIES < goal_count(o))
         | (MAX_STEPS < step_count(o))
 }
 
-// The sections touch, and the steps end the order.
+// Row 22.
+fn starts_bad(o: &[u8]) -> bool
+    ensures { λ r. ⌜ r ≡ outOfRange maxStarts (startCount (now (o .entry))) ⌝ }
+{
+    let n = start_count(o);
+    (n < 1) | (limits::MAX_STARTS < n)
+}
+
+// Row 14 after it: the sections touch, and the steps end the order.
 fn offsets_bad(o: &[u8]) -> bool
     ensures { λ r. ⌜ r ≡ orderOffsetsBad (now (o .entry)) ⌝ }
 {
     let objects = input::two_at(o, 8) as usize;
     let start = input::two_at(o, 10) as usize;
-    let goal = input::two_at(o, 12) as usize;
     let steps = input::two_at(o, 14) as usize;
+    let first = start_at(o);
     let last = steps_at(o);
     (objects != limits::HEADER_SIZE)
-        | (start != start_at(o))
-        | (goal != goal_at(o))
+        | (start != first)
+        | (goal_at(o) < first)
         | (steps != last)
         | (o.len() != last + limits::STEP_SIZE * step_count(o) as usize)
 }
 
-// Row 14.
-pub fn header_bad(o: &[u8]) -> bool
-    ensures { λ r. ⌜ r ≡ orderHeaderBad (now (o .entry)) ⌝ }
+// Rows 14 and 22: where the objects begin.
+pub fn header(o: &[u8]) -> Answer
+    ensures { λ r. ⌜ r ≡ orderHeader (now (o .entry)) ⌝ }
 {
-    (o.len() < limits::HEADER_SIZE) | counts_bad(o) | offsets_bad(o)
+    let counts = counts_bad(o);
+    let starts = starts_bad(o);
+    let offsets = offsets_bad(o);
+    if counts {
+        return Answer::Refused(14, 0);
+    }
+    if starts {
+        return Answer::Refused(22, 0);
+    }
+    if offsets {
+        return Answer::Refused(14, 0);
+    }
+    Answer::Good(limits::HEADER_SIZE)
 }

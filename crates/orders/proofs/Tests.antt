@@ -1,39 +1,52 @@
--- The tests of rows 15, 17 and 18, and rows 14 to 18 in order, put together from what the calls in the code return.
+-- The tests of rows 15 to 18, and rows 14 to 18 in order, put together from what the calls in the code return.
 use Prim.Native.Nat.{ℕ, _+_, _≤_, _<_}
-use mathlib.Core.Path.{_≡_, refl, sym, _∙_}
+use mathlib.Core.Path.{_≡_, refl, sym, ap, _∙_}
 use mathlib.Core.Bool.{Bool, true, false, _||_, not, or-assoc}
 use mathlib.Core.List.{List}
 use lib.Dec.{ltb}
 use native.Mathlib.Omega.{arith}
-use lib.ListN.{length}
+use borrow.Author.Tests.{lt-ltb, le-ltb}
 use Rattle.answer.specs.declared.Answer.{Answer}
-use Rattle.answer.specs.declared.Answer.the-variants.{Refused}
-use Rattle.answer.specs.Answer.{_>>=_, isRefused}
+use Rattle.answer.specs.declared.Answer.the-variants.{Good, Refused}
+use Rattle.answer.specs.Answer.{_>>=_, refuse, isRefused, valueOf}
 use Rattle.answer.specs.Laws.{refuse-met, refuse-unmet}
 use Rattle.answer.specs.Walk.{walk}
-use Rattle.answer.specs.Turns.{part-stays, part-then}
+use Rattle.answer.specs.Turns.{is-good, part-stays, part-follows, part-then}
 use Rattle.input.specs.Bytes.{byteAt}
 use Rattle.terms.specs.declared.Sections.{Sections}
 use Rattle.terms.specs.declared.Objects.{Objects}
 use Rattle.terms.specs.declared.Step.{Step}
 use Rattle.terms.specs.Schema.{Schema, TypedObjects, schema, typedObjects, outOfRange}
-use Rattle.terms.specs.Facts.{factAt, factBad, precedes, noFact}
+use Rattle.terms.specs.Facts.{factAt, factBad, precedes}
 use Rattle.terms.specs.Steps.{stepAt, stepBad, repeats}
 use Rattle.limits.specs.Limits.{headerSize, maxObjects, entrySize, nearCeiling}
-use Rattle.format.specs.States.{facts}
-use Rattle.format.specs.Order.{objectCount, startCount, startAt, orderObjects, orderObject, entryBad, orderForm, fromStart, orderHeaderBad, planStepBad}
+use Rattle.format.specs.States.{state}
+use Rattle.format.specs.Order.{objectCount, startCount, startAt, goalAt, orderObjects, orderHeader, orderObject, startsForm, entryBad, orderForm, fromStart, planStepBad}
 use Rattle.tables.specs.Tables.{RightByKind}
 use Rattle.states.specs.declared.FactCursor.{FactCursor}
 use Rattle.states.specs.Cursor.{misplaced}
 use Rattle.states.proofs.Cursors.{fact-of}
 
 module _ (sch : Schema) (ob : TypedObjects) (o : List ℕ) where
-  pub start-by : (n from : ℕ) (a : Answer)
-      → n ≡ startCount o
-      → from ≡ startAt o
-      → a ≡ facts 16 sch ob o (length o) n noFact from
-      → a ≡ facts 16 sch ob o (length o) (startCount o) noFact (startAt o)
-  start-by n from a p q e = rw (← p, ← q) e
+  abbrev start : ℕ → Answer
+  start = state 16 sch ob o (goalAt o)
+
+  -- row 16 behind the starts, by what their walk and the header say
+  module _ (a : Answer) (b : Bool) (walked : a ≡ walk start (startCount o) (startAt o)) (told : b ≡ isRefused a) where
+    pub at-starts : b ≡ true → a ≡ startsForm sch ob o
+    unfolding startsForm
+    at-starts e = part-stays _ _ a b walked told e
+
+    module _ (good : b ≡ false) (last end : ℕ) (v : last ≡ valueOf a) (at : end ≡ goalAt o) where
+      behind : (refuse (ltb last (goalAt o)) 16 last >>= λ _. Good (goalAt o)) ≡ startsForm sch ob o
+      unfolding startsForm
+      behind = part-follows _ (λ x. refuse (ltb x (goalAt o)) 16 x >>= λ _. Good (goalAt o)) a b last walked told good v
+
+      pub at-rest : last < end → Refused 16 last ≡ startsForm sch ob o
+      at-rest h = sym (refuse-met _ _ _ _ (lt-ltb last (goalAt o) (omega arith))) ∙ behind
+
+      pub at-goal : end ≤ last → Good end ≡ startsForm sch ob o
+      at-goal h = ap Good at ∙ sym (refuse-unmet _ _ _ _ (le-ltb last (goalAt o) (omega arith))) ∙ behind
 
   -- row 17, as the code meets it
   pub entry-bad-by : (c : FactCursor) (wanted : ℕ) (b : Bool)
@@ -76,15 +89,18 @@ pub kinds-are : (h : Sections) (s : List ℕ) → h .kinds ≡ schema h s .kinds
 unfolding schema
 kinds-are h s = refl
 
-module _ (sch : Schema) (o : List ℕ) (b : Bool) (b-is : b ≡ orderHeaderBad o) where
-  pub row-fourteen : b ≡ true → Refused 14 0 ≡ orderForm sch o
+pub header-good : (o : List ℕ) (h : Answer) (b : Bool) → h ≡ orderHeader o → b ≡ isRefused h → b ≡ false → orderHeader o ≡ Good (valueOf h)
+header-good o h b head told unmet = sym head ∙ is-good h (sym told ∙ unmet)
+
+module _ (sch : Schema) (o : List ℕ) (h : Answer) (head : h ≡ orderHeader o) (b : Bool) (b-is : b ≡ isRefused h) where
+  pub row-fourteen : b ≡ true → h ≡ orderForm sch o
   unfolding orderForm
-  row-fourteen e = sym (refuse-met _ _ _ _ (sym b-is ∙ e))
+  row-fourteen e = part-stays _ _ h b head b-is e
 
   module _ (unmet : b ≡ false) where
     objects-on : (walk (orderObject (sch .kinds) o) (objectCount o) headerSize >>= λ _. fromStart sch (typedObjects (orderObjects o) o) o) ≡ orderForm sch o
     unfolding orderForm
-    objects-on = sym (refuse-unmet _ _ _ _ (sym b-is ∙ unmet))
+    objects-on = part-then _ _ h b head b-is unmet
 
     module _ (kinds : ℕ) (is : kinds ≡ sch .kinds) (a : Answer) (a-is : a ≡ walk (orderObject kinds o) (objectCount o) headerSize) (c : Bool) (c-is : c ≡ isRefused a) where
       pub row-fifteen : c ≡ true → a ≡ orderForm sch o

@@ -1,4 +1,4 @@
-// Rows 15 to 18 of the refusal table after row 14: the objects, the start facts, the goal entries and the plan steps of an order.
+// Rows 15 to 18 of the refusal table after rows 14 and 22: the objects, the starts, the goal entries and the plan steps of an order.
 // Uses answer, input, limits, terms, tables, states, orderhead and the definitions of format. `book` has the schema, by its header `h`; `o` is the order.
 // What suits is told by two tables of the order's objects, made once.
 use answer::Answer;
@@ -12,11 +12,11 @@ ghost use Rattle.answer.specs.Walk.{walk};
 ghost use Rattle.terms.specs.Schema.{schema, typedObjects};
 ghost use Rattle.terms.specs.Facts.{noFact};
 ghost use Rattle.terms.specs.Steps.{repeats};
-ghost use Rattle.limits.specs.Limits.{headerSize, maxObjects, maxFacts, stepSize, farCeiling};
-ghost use Rattle.format.specs.States.{facts};
+ghost use Rattle.limits.specs.Limits.{headerSize, maxObjects, stepSize, farCeiling};
+ghost use Rattle.format.specs.States.{state};
 ghost use Rattle.format.specs.Order.{objectCount, startCount, goalCount, stepCount, startAt, goalAt, stepsAt, orderObjects};
-ghost use Rattle.format.specs.Order.{orderObject, entries, planStepBad, planStep, fromGoal, fromStart, orderForm};
-ghost use Rattle.tables.specs.Tables.{ForRightByKind, ForRightByPlace, RightFrom};
+ghost use Rattle.format.specs.Order.{orderObject, startsForm, entries, planStepBad, planStep, fromGoal, fromStart, orderForm};
+ghost use Rattle.tables.specs.Tables.{ForRightByKind, ForRightByPlace, RightForSome, RightFrom};
 
 // Row 15 of each object.
 fn objects(o: &[u8], kinds: u16) -> Answer
@@ -34,19 +34,43 @@ fn objects(o: &[u8], kinds: u16) -> Answer
     Answer::Good(at)
 }
 
-// Row 16: the start section, whose facts are looked at as those of a state are.
-fn start(o: &[u8], table: &[u32; 512]) -> Answer
-    requires { ⌜ startCount (now o) ≤ maxFacts ⌝ }
-    ensures { λ r. ⌜ ForRightByPlace (now (table .entry)) (λ sch ob. r ≡ facts 16 sch ob (now (o .entry)) (length (now (o .entry))) (startCount (now (o .entry))) noFact (startAt (now (o .entry)))) ⌝ }
+// Row 16 of each start, which is looked at as a state of a book is: where the last one ends.
+fn starts(o: &[u8], table: &[u32; 512]) -> Answer
+    requires { ⌜ (goalAt (now o) ≤ length (now o)) × RightForSome (now table) ⌝ }
+    ensures { λ r. ⌜ ForRightByPlace (now (table .entry)) (λ sch ob. r ≡ walk (state 16 sch ob (now (o .entry)) (goalAt (now (o .entry)))) (startCount (now (o .entry))) (startAt (now (o .entry)))) ⌝ }
 {
-    states::facts(
-        16,
-        o,
-        table,
-        o.len(),
-        orderhead::start_count(o) as usize,
-        orderhead::start_at(o),
-    )
+    let end = orderhead::goal_at(o);
+    let mut left = orderhead::start_count(o);
+    let mut at = orderhead::start_at(o);
+    while 0 < left {
+        match states::state(16, o, table, end, at) {
+            Answer::Refused(k, p) => {
+                return Answer::Refused(k, p);
+            }
+            Answer::Good(next) => {
+                at = next;
+            }
+        }
+        left -= 1;
+    }
+    Answer::Good(at)
+}
+
+// Row 16: the starts, and no bytes left before the goal entries.
+fn starts_form(o: &[u8], table: &[u32; 512]) -> Answer
+    requires { ⌜ (goalAt (now o) ≤ length (now o)) × RightForSome (now table) ⌝ }
+    ensures { λ r. ⌜ ForRightByPlace (now (table .entry)) (λ sch ob. r ≡ startsForm sch ob (now (o .entry))) ⌝ }
+{
+    let walked = starts(o, table);
+    if answer::is_refused(walked) {
+        return walked;
+    }
+    let last = answer::value_of(walked);
+    let end = orderhead::goal_at(o);
+    if last < end {
+        return Answer::Refused(16, last);
+    }
+    Answer::Good(end)
 }
 
 // Row 17 of each goal entry: a byte, then a fact, by the cursor that looks at a state's.
@@ -107,14 +131,14 @@ fn from_goal(book: &[u8], h: Sections, kinds: &[u32; 256], table: &[u32; 512], o
     plan(book, h, kinds, o)
 }
 
-// Rows 16 to 18: the sections after the objects, by the tables of these. Goal entries are looked at after good start facts.
+// Rows 16 to 18: the sections after the objects, by the tables of these. Goal entries are looked at after good starts.
 fn from_start(book: &[u8], h: Sections, o: &[u8]) -> Answer
-    requires { ⌜ (objectCount (now o) ≤ maxObjects) × (startCount (now o) ≤ maxFacts) × (stepsAt (now o) + stepSize * stepCount (now o) ≤ length (now o)) ⌝ }
+    requires { ⌜ (objectCount (now o) ≤ maxObjects) × (stepsAt (now o) + stepSize * stepCount (now o) ≤ length (now o)) ⌝ }
     ensures { λ r. ⌜ r ≡ fromStart (schema h (now (book .entry))) (typedObjects (orderObjects (now (o .entry))) (now (o .entry))) (now (o .entry)) ⌝ }
 {
     let kinds = tables::kinds_of(book, h, o, orderhead::objects_of(o));
     let table = tables::table_of(book, h, &kinds);
-    let begun = start(o, &table);
+    let begun = starts_form(o, &table);
     if answer::is_refused(begun) {
         return begun;
     }
@@ -125,8 +149,9 @@ fn from_start(book: &[u8], h: Sections, o: &[u8]) -> Answer
 pub fn order_form(book: &[u8], h: Sections, o: &[u8]) -> Answer
     ensures { λ r. ⌜ r ≡ orderForm (schema h (now (book .entry))) (now (o .entry)) ⌝ }
 {
-    if orderhead::header_bad(o) {
-        return Answer::Refused(14, 0);
+    let head = orderhead::header(o);
+    if answer::is_refused(head) {
+        return head;
     }
     let listed = objects(o, h.kinds);
     if answer::is_refused(listed) {

@@ -1,5 +1,5 @@
 // The program that checks a plan: the files `book` and `order` of the folder that it runs in.
-// Uses checker for the answer, lines for the text, which is proved to be jobs' planPrinted of what was read, and streams to write it.
+// Uses checker for the answer, whose position is not printed, lines for the text, which is proved to be jobs' planPrinted of what was read, and streams to write it.
 ghost use mathlib.Core.Path.{_≡_};
 ghost use lib.ListN.{take};
 ghost use Rattle.io.specs.Counts.{Counts};
@@ -41,7 +41,8 @@ fn plan_line(book: &[u8], order: &[u8], line: &mut [u8; 128]) -> usize
     ensures { λ r. ⌜ Counts r (now (line .exit)) × (take r (now (line .exit)) ≡ planPrinted (now (book .entry)) (now (order .entry))) ⌝ }
 {
     let mut end = [0u8; limits::END_SHEET_SIZE];
-    let a = checker::check(book, order, &mut end);
+    let r = checker::check(book, order, &mut end);
+    let a = r.answer;
     answer_line(a, line)
 }
 

@@ -31,12 +31,12 @@ module _ (sch : Schema) (ob : TypedObjects) (s : List ℕ) (end : ℕ) where
       bounded-row end _ _ _ _ (omega arith) h
       (λ e.
       bounded-row end _ _ _ _ (omega arith) h
-      (λ f. state-bounded sch ob s end _ (ltb-false _ _ (neither _ _ e .0))))
+      (λ f. state-bounded 8 sch ob s end (omega arith) _ (ltb-false _ _ (neither _ _ e .0))))
 
   trajectory-bounded : (n at : ℕ) → at ≤ end → Bounded end (trajectory sch ob s end n at)
   unfolding trajectory
   trajectory-bounded n at h =
-      bounded-then end _ _ (state-bounded sch ob s end at h)
+      bounded-then end _ _ (state-bounded 8 sch ob s end (omega arith) at h)
       (λ next e i. bounded-walk end _ step-bounded n next i)
 
 module _ (h : Sections) (s : List ℕ) where

@@ -49,22 +49,22 @@ module _ (sch : Schema) (ob : TypedObjects) (s : List ℕ) (end : ℕ) where
 
   -- what stands after row 9
   module _ (at : ℕ) (st : Step) (b : Bool) (told : b ≡ stepRefused sch ob s end at) (right : b ≡ false) (read : st ≡ stepAt s at) where
-    behind-nine : step sch ob s end at ≡ (refuse (repeats st) 10 at >>= λ _. state sch ob s end (at + stepSize))
+    behind-nine : step sch ob s end at ≡ (refuse (repeats st) 10 at >>= λ _. state 8 sch ob s end (at + stepSize))
     unfolding step
     behind-nine = rw read (refuse-unmet _ _ _ _ (sym told ∙ right))
 
     pub step-repeats : (c : Bool) → c ≡ repeats st → c ≡ true → step sch ob s end at ≡ Refused 10 at
     step-repeats c p e = behind-nine ∙ refuse-met _ _ _ _ (sym p ∙ e)
 
-    pub step-state : (c : Bool) → c ≡ repeats st → c ≡ false → step sch ob s end at ≡ state sch ob s end (at + stepSize)
+    pub step-state : (c : Bool) → c ≡ repeats st → c ≡ false → step sch ob s end at ≡ state 8 sch ob s end (at + stepSize)
     step-state c p e = behind-nine ∙ refuse-unmet _ _ _ _ (sym p ∙ e)
 
-  pub trajectory-stays : (n at : ℕ) (a : Answer) (b : Bool) → a ≡ state sch ob s end at → b ≡ isRefused a → b ≡ true → a ≡ trajectory sch ob s end n at
+  pub trajectory-stays : (n at : ℕ) (a : Answer) (b : Bool) → a ≡ state 8 sch ob s end at → b ≡ isRefused a → b ≡ true → a ≡ trajectory sch ob s end n at
   unfolding trajectory
   trajectory-stays n at a b p q r = part-stays _ _ a b p q r
 
   pub trajectory-steps : (n at : ℕ) (a : Answer) (b : Bool) (v : ℕ) (w : Answer)
-      → a ≡ state sch ob s end at
+      → a ≡ state 8 sch ob s end at
       → b ≡ isRefused a
       → b ≡ false
       → v ≡ valueOf a

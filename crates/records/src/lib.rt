@@ -96,7 +96,7 @@ fn step(book: &[u8], c: Scope, kinds: &[u32; 256], table: &[u32; 512], at: usize
     if st.repeats() {
         return Answer::Refused(10, at);
     }
-    states::state(book, table, c.end, at + limits::STEP_SIZE)
+    states::state(8, book, table, c.end, at + limits::STEP_SIZE)
 }
 
 fn steps(book: &[u8], c: Scope, kinds: &[u32; 256], table: &[u32; 512], from: usize) -> Answer
@@ -124,7 +124,7 @@ fn trajectory(book: &[u8], c: Scope, kinds: &[u32; 256], table: &[u32; 512], at:
     requires { ⌜ Readable (now book) c (now kinds) (now table) × (at ≤ nearCeiling) ⌝ }
     ensures { λ r. ⌜ r ≡ trajectory (schema (c .h) (now (book .entry))) (typedObjects (c .objects) (now (book .entry))) (now (book .entry)) (c .end) (c .steps) at ⌝ }
 {
-    let first = states::state(book, table, c.end, at);
+    let first = states::state(8, book, table, c.end, at);
     if answer::is_refused(first) {
         return first;
     }

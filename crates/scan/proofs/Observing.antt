@@ -30,9 +30,9 @@ use Rattle.scan.proofs.Steps.{observedAs, observed-path}
 
 -- the steps after a good state, if they are good
 observable-steps : (sch : Schema) (ob : TypedObjects) (s : List ℕ) (end : ℕ) → end ≤ length s → length s ≤ maxLength → sch .moves ≤ maxMoves
-    → (n at mid last : ℕ) → at ≤ maxLength → state sch ob s end at ≡ Good mid → walk (step sch ob s end) n mid ≡ Good last → Observable s n at
+    → (n at mid last : ℕ) → at ≤ maxLength → state 8 sch ob s end at ≡ Good mid → walk (step sch ob s end) n mid ≡ Good last → Observable s n at
 unfolding Observable
-observable-steps sch ob s end short long few zero at mid last l e f = (l, omega (arith, state-ends sch ob s end at mid e))
+observable-steps sch ob s end short long few zero at mid last l e f = (l, omega (arith, state-ends 8 sch ob s end at mid e))
 observable-steps sch ob s end short long few (suc n) at mid last l e f =
     let (after, good, rest) = trajectory-parted sch ob s end n at mid last e f in
     let (suits, different, behind) = step-good sch ob s end (stateEnd s at) after good in
@@ -47,8 +47,8 @@ module _ (h : Sections) (s : List ℕ) (long : length s ≤ maxLength) (few : h 
       let g = record-good h s at next e in
       let end : ℕ = at + lengthIn s at in
       let l = head-limits s at (g .head) in
-      let w = state-within _ _ s end _ (g .after) (g .start) in
-      let v = state-end _ _ s end _ (g .after) (g .start) in
+      let w = state-within 8 _ _ s end _ (g .after) (g .start) in
+      let v = state-end 8 _ _ s end _ (g .after) (g .start) in
       observable-steps _ _ s end (omega arith) long few (stepsIn s at) _ (g .after) (g .last) (omega arith) (g .start) (g .steps)
 
 -- one record, by its head

@@ -1,15 +1,15 @@
 // The walk over the records of a book, in file order: each looked over to its end, rows 6 to 10, and its steps observed where that is asked for.
-// Uses the reader of records for the rows, notes for one step and marks for the table that it is lent, records for a head, answer, input, limits, and the definitions of format and observed. Looking over and learning both walk here.
+// Uses the reader of records for the rows, notes for one step and marks for the table that it is lent, records for a head, states for where a state ends, answer, limits, and the definitions of format and observed. Looking over and learning both walk here.
 use answer::Answer;
 use records::Head;
 ghost use mathlib.Core.Path.{_≡_};
 ghost use mathlib.Core.Bool.{true};
 ghost use Prim.Native.Nat.{_+_, _≤_};
 ghost use lib.ListN.{length};
-ghost use Rattle.limits.specs.Limits.{nearCeiling, maxLength, maxMoves, maxRecords, observedSize, headSize};
+ghost use Rattle.limits.specs.Limits.{maxLength, maxMoves, maxRecords, observedSize, headSize};
 ghost use Rattle.terms.specs.Sections.{sectionsOf};
 ghost use Rattle.format.specs.Records.{stepsIn, objectsIn};
-ghost use Rattle.format.specs.Decode.{stateEnd, recordedStepsAt, stepsOfRecord};
+ghost use Rattle.format.specs.Decode.{recordedStepsAt, stepsOfRecord};
 ghost use Rattle.observed.specs.Observed.{observeAll};
 ghost use Rattle.records.specs.Head.{headOf};
 ghost use Rattle.notes.specs.Notes.{IsObserved};
@@ -19,13 +19,6 @@ ghost use Rattle.scan.specs.Scan.{Observable, RecordsScanned};
 pub struct Walked {
     pub answer: Answer,
     pub named: usize,
-}
-
-fn state_end(s: &[u8], at: usize) -> usize
-    requires { ⌜ at ≤ maxLength ⌝ }
-    ensures { λ r. ⌜ (r ≡ stateEnd (now (s .entry)) at) × (r ≤ nearCeiling) ⌝ }
-{
-    at + limits::COUNT_SIZE + limits::FACT_SIZE * input::two_at(s, at) as usize
 }
 
 // The steps after the state at an offset, each observed.
@@ -38,7 +31,7 @@ fn observe_steps(s: &[u8], n: usize, from: usize, observed: &mut [u8], named: us
     let mut first = named;
     let mut t = marks::no_digits();
     while 0 < left {
-        let step = state_end(s, at);
+        let step = states::state_end(s, at);
         first = notes::observe(s, at, step, &mut t, observed, first);
         at = step + limits::STEP_SIZE;
         left -= 1;

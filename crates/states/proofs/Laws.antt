@@ -22,12 +22,12 @@ module _ (s : List ℕ) (end : ℕ) where
   unfolding countBad cut
   count-whole at n h e = rw (e, le-ltb end (at + 2) h) refl
 
-module _ (sch : Schema) (ob : TypedObjects) (s : List ℕ) (end : ℕ) where
+module _ (num : ℕ) (sch : Schema) (ob : TypedObjects) (s : List ℕ) (end : ℕ) where
   -- a state whose count is refused, and one whose count is not
-  pub state-refused : (at : ℕ) → countBad s end at ≡ true → state sch ob s end at ≡ Refused 8 at
+  pub state-refused : (at : ℕ) → countBad s end at ≡ true → state num sch ob s end at ≡ Refused num at
   unfolding state
   state-refused at e = refuse-met _ _ _ _ e
 
-  pub state-facts : (at n : ℕ) → countBad s end at ≡ false → n ≡ two s at → state sch ob s end at ≡ facts 8 sch ob s end n noFact (at + 2)
+  pub state-facts : (at n : ℕ) → countBad s end at ≡ false → n ≡ two s at → state num sch ob s end at ≡ facts num sch ob s end n noFact (at + 2)
   unfolding state
   state-facts at n e q = rw q (refuse-unmet _ _ _ _ e)

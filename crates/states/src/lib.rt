@@ -1,21 +1,22 @@
-// Row 8 of the refusal table: the facts of a state, in order, by a cursor that carries the fact before. What suits is told by a table of
+// Row 8 of the refusal table, and row 16: the facts of a state, in order, by a cursor that carries the fact before. What suits is told by a table of
 // the record or order, so that both are looked at by the same functions; goal entries are looked at by the same cursor.
-// Uses answer, limits, terms, and the definitions of input, format and tables.
+// Uses answer, input, limits, terms, and the definitions of format and tables.
 use answer::Answer;
 use terms::Fact;
 ghost use mathlib.Core.Path.{_≡_};
 ghost use Prim.Native.Nat.{_+_, _-_, _*_, _≤_, _<_};
 ghost use lib.ListN.{length};
-ghost use Rattle.limits.specs.Limits.{countSize, maxFacts, factSize, nearCeiling};
+ghost use Rattle.limits.specs.Limits.{maxLength, countSize, maxFacts, factSize, nearCeiling};
 ghost use Rattle.input.specs.Bytes.{two};
 ghost use Rattle.terms.specs.Facts.{noFact};
 ghost use Rattle.terms.specs.Told.{factKey};
 ghost use Rattle.format.specs.States.{countBad, facts, state};
+ghost use Rattle.format.specs.Decode.{stateEnd};
 ghost use Rattle.tables.specs.Tables.{ForRightByPlace};
 ghost use Rattle.states.specs.Cursor.{Ahead, factOf, misplaced};
 
 // Facts still to be looked at, each at the end of an item of a size: from where, how many, and the fact before them with its key. The items
-// of a state and of a start section are their facts; a goal entry has a byte before its fact.
+// of a state, which a start of an order is too, are its facts; a goal entry has a byte before its fact.
 pub struct FactCursor {
     pub at: usize,
     pub left: usize,
@@ -84,14 +85,7 @@ fn uncut(end: usize, n: usize, from: usize) -> usize
 }
 
 // A number of facts from an offset, each refused with the number given.
-pub fn facts(
-    number: usize,
-    t: &[u8],
-    table: &[u32; 512],
-    end: usize,
-    n: usize,
-    from: usize,
-) -> Answer
+fn facts(number: usize, t: &[u8], table: &[u32; 512], end: usize, n: usize, from: usize) -> Answer
     requires { ⌜ (end ≤ length (now t)) × (from ≤ nearCeiling + countSize) × (n ≤ maxFacts) ⌝ }
     ensures { λ r. ⌜ ForRightByPlace (now (table .entry)) (λ sch ob. r ≡ facts number sch ob (now (t .entry)) end n noFact from) ⌝ }
 {
@@ -123,6 +117,14 @@ fn count(s: &[u8], at: usize) -> u16
     joined(s[at], s[at + 1])
 }
 
+// Where a state ends, whether it is good or not.
+pub fn state_end(s: &[u8], at: usize) -> usize
+    requires { ⌜ at ≤ maxLength ⌝ }
+    ensures { λ r. ⌜ (r ≡ stateEnd (now (s .entry)) at) × (r ≤ nearCeiling) ⌝ }
+{
+    at + limits::COUNT_SIZE + limits::FACT_SIZE * input::two_at(s, at) as usize
+}
+
 fn count_bad(s: &[u8], end: usize, at: usize) -> bool
     requires { ⌜ (end ≤ length (now s)) × (at ≤ nearCeiling) ⌝ }
     ensures { λ r. ⌜ r ≡ countBad (now (s .entry)) end at ⌝ }
@@ -133,20 +135,20 @@ fn count_bad(s: &[u8], end: usize, at: usize) -> bool
     limits::MAX_FACTS < count(s, at)
 }
 
-// Row 8.
-pub fn state(book: &[u8], table: &[u32; 512], end: usize, at: usize) -> Answer
-    requires { ⌜ (end ≤ length (now book)) × (at ≤ nearCeiling) ⌝ }
-    ensures { λ r. ⌜ ForRightByPlace (now (table .entry)) (λ sch ob. r ≡ state sch ob (now (book .entry)) end at) ⌝ }
+// Row 8 of a book's state, row 16 of an order's start: a state, refused with the number given.
+pub fn state(number: usize, t: &[u8], table: &[u32; 512], end: usize, at: usize) -> Answer
+    requires { ⌜ (end ≤ length (now t)) × (at ≤ nearCeiling) ⌝ }
+    ensures { λ r. ⌜ ForRightByPlace (now (table .entry)) (λ sch ob. r ≡ state number sch ob (now (t .entry)) end at) ⌝ }
 {
-    if count_bad(book, end, at) {
-        return Answer::Refused(8, at);
+    if count_bad(t, end, at) {
+        return Answer::Refused(number, at);
     }
     facts(
-        8,
-        book,
+        number,
+        t,
         table,
         end,
-        count(book, at) as usize,
+        count(t, at) as usize,
         at + limits::COUNT_SIZE,
     )
 }

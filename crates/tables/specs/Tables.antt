@@ -33,7 +33,11 @@ placeSet sch ks r i = cond (leb i (sch .places r)) (entry ks (sch .placeKind r i
 unfoldable pub RightByPlace : Schema → TypedObjects → List ℕ → Type 0
 RightByPlace sch ob t = (f : Fact) → f .relation .0 < 256 → not (suits t f) ≡ factBad sch ob f
 
--- and follows from the table by kind, for all typed objects that one is right for
+-- it is right for some schema and some typed objects, whichever they are
+unfoldable pub RightForSome : List ℕ → Type 0
+RightForSome t = (sch : Schema) × (ob : TypedObjects) × RightByPlace sch ob t
+
+-- it follows from the table by kind, for all typed objects that one is right for
 unfoldable pub RightFrom : Schema → List ℕ → List ℕ → Type 0
 RightFrom sch ks t = (ob : TypedObjects) → RightByKind sch ob ks → RightByPlace sch ob t
 

@@ -1,10 +1,9 @@
--- An order of good form: its start facts, goal facts and steps are right over its own objects, and its plan meets the hypotheses of `model`.
+-- An order of good form: its starts, goal facts and steps are right over its own objects, and its plan meets the hypotheses of `model`.
 use Prim.Native.Nat.{ℕ, zero, suc, _+_, _*_, _≤_, _<_}
 use mathlib.Core.Path.{_≡_, refl, ap, subst}
 use mathlib.Core.Bool.{true, false}
 use mathlib.Core.List.{List, map}
-use native.Mathlib.Omega.{arith}
-use lib.ListN.{length}
+use lib.ListN.{length, length-map}
 use Rattle.answer.specs.declared.Answer.the-variants.{Good}
 use Rattle.truth.specs.Bools.{neither}
 use Rattle.answer.specs.Walk.{walk, walk-parted}
@@ -16,17 +15,20 @@ use Rattle.terms.specs.Typing.{Falling, RightObjects}
 use Rattle.terms.specs.Facts.{factAt, factBad, noFact}
 use Rattle.terms.specs.Steps.{stepAt, stepBad, repeats, isAtom}
 use Rattle.limits.specs.Limits.{maxObjects, entrySize, stepSize}
-use Rattle.format.specs.Order.{GoalEntry, startCount, goalCount, stepCount, startAt, goalAt, stepsAt, orderObjects, entries, planStep, orderForm, startFacts, goalFrom, goal, planFrom, plan, entryAt, planStepBad}
+use Rattle.format.specs.States.{state}
+use Rattle.format.specs.Decode.{stateEnd}
+use Rattle.format.specs.Order.{GoalEntry, startCount, goalCount, stepCount, startAt, goalAt, stepsAt, orderObjects, entries, planStep, orderForm, startsFrom, starts, goalFrom, goal, planFrom, plan, entryAt, planStepBad}
 use Rattle.format.proofs.Chains.{chain-parted}
+use Rattle.format.proofs.States.{state-ends}
 use Rattle.format.proofs.Orders.{plan-step-entry, goal-chain, goal-entry-suits}
 use Rattle.format.proofs.Typing.{order-objects-known}
 use Rattle.format.proofs.OrderForm.{order-good}
 use Rattle.model.specs.Quantify.{Mem, here, there}
-use Rattle.model.specs.Domain.{GroundAction}
 use Rattle.model.specs.Formed.{Proper, Grounded}
-use Rattle.jobs.specs.Planning.{domain, groundAction, startState, planOf}
-use Rattle.wellformed.specs.Right.{RightStep, orderTyped, RightOrder}
-use Rattle.wellformed.proofs.States.{length-facts, facts-suit, facts-increase}
+use Rattle.jobs.specs.Planning.{domain, groundAction, holding, startStates, planOf}
+use Rattle.model.specs.Domain.{State, GroundAction}
+use Rattle.wellformed.specs.Right.{RightStep, RightState, orderTyped, RightOrder}
+use Rattle.wellformed.proofs.States.{state-right}
 use Rattle.wellformed.proofs.Holding.{holding-below}
 use Rattle.wellformed.proofs.Atoms.{step-proper, ground-below}
 use Rattle.wellformed.proofs.Lists.{mem-map-out}
@@ -47,6 +49,17 @@ module _ (sch : Schema) (ob : TypedObjects) (typed : RightObjects sch ob) (o : L
   plan-right (suc n) at last e st here = plan-parted n at last e .0
   plan-right (suc n) at last e st (there m) = plan-right n (at + stepSize) last (plan-parted n at last e .1) st m
 
+  -- good starts are right
+  starts-right : (end n at last : ℕ) → walk (state 16 sch ob o end) n at ≡ Good last → (fs : List Fact) → Mem fs (startsFrom o n at) → RightState sch ob fs
+  unfolding startsFrom
+  starts-right end (suc n) at last e fs here =
+      let (next, good, rest) = walk-parted (state 16 sch ob o end) n at last e in
+      state-right 16 sch ob o end at next good
+  starts-right end (suc n) at last e fs (there m) =
+      let (next, good, rest) = walk-parted (state 16 sch ob o end) n at last e in
+      let place = state-ends 16 sch ob o end at next good .0 in
+      starts-right end n (stateEnd o at) last (subst (λ (x : ℕ). walk (state 16 sch ob o end) n x ≡ Good last) place rest) fs m
+
   -- the facts of good goal entries suit
   goal-right : (n : ℕ) (last : Fact) (at next : ℕ) → entries sch ob o n last at ≡ Good next
       → (e : GoalEntry) → Mem e (goalFrom o n at) → factBad sch ob (e .fact) ≡ false
@@ -65,22 +78,30 @@ pub length-plan : (o : List ℕ) → length (plan o) ≡ stepCount o
 unfolding plan
 length-plan o = length-plan-from o (stepCount o) (stepsAt o)
 
+length-starts-from : (o : List ℕ) (n at : ℕ) → length (startsFrom o n at) ≡ n
+unfolding startsFrom
+length-starts-from o zero at = refl
+length-starts-from o (suc n) at = ap suc (length-starts-from o n (stateEnd o at))
+
+-- and it has as many starts
+pub starts-count : (o : List ℕ) → length (starts o) ≡ startCount o
+unfolding starts
+starts-count o = length-starts-from o (startCount o) (startAt o)
+
+pub length-starts : (o : List ℕ) → length (startStates o) ≡ startCount o
+unfolding startStates
+length-starts o = simp length-map (starts-count o)
+
 -- An order of good form is right in all its parts.
 pub order-right : (sch : Schema) → Falling sch → (o : List ℕ) (n : ℕ) → orderForm sch o ≡ Good n → RightOrder sch o
-unfolding typedObjects orderObjects startFacts goal plan
+unfolding typedObjects orderObjects starts goal plan
 order-right sch fall o n e =
     let ob : TypedObjects = orderTyped o in
     let g = order-good sch o n e in
-    let counts = g .header .counts in
     let typed : RightObjects sch ob = record { falling = fall; known = λ x low high. order-objects-known o (sch .kinds) _ _ _ (g .objects) (x .0) low high } in
     record {
-      few = counts .objects;
-      start =
-          record {
-            suits = facts-suit 16 sch ob o (length o) (startCount o) noFact (startAt o) (goalAt o) (g .start);
-            increasing = facts-increase 16 sch ob o (length o) (startCount o) noFact (startAt o) (goalAt o) (g .start);
-            few = omega (arith, counts .starts, length-facts o (startCount o) (startAt o));
-          };
+      few = g .header .objects;
+      starts = starts-right sch ob typed o (goalAt o) (startCount o) (startAt o) (goalAt o) (g .starts);
       goals = goal-right sch ob typed o (goalCount o) noFact (goalAt o) (stepsAt o) (g .goal);
       steps = plan-right sch ob typed o (stepCount o) (stepsAt o) (length o) (g .plan);
     }
@@ -109,7 +130,10 @@ module _ (sch : Schema) (fall : Falling sch) (o : List ℕ) (n : ℕ) (e : order
   unfolding planOf
   plan-under = let right = order-right sch fall o n e in steps-under sch (orderTyped o) (right .few) (plan o) (right .steps)
 
-  -- and its start facts are counted too.
-  pub start-under : (k : ℕ) → 256 * sch .relations ≤ k → startState o k ≡ false
-  unfolding startState
-  start-under = let right = order-right sch fall o n e in holding-below sch (orderTyped o) (right .few) (startFacts o) (right .start)
+  -- and the facts of its starts are counted too.
+  pub start-under : (start : State) → Mem start (startStates o) → (k : ℕ) → 256 * sch .relations ≤ k → start k ≡ false
+  unfolding startStates
+  start-under start m k l =
+      let right = order-right sch fall o n e in
+      let (fs, i, q) = mem-map-out holding (starts o) m in
+      subst (λ (st : State). st k ≡ false) q (holding-below sch (orderTyped o) (right .few) fs (right .starts fs i) k l)

@@ -28,19 +28,19 @@ use Rattle.wellformed.proofs.States.{state-right}
 
 module _ (sch : Schema) (ob : TypedObjects) (typed : RightObjects sch ob) (s : List ℕ) (end : ℕ) where
   -- a step of good form is right, and so is the state after it
-  pub step-parted : (at next : ℕ) → step sch ob s end at ≡ Good next → RightStep sch ob (stepAt s at) × (state sch ob s end (at + stepSize) ≡ Good next)
+  pub step-parted : (at next : ℕ) → step sch ob s end at ≡ Good next → RightStep sch ob (stepAt s at) × (state 8 sch ob s end (at + stepSize) ≡ Good next)
   step-parted at next e =
       let (suits, different, rest) = step-good sch ob s end at next e in
       (record { typed = typed; suits = suits; different = different }, rest)
 
   -- The steps of a good trajectory are right, with the states about them.
-  pub trajectory-right : (n at next last : ℕ) → state sch ob s end at ≡ Good next → walk (step sch ob s end) n next ≡ Good last
+  pub trajectory-right : (n at next last : ℕ) → state 8 sch ob s end at ≡ Good next → walk (step sch ob s end) n next ≡ Good last
       → (f : RecordedStep) → Mem f (recordedStepsAt s n at) → Right sch ob f
   unfolding recordedStepsAt recordedStep
   trajectory-right (suc n) at next last e w f here =
       let (after, good, rest) = trajectory-parted sch ob s end n at next last e w in
       let (right, behind) = step-parted (stateEnd s at) after good in
-      record { step = right; pre = state-right sch ob s end at next e; post = state-right sch ob s end (stateEnd s at + stepSize) after behind }
+      record { step = right; pre = state-right 8 sch ob s end at next e; post = state-right 8 sch ob s end (stateEnd s at + stepSize) after behind }
   trajectory-right (suc n) at next last e w f (there m) =
       let (after, good, rest) = trajectory-parted sch ob s end n at next last e w in
       trajectory-right n (stateEnd s at + stepSize) after last (step-parted (stateEnd s at) after good .1) rest f m

@@ -6,7 +6,6 @@ use mathlib.Core.List.{List}
 use native.Mathlib.Omega.{arith}
 use lib.ListN.{length}
 use Rattle.answer.specs.declared.Answer.the-variants.{Good}
-use Rattle.answer.specs.Laws.{passed}
 use Rattle.input.specs.Bytes.{two}
 use Rattle.terms.specs.declared.Fact.{Fact}
 use Rattle.terms.specs.Schema.{Schema, TypedObjects}
@@ -15,7 +14,7 @@ use Rattle.limits.specs.Limits.{factSize}
 use Rattle.format.specs.States.{facts, state}
 use Rattle.format.specs.Decode.{factsAt, stateAt}
 use Rattle.format.proofs.Chains.{chain-parted}
-use Rattle.format.proofs.States.{fact-good, facts-chain, count-within}
+use Rattle.format.proofs.States.{fact-good, facts-chain, state-good}
 use Rattle.model.specs.Quantify.{Mem, here, there}
 use Rattle.wellformed.specs.Right.{Increasing, RightState}
 
@@ -49,13 +48,12 @@ module _ (num : ℕ) (sch : Schema) (ob : TypedObjects) (s : List ℕ) (end : �
       (order, facts-increase n (factAt s at) (at + factSize) next rest)
 
 -- A state of good form is right.
-pub state-right : (sch : Schema) (ob : TypedObjects) (s : List ℕ) (end at next : ℕ) → state sch ob s end at ≡ Good next → RightState sch ob (stateAt s at)
-unfolding state stateAt
-state-right sch ob s end at next good =
-    let (test, rest) = passed _ 8 at next _ good in
-    let (reach, few) = count-within s end at test in
+pub state-right : (num : ℕ) (sch : Schema) (ob : TypedObjects) (s : List ℕ) (end at next : ℕ) → state num sch ob s end at ≡ Good next → RightState sch ob (stateAt s at)
+unfolding stateAt
+state-right num sch ob s end at next good =
+    let (reach, few, rest) = state-good num sch ob s end at next good in
     record {
-      suits = facts-suit 8 sch ob s end (two s at) noFact (at + 2) next rest;
-      increasing = facts-increase 8 sch ob s end (two s at) noFact (at + 2) next rest;
+      suits = facts-suit num sch ob s end (two s at) noFact (at + 2) next rest;
+      increasing = facts-increase num sch ob s end (two s at) noFact (at + 2) next rest;
       few = omega (arith, few, length-facts s (two s at) (at + 2));
     }

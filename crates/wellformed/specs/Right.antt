@@ -12,7 +12,7 @@ use Rattle.terms.specs.Facts.{factBad, precedes, noFact}
 use Rattle.terms.specs.Steps.{stepBad, repeats}
 use Rattle.limits.specs.Limits.{maxObjects, maxFacts}
 use Rattle.format.specs.Decode.{RecordedStep}
-use Rattle.format.specs.Order.{GoalEntry, orderObjects, startFacts, goal, plan}
+use Rattle.format.specs.Order.{GoalEntry, orderObjects, starts, goal, plan}
 use Rattle.model.specs.Quantify.{Mem}
 
 -- each fact of the list precedes the next, and the first one comes after `last`
@@ -46,9 +46,9 @@ RightSomewhere sch f = (ob : TypedObjects) × (ob .count ≤ maxObjects) × Righ
 abbrev pub orderTyped : List ℕ → TypedObjects
 orderTyped o = typedObjects (orderObjects o) o
 
--- an order's start facts, goal facts and steps over its own objects, of which there are at most 16
+-- an order's starts, goal facts and steps over its own objects, of which there are at most 16
 pub record RightOrder (sch : Schema) (o : List ℕ) : Type 0 where
   pub few : orderTyped o .count ≤ maxObjects
-  pub start : RightState sch (orderTyped o) (startFacts o)
+  pub starts : (fs : List Fact) → Mem fs (starts o) → RightState sch (orderTyped o) fs
   pub goals : (e : GoalEntry) → Mem e (goal o) → factBad sch (orderTyped o) (e .fact) ≡ false
   pub steps : (st : Step) → Mem st (plan o) → RightStep sch (orderTyped o) st

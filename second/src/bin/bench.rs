@@ -2,6 +2,7 @@
 //!
 //! `bench [repeats]`; prints the median of the repeats for each call, the least
 //! in parentheses, and the library's time as a multiple of this implementation's.
+//! On the book of many bound facts a plan is checked from 16 starts as well.
 
 use std::process::ExitCode;
 
@@ -31,7 +32,11 @@ fn main() -> ExitCode {
     for (name, draft) in books {
         let (bytes, steps) = (draft.length(), draft.steps());
         println!("{name}: {bytes} bytes, {steps} steps, median (least) of {repeats}");
-        time_calls(&draft, &timing::Timing { repeats });
+        let timing = timing::Timing { repeats };
+        time_calls(&draft, &timing);
+        if name == "many bound facts" {
+            time_starts(&draft, &timing);
+        }
     }
     ExitCode::SUCCESS
 }
@@ -72,6 +77,24 @@ fn time_calls(draft: &second::gen::BookDraft, timing: &timing::Timing) {
     );
 }
 
+/// The same plan from 16 starts. They are equal, so that each passes and is
+/// carried out to its end.
+#[cfg(archive)]
+fn time_starts(draft: &second::gen::BookDraft, timing: &timing::Timing) {
+    use second::calls::Calls;
+
+    let library = library::Library::default();
+    let (book, mut order) = (draft.bytes(), filed_order(draft));
+    order.starts = vec![order.starts.swap_remove(0); second::limits::START_LIMIT];
+    let order = order.bytes();
+    let [mut theirs, mut ours] = [[0; 512]; 2];
+    timing.compare(
+        "check, 16 starts",
+        || library.check(&book, &order, &mut theirs),
+        || second::check::check(&book, &order, &mut ours).packed(),
+    );
+}
+
 /// The steps of the last record as a plan, which passes.
 #[cfg(archive)]
 fn filed_order(draft: &second::gen::BookDraft) -> second::gen::OrderDraft {
@@ -79,7 +102,7 @@ fn filed_order(draft: &second::gen::BookDraft) -> second::gen::OrderDraft {
     let end = record.states.last().expect("a record has a state");
     second::gen::OrderDraft {
         goal: end.iter().take(64).map(|&fact| (1, fact)).collect(),
-        start: record.states[0].clone(),
+        starts: vec![record.states[0].clone()],
         objects: record.objects,
         steps: record.steps,
     }

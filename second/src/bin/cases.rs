@@ -4,7 +4,8 @@
 //! `cases [seed] [count]` writes `count` cases of each call to standard output.
 //! A case is, numbers of four bytes with the low byte first:
 //! job (0 look over, 1 learn, 2 check, 3 add), length of the book, length of the
-//! order or record, length of the output to lend, number, place; then the book's
+//! order or record, length of the output to lend, and of the answer number, place
+//! and position (by 19 and 20 that of the start, from 1; else 0); then the book's
 //! bytes; then those of the order or record.
 
 use std::io::{self, BufWriter, Write};
@@ -12,7 +13,7 @@ use std::process::ExitCode;
 
 use second::calls::{unpacked, Job};
 use second::gen::stream::JobStream;
-use second::Second;
+use second::{Answer, Second};
 
 fn main() -> ExitCode {
     let mut arguments = std::env::args().skip(1).map(|argument| argument.parse::<u64>());
@@ -39,12 +40,11 @@ fn write_cases(seed: u64, count: usize) -> io::Result<()> {
             let answer =
                 unpacked(job.run(&Second, &case.book, &case.other, &mut vec![0; case.output]));
             let lengths = [case.book.len(), case.other.len(), case.output];
-            out.write_all(&code.to_le_bytes())?;
-            for length in lengths {
-                out.write_all(&(length as u32).to_le_bytes())?;
+            let [book, other, output] = lengths.map(|length| length as u32);
+            let Answer { number, place, position } = answer;
+            for value in [code, book, other, output, number, place, position] {
+                out.write_all(&value.to_le_bytes())?;
             }
-            out.write_all(&answer.number.to_le_bytes())?;
-            out.write_all(&answer.place.to_le_bytes())?;
             out.write_all(&case.book)?;
             out.write_all(&case.other)?;
         }

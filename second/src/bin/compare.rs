@@ -39,11 +39,9 @@ fn main() -> ExitCode {
         good &= compare_job(&library, job, Run { seed, count: factor * count });
     }
     let tiny = Run { seed, count: count / 3 };
-    good &= compare_judge("tiny halls", tiny, tiny.count / 16, |run| judge(run, &library));
+    good &= compare_judge("tiny halls", tiny, |run| judge(run, &library));
     let crowded = Run { seed, count: count / 30 };
-    good &= compare_judge("halls with over 256 facts", crowded, crowded.count / 8, |run| {
-        judge_crowded(run, &library)
-    });
+    good &= compare_judge("halls with over 256 facts", crowded, |run| judge_crowded(run, &library));
     println!("NULL was lent {} times for an empty input or output", library.nulls());
     good &= library.nulls() > 0;
     if good {
@@ -87,13 +85,11 @@ fn compare_job(
     }
 }
 
-/// Learning and checking against the judge, each kind of verdict at least as
-/// often as told.
+/// Learning and checking against the judge, each kind of verdict often enough.
 #[cfg(archive)]
 fn compare_judge(
     halls: &str,
     run: second::compare::Run,
-    least: usize,
     judge: impl Fn(second::compare::Run) -> Result<second::compare::Verdicts, String>,
 ) -> bool {
     let started = std::time::Instant::now();
@@ -101,11 +97,11 @@ fn compare_judge(
         Ok(met) => {
             let seconds = started.elapsed().as_secs_f64();
             println!("judge: no difference in {} {halls}, {seconds:.1} s: {met}", run.count);
-            let enough = met.least() >= least;
-            if !enough {
-                println!("judge: a kind of verdict was met too seldom in {halls}");
+            let missing = met.missing();
+            for line in &missing {
+                println!("judge: met too seldom in {halls}: {line}");
             }
-            enough
+            missing.is_empty()
         }
         Err(difference) => {
             println!("judge: DIFFERENCE in {halls}\n{difference}");

@@ -12,6 +12,7 @@ use std::process::{Command, ExitCode, Stdio};
 use second::calls::Job;
 use second::gen::stream::JobStream;
 use second::limits::END_SHEET_LENGTH;
+use second::vectors::Vector;
 use second::{listing, vectors, Answer};
 
 /// Drawn cases for each program.
@@ -63,7 +64,7 @@ fn compare(folder: &Path, work: &Path) -> io::Result<(usize, usize)> {
         }
         if vector.jobs == [Job::Check] && vector.output == END_SHEET_LENGTH {
             let files = [Some(&vector.book[..]), Some(&vector.order[..])];
-            programs.plan(name, files, &plan_text(vector.answer))?;
+            programs.plan(name, files, &plan_text(&vector))?;
         }
     }
     let [books, orders] = [Job::Learn, Job::Check].map(|job| JobStream::new(job, 1));
@@ -86,10 +87,13 @@ fn rules_text(answer: Answer, book: &[u8]) -> String {
     }
 }
 
-fn plan_text(answer: Answer) -> String {
-    match answer.number {
-        0 => format!("passes {}\n", answer.place),
-        number => format!("refused {number} {}\n", answer.place),
+/// Of an order that is longer than what a program reads it sees the front alone.
+fn plan_text(vector: &Vector) -> String {
+    let Vector { book, order, answer: Answer { number, place, .. }, .. } = vector;
+    match (order.get(..listing::READ_LIMIT), number) {
+        (Some(front), _) => listing::plan(book, front),
+        (None, 0) => format!("passes {place}\n"),
+        (None, number) => format!("refused {number} {place}\n"),
     }
 }
 
@@ -135,14 +139,24 @@ impl Programs {
     fn files_missing_or_long(&mut self) -> io::Result<()> {
         let book = vectors::all().swap_remove(0).book;
         let long = vec![0; 200_000];
-        let mut long_order = vec![0, 0, 0, 0, 0, 0, 0, 0, 0, 16, 0, 16, 0, 16, 0, 16];
+        let mut long_order = vec![0, 0, 0, 1, 0, 0, 0, 0, 0, 16, 0, 16, 0, 18, 0, 18];
         long_order.resize(200_000, 0);
+        // The goal lies so far behind the starts that the order is this long.
+        let far = |length: usize| {
+            let goal = (length as u16).to_be_bytes();
+            let mut order = [&long_order[..12], &goal, &goal].concat();
+            order.resize(length, 0);
+            order
+        };
         self.rules("no bytes", &[], "refused 1 0\n")?;
         self.rules("200,000 bytes", &long, "refused 1 0\n")?;
         self.plan("no files", [None, None], "refused 1 0\n")?;
         self.plan("no book", [None, Some(&long_order)], "refused 1 0\n")?;
         self.plan("no order", [Some(&book), None], "refused 14 0\n")?;
         self.plan("long order", [Some(&book), Some(&long_order)], "refused 14 0\n")?;
+        let (most, over) = (far(listing::READ_LIMIT), far(listing::READ_LIMIT + 1));
+        self.plan("order of 60,001 bytes", [Some(&book), Some(&most)], "refused 16 18\n")?;
+        self.plan("order of 60,002 bytes", [Some(&book), Some(&over)], "refused 14 0\n")?;
         self.plan("long book", [Some(&long), Some(&long_order)], "refused 1 0\n")
     }
 }

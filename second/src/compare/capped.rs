@@ -40,33 +40,50 @@ impl Calls for Capped {
 /// Rows 19 and 20 by the rule sheet; facts added beyond the 256th are dropped.
 fn execute(book: &[u8], order: &[u8], rules: &[u8], end: &mut [u8]) -> Answer {
     let number = |at: usize| usize::from(u16::from_be_bytes([order[at], order[at + 1]]));
-    let [start_at, goal_at, steps_at] = [10, 12, 14].map(number);
-    let fact = |bytes: &[u8]| [bytes[0], bytes[1], bytes[2]];
-    let mut state: Vec<Fact> = order[start_at..goal_at].chunks_exact(3).map(fact).collect();
-    for (number, step) in (1..).zip(order[steps_at..].chunks_exact(5)) {
-        let sets = rules[RULES_LENGTH * (usize::from(step[0]) - 1)..].chunks_exact(SET_LENGTH);
-        let facts: Vec<Vec<Fact>> = sets.take(4).map(|set| bound_facts(book, step, set)).collect();
-        let [pre_pos, pre_neg, add, delete] = [&facts[0], &facts[1], &facts[2], &facts[3]];
-        if pre_pos.iter().any(|fact| !state.contains(fact))
-            || pre_neg.iter().any(|fact| state.contains(fact))
-        {
-            return Refusal::NeedUnmet.at(number);
-        }
-        state.retain(|fact| !delete.contains(fact));
-        for fact in add {
-            if !state.contains(fact) && state.len() < FACT_LIMIT {
-                state.push(*fact);
+    let [mut at, goal_at, steps_at] = [10, 12, 14].map(number);
+    let starts = number(2);
+    for position in 1..=starts {
+        let facts = &order[at + 2..][..3 * number(at)];
+        at += 2 + facts.len();
+        let mut state: Vec<Fact> = facts.chunks_exact(3).map(fact).collect();
+        for (number, step) in (1..).zip(order[steps_at..].chunks_exact(5)) {
+            if !execute_step(book, step, rules, &mut state) {
+                return Refusal::NeedUnmet.at(number).from_start(position);
             }
         }
-    }
-    let mut goal = order[goal_at..steps_at].chunks_exact(4);
-    match goal.position(|entry| (entry[0] == 1) != state.contains(&fact(&entry[1..]))) {
-        Some(index) => Refusal::GoalMissed.at(index + 1),
-        None => {
+        let mut goal = order[goal_at..steps_at].chunks_exact(4);
+        let missed = |entry: &[u8]| (entry[0] == 1) != state.contains(&fact(&entry[1..]));
+        if let Some(index) = goal.position(missed) {
+            return Refusal::GoalMissed.at(index + 1).from_start(position);
+        }
+        if starts == 1 {
             end.copy_from_slice(&sheet_of(&state));
-            Answer::success((order.len() - steps_at) / 5)
         }
     }
+    Answer::success((order.len() - steps_at) / 5)
+}
+
+fn fact(bytes: &[u8]) -> Fact {
+    [bytes[0], bytes[1], bytes[2]]
+}
+
+/// Whether the step goes; the state is then the one after it.
+fn execute_step(book: &[u8], step: &[u8], rules: &[u8], state: &mut Vec<Fact>) -> bool {
+    let sets = rules[RULES_LENGTH * (usize::from(step[0]) - 1)..].chunks_exact(SET_LENGTH);
+    let facts: Vec<Vec<Fact>> = sets.take(4).map(|set| bound_facts(book, step, set)).collect();
+    let [pre_pos, pre_neg, add, delete] = [&facts[0], &facts[1], &facts[2], &facts[3]];
+    if pre_pos.iter().any(|fact| !state.contains(fact))
+        || pre_neg.iter().any(|fact| state.contains(fact))
+    {
+        return false;
+    }
+    state.retain(|fact| !delete.contains(fact));
+    for fact in add {
+        if !state.contains(fact) && state.len() < FACT_LIMIT {
+            state.push(*fact);
+        }
+    }
+    true
 }
 
 /// The facts that the lifted atoms of a set become with the step's objects.

@@ -1,83 +1,31 @@
 //! Demand 3 on tiny halls and on crowded ones: learning and checking give the
-//! judge's verdict.
+//! judge's verdict, from each start alone and from all of them.
 //!
 //! The judge enumerates the action models; nothing of this implementation's
 //! learning or checking is asked.
 
-use std::fmt;
-
+use super::verdicts::{Decision, Kind, Verdicts, CROWDED, TINY};
 use super::Run;
 use crate::answer::{Answer, Refusal};
 use crate::calls::{unpacked, Calls};
 use crate::gen::order::Plan;
-use crate::gen::{crowded_hall, tiny, Rng};
+use crate::gen::{crowded_hall, tiny, OrderDraft, Rng};
 use crate::judge::{self, Judgement, Verdict};
 use crate::limits::{END_SHEET_LENGTH, FACT_LIMIT, RULES_LENGTH};
 
 const FILL: u8 = 0xa5;
 
-/// How often each kind of verdict was met.
-pub struct Verdicts {
-    /// By name, in the order of the report.
-    kinds: Vec<(&'static str, usize)>,
-    /// Verdicts of no kind named.
-    others: usize,
-}
-
-impl Verdicts {
-    fn of_kinds(names: &[&'static str]) -> Self {
-        Self { kinds: names.iter().map(|&name| (name, 0)).collect(), others: 0 }
-    }
-
-    fn count(&mut self, kind: &str) {
-        *match self.kinds.iter_mut().find(|(name, _)| *name == kind) {
-            Some((_, times)) => times,
-            None => &mut self.others,
-        } += 1;
-    }
-
-    /// How often the named one met least was met.
-    #[must_use]
-    pub fn least(&self) -> usize {
-        self.kinds.iter().map(|&(_, times)| times).min().unwrap_or(0)
-    }
-}
-
-impl fmt::Display for Verdicts {
-    fn fmt(&self, f: &mut fmt::Formatter<'_>) -> fmt::Result {
-        for (number, (name, times)) in self.kinds.iter().enumerate() {
-            write!(f, "{}{name} {times}", if number > 0 { ", " } else { "" })?;
-        }
-        match self.others {
-            0 => Ok(()),
-            others => write!(f, ", others {others}"),
-        }
-    }
-}
-
 /// Compares `calls` with the judge on tiny halls, or tells the first hall on
 /// which they differ.
 pub fn judge(run: Run, calls: &impl Calls) -> Result<Verdicts, String> {
-    let kinds = ["impossible", "19", "20", "passes without steps", "with steps"];
-    compare_halls(run, calls, tiny::draw, &kinds, |judgement| match judgement.verdict {
-        Verdict::Impossible => "impossible",
-        Verdict::Stops { .. } => "19",
-        Verdict::Misses { .. } => "20",
-        Verdict::Passes { steps: 0, .. } => "passes without steps",
-        Verdict::Passes { .. } => "with steps",
-    })
+    compare_halls(run, calls, tiny::draw, &TINY, |_| true)
 }
 
-/// Likewise on halls in which over 256 facts hold; the verdicts are named by
-/// how many held under the judge's models.
+/// Likewise on halls in which over 256 facts hold. A hall in which this is so from
+/// no start under the judge's models is of no kind.
 pub fn judge_crowded(run: Run, calls: &impl Calls) -> Result<Verdicts, String> {
-    let kinds = ["19", "20", "passes"];
-    compare_halls(run, calls, crowded_hall::draw, &kinds, |judgement| match judgement.verdict {
-        _ if judgement.most <= FACT_LIMIT => "256 facts at most",
-        Verdict::Impossible => "impossible",
-        Verdict::Stops { .. } => "19",
-        Verdict::Misses { .. } => "20",
-        Verdict::Passes { .. } => "passes",
+    compare_halls(run, calls, crowded_hall::draw, &CROWDED, |judgements| {
+        judgements.iter().any(|of| of.most > FACT_LIMIT)
     })
 }
 
@@ -85,33 +33,46 @@ fn compare_halls(
     run: Run,
     calls: &impl Calls,
     draw: impl Fn(&mut Rng) -> Plan,
-    kinds: &[&'static str],
-    kind: impl Fn(&Judgement) -> &'static str,
+    kinds: &'static [Kind],
+    is_counted: impl Fn(&[Judgement]) -> bool,
 ) -> Result<Verdicts, String> {
     let mut met = Verdicts::of_kinds(kinds);
     for index in 0..run.count {
         let plan = draw(&mut Rng::of_case(run.seed, index));
         let (book, order) = (plan.book.bytes(), plan.order.bytes());
-        let judgement = judge::judge(&book, &order);
+        let judgements = judge::judge(&book, &order);
         let given = Given::by(calls, &book, &order, plan.book.moves.len());
-        let agrees = match &judgement.verdict {
-            Verdict::Impossible => {
+        let agrees = match judgements.first() {
+            Some(Judgement { verdict: Verdict::Impossible, .. }) => {
                 given.impossible() && impossible_anyhow(calls, &book, given.end_answer)
             }
-            learns => {
-                given.learned == Answer::success(plan.book.steps()) && given.checks_as(learns)
+            _ => {
+                given.learned == Answer::success(plan.book.steps())
+                    && given.checks_as(&judgements)
+                    && agrees_alone(calls, &plan, &judgements)
             }
         };
         if !agrees {
+            let verdicts: Vec<&Verdict> = judgements.iter().map(|of| &of.verdict).collect();
             return Err(format!(
-                "seed {} hall {index}: the judge says {:?}; learned {}, checked {}\n\
+                "seed {} hall {index}: the judge says {verdicts:?}; learned {}, checked {}\n\
                  book {book:02x?}\norder {order:02x?}",
-                run.seed, judgement.verdict, given.learned, given.end_answer
+                run.seed, given.learned, given.end_answer
             ));
         }
-        met.count(kind(&judgement));
+        met.count(Some(&Decision::of(&judgements)).filter(|_| is_counted(&judgements)));
     }
     Ok(met)
+}
+
+/// Demand 3 is said of each start alone.
+fn agrees_alone(calls: &impl Calls, plan: &Plan, judgements: &[Judgement]) -> bool {
+    let (book, moves) = (plan.book.bytes(), plan.book.moves.len());
+    judgements.iter().zip(&plan.order.starts).all(|(judgement, start)| {
+        let order = OrderDraft { starts: vec![start.clone()], ..plan.order.clone() };
+        let given = Given::by(calls, &book, &order.bytes(), moves);
+        given.checks_as(std::slice::from_ref(judgement))
+    })
 }
 
 /// What the two calls gave.
@@ -139,16 +100,33 @@ impl Given {
             && untouched(&self.end)
     }
 
-    fn checks_as(&self, verdict: &Verdict) -> bool {
-        let refused = |answer: Answer| self.end_answer == answer && untouched(&self.end);
-        match verdict {
-            Verdict::Impossible => false,
-            Verdict::Stops { step } => refused(Refusal::NeedUnmet.at(*step as usize)),
-            Verdict::Misses { entry } => refused(Refusal::GoalMissed.at(*entry as usize)),
-            Verdict::Passes { steps, end } => {
-                self.end_answer == Answer::success(*steps as usize) && self.end == sheet_of(end)
+    /// By the first start whose verdict is no pass; the end sheet is written on a
+    /// pass from one start alone.
+    fn checks_as(&self, judgements: &[Judgement]) -> bool {
+        let refused = |position, refusal: Refusal, place: u32| {
+            self.end_answer == refusal.at(place as usize).from_start(position)
+                && untouched(&self.end)
+        };
+        match judge::failing(judgements).map(|(position, of)| (position, &of.verdict)) {
+            Some((position, Verdict::Stops { step })) => {
+                refused(position, Refusal::NeedUnmet, *step)
             }
+            Some((position, Verdict::Misses { entry })) => {
+                refused(position, Refusal::GoalMissed, *entry)
+            }
+            Some(_) => false,
+            None => self.passes_as(judgements),
         }
+    }
+
+    fn passes_as(&self, judgements: &[Judgement]) -> bool {
+        let Some(Judgement { verdict: Verdict::Passes { steps, end }, .. }) = judgements.first()
+        else {
+            return false;
+        };
+        let written =
+            if judgements.len() == 1 { self.end == sheet_of(end) } else { untouched(&self.end) };
+        self.end_answer == Answer::success(*steps as usize) && written
     }
 }
 

@@ -4,15 +4,18 @@
 //! The other one is given as functions, so that the same runs serve the built
 //! library (the bin `compare`) and deliberately wrong ones (the tests).
 
+mod alone;
 mod capped;
 mod job;
 mod judge;
 mod lent;
 mod report;
 mod tally;
+mod verdicts;
 
 pub use capped::Capped;
 pub use job::job;
-pub use judge::{judge, judge_crowded, Verdicts};
+pub use judge::{judge, judge_crowded};
 pub use report::{Difference, Run};
 pub use tally::Tally;
+pub use verdicts::Verdicts;

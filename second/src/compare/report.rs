@@ -4,6 +4,7 @@ use std::fmt;
 
 use super::Tally;
 use crate::answer::Answer;
+use crate::calls::unpacked;
 use crate::gen::Label;
 
 /// How many cases are run, from which seed.
@@ -35,8 +36,8 @@ pub struct Compared {
     pub aimed: Option<Answer>,
     pub expected: Answer,
     pub packed: u64,
-    /// Empty if all lent bytes agree.
-    pub lent: String,
+    /// What differs beside the answers, such as a lent byte; else empty.
+    pub note: String,
     pub inputs: Vec<(&'static str, Vec<u8>)>,
 }
 
@@ -51,14 +52,14 @@ pub fn compare_all(
     for index in 0..run.count {
         let compared = case(index);
         let missed = compared.aimed.is_some_and(|aimed| aimed != compared.expected);
-        if compared.packed == compared.expected.packed() && compared.lent.is_empty() && !missed {
+        if compared.packed == compared.expected.packed() && compared.note.is_empty() && !missed {
             tally.count(compared.label, compared.aimed, compared.expected);
             continue;
         }
         differing += 1;
         let note = match compared.aimed {
-            Some(aimed) if missed => format!("the generator aimed at {aimed}; {}", compared.lent),
-            _ => compared.lent,
+            Some(aimed) if missed => format!("the generator aimed at {aimed}; {}", compared.note),
+            _ => compared.note,
         };
         let Compared { label, expected, packed, inputs, .. } = compared;
         let found = Difference { run, differing, index, label, expected, packed, note, inputs };
@@ -88,8 +89,8 @@ impl fmt::Display for Difference {
         writeln!(f, "seed {seed} case {} ({})", self.index, self.label)?;
         let expected = self.expected;
         writeln!(f, "this implementation: {expected} (packed {:#018x})", expected.packed())?;
-        let (number, place) = (self.packed >> 48, self.packed & 0xffff_ffff);
-        writeln!(f, "the other one: {number} at {place} (packed {:#018x})", self.packed)?;
+        let other = unpacked(self.packed);
+        writeln!(f, "the other one: {other} (packed {:#018x})", self.packed)?;
         if !self.note.is_empty() {
             writeln!(f, "{}", self.note)?;
         }

@@ -1,4 +1,4 @@
-//! The form of books and orders: rows 1 to 10, 21 and 14 to 18.
+//! The form of books and orders: rows 1 to 10, 21, 22 and 14 to 18.
 
 mod hall;
 mod header;
@@ -6,6 +6,7 @@ mod kinds;
 mod order;
 mod record;
 mod signature;
+mod state;
 
 pub use hall::Hall;
 pub use header::Header;

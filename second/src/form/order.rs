@@ -1,27 +1,30 @@
-//! The order of one plan: rows 14 to 18.
+//! The order of one plan: rows 14 to 18, and 22.
 
 use super::hall::fact_key;
+use super::state::read_state;
 use super::{two_bytes, Hall, Signature};
 use crate::answer::{Answer, Refusal};
 use crate::limits::{
-    FACT_LENGTH, FACT_LIMIT, GOAL_LENGTH, GOAL_LIMIT, HEADER_LENGTH, OBJECT_LIMIT, STEP_LENGTH,
-    STEP_LIMIT,
+    COUNT_LENGTH, FACT_LENGTH, GOAL_LENGTH, GOAL_LIMIT, HEADER_LENGTH, OBJECT_LIMIT, START_LIMIT,
+    STEP_LENGTH, STEP_LIMIT,
 };
 
 /// An order of good form, by the bytes of its sections.
 pub struct Order<'a> {
     pub objects: &'a [u8],
-    pub start: &'a [u8],
+    pub start_count: usize,
+    /// All starts, each with its count.
+    starts: &'a [u8],
     pub goal: &'a [u8],
     pub steps: &'a [u8],
 }
 
 impl<'a> Order<'a> {
     pub fn read(bytes: &'a [u8], signature: &Signature) -> Result<Self, Answer> {
-        let order = Self::sections(bytes).ok_or(Refusal::OrderHeader.at(0))?;
+        let order = Self::sections(bytes)?;
         let objects_at = HEADER_LENGTH;
         let start_at = objects_at + order.objects.len();
-        let goal_at = start_at + order.start.len();
+        let goal_at = start_at + order.starts.len();
         let steps_at = goal_at + order.goal.len();
 
         for (index, &kind) in order.objects.iter().enumerate() {
@@ -30,10 +33,8 @@ impl<'a> Order<'a> {
             }
         }
         let hall = Hall::new(signature, order.objects);
-        let good = FACT_LENGTH * hall.good_facts(order.start);
-        if good < order.start.len() {
-            return Err(Refusal::StartFact.at(start_at + good));
-        }
+        // The bytes up to the goal, so that every offset is the order's.
+        check_starts(&bytes[..goal_at], start_at, order.start_count, &hall)?;
         let good = GOAL_LENGTH * good_entries(&hall, order.goal);
         if good < order.goal.len() {
             return Err(Refusal::GoalEntry.at(goal_at + good));
@@ -46,33 +47,62 @@ impl<'a> Order<'a> {
         Ok(order)
     }
 
-    /// Row 14: the header leaves no freedom but the four counts.
-    fn sections(bytes: &'a [u8]) -> Option<Self> {
+    /// Rows 14 and 22: the header leaves no freedom but the counts and where the
+    /// starts end.
+    fn sections(bytes: &'a [u8]) -> Result<Self, Answer> {
+        let refused = Refusal::OrderHeader.at(0);
         if bytes.len() < HEADER_LENGTH {
-            return None;
+            return Err(refused);
         }
         let number = |index: usize| two_bytes(bytes, 2 * index);
-        let (objects, start, goal, steps) = (number(0), number(1), number(2), number(3));
-        if objects > OBJECT_LIMIT || start > FACT_LIMIT || goal > GOAL_LIMIT || steps > STEP_LIMIT {
-            return None;
+        let (objects, start_count, goal, steps) = (number(0), number(1), number(2), number(3));
+        if objects > OBJECT_LIMIT || goal > GOAL_LIMIT || steps > STEP_LIMIT {
+            return Err(refused);
+        }
+        if !(1..=START_LIMIT).contains(&start_count) {
+            return Err(Refusal::StartCount.at(0));
         }
         let objects_at = HEADER_LENGTH;
         let start_at = objects_at + objects;
-        let goal_at = start_at + FACT_LENGTH * start;
+        let goal_at = number(6);
         let steps_at = goal_at + GOAL_LENGTH * goal;
-        let filed = [number(4), number(5), number(6), number(7)];
-        if filed != [objects_at, start_at, goal_at, steps_at]
+        if [number(4), number(5), number(7)] != [objects_at, start_at, steps_at]
+            || goal_at < start_at
             || bytes.len() != steps_at + STEP_LENGTH * steps
         {
-            return None;
+            return Err(refused);
         }
-        Some(Self {
+        Ok(Self {
             objects: &bytes[objects_at..start_at],
-            start: &bytes[start_at..goal_at],
+            start_count,
+            starts: &bytes[start_at..goal_at],
             goal: &bytes[goal_at..steps_at],
             steps: &bytes[steps_at..],
         })
     }
+
+    /// The facts of each start, in file order.
+    pub fn starts(&self) -> impl Iterator<Item = &'a [u8]> {
+        let mut rest = self.starts;
+        (0..self.start_count).map(move |_| {
+            let (count, behind) = rest.split_at(COUNT_LENGTH);
+            let (facts, behind) = behind.split_at(FACT_LENGTH * two_bytes(count, 0));
+            rest = behind;
+            facts
+        })
+    }
+}
+
+/// Row 16: each start is a state, and `bytes` end with the last of them.
+fn check_starts(bytes: &[u8], start_at: usize, count: usize, hall: &Hall) -> Result<(), Answer> {
+    let mut cursor = start_at;
+    for _ in 0..count {
+        read_state(bytes, hall, &mut cursor, Refusal::Start)?;
+    }
+    if cursor < bytes.len() {
+        return Err(Refusal::Start.at(cursor));
+    }
+    Ok(())
 }
 
 /// How many goal entries from the front are good and strictly increase.

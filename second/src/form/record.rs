@@ -1,10 +1,9 @@
 //! Records (trajectories), walked in file order: rows 6 to 10.
 
+use super::state::read_state;
 use super::{two_bytes, Hall, Signature};
 use crate::answer::{Answer, Refusal};
-use crate::limits::{
-    COUNT_LENGTH, FACT_LENGTH, FACT_LIMIT, HEAD_LENGTH, OBJECT_LIMIT, STEP_LENGTH, STEP_LIMIT,
-};
+use crate::limits::{HEAD_LENGTH, OBJECT_LIMIT, STEP_LENGTH, STEP_LIMIT};
 
 /// A step with the facts of the states before and after it, all of good form.
 pub struct Transition<'a> {
@@ -114,25 +113,7 @@ impl<'a> Record<'a> {
 
     /// Row 8; answers the bytes of the state's facts.
     fn state(&self, hall: &Hall, cursor: &mut usize) -> Result<&'a [u8], Answer> {
-        let count_at = *cursor;
-        let rest = &self.bytes[count_at..];
-        if rest.len() < COUNT_LENGTH {
-            return Err(Refusal::State.at(count_at));
-        }
-        let count = two_bytes(rest, 0);
-        if count > FACT_LIMIT {
-            return Err(Refusal::State.at(count_at));
-        }
-        let facts = &rest[COUNT_LENGTH..];
-        let whole = count.min(facts.len() / FACT_LENGTH);
-        let facts = &facts[..FACT_LENGTH * whole];
-        let good = hall.good_facts(facts);
-        // Fewer are good than announced: the next one is wrong or cut.
-        if good < count {
-            return Err(Refusal::State.at(count_at + COUNT_LENGTH + FACT_LENGTH * good));
-        }
-        *cursor += COUNT_LENGTH + facts.len();
-        Ok(facts)
+        read_state(self.bytes, hall, cursor, Refusal::State)
     }
 
     /// Rows 9 and 10; answers the step's bytes.

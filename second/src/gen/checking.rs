@@ -6,10 +6,11 @@ use super::learning::good_book;
 use super::mixed::BookStream;
 use super::order::{self, Plan};
 use super::rng::Rng;
+use super::several::{self, Starts};
 use super::{order_faults, JobCase};
 use crate::answer::{Answer, Refusal};
 use crate::calls::Job;
-use crate::limits::END_SHEET_LENGTH;
+use crate::limits::{END_SHEET_LENGTH, START_LIMIT};
 
 pub struct CheckStream {
     books: BookStream,
@@ -27,7 +28,8 @@ impl CheckStream {
     /// miss one.
     #[must_use]
     pub fn labels(&self) -> Vec<Label> {
-        self.aims.iter().map(|aim| aim.label).chain(Ending::ALL.map(Ending::label)).collect()
+        let aims = self.aims.iter().map(|aim| aim.label);
+        aims.chain(Ending::ALL.map(Ending::label)).chain(Starts::ALL.map(Starts::label)).collect()
     }
 
     #[must_use]
@@ -55,8 +57,18 @@ impl CheckStream {
             }
             14 => {
                 let ending = Ending::ALL[round % Ending::ALL.len()];
-                let (plan, answer) = crowded::case(ending, rng);
+                let (mut plan, answer) = crowded::case(ending, rng);
+                // Equal starts have the answer of the first, and no end sheet.
+                if rng.chance(40) {
+                    let start = plan.order.starts[0].clone();
+                    plan.order.starts.resize(rng.range(2, START_LIMIT), start);
+                }
                 aimed_plan(ending.label(), &plan, answer)
+            }
+            15 => {
+                let kind = Starts::ALL[round % Starts::ALL.len()];
+                let (plan, answer) = several::case(kind, rng);
+                aimed_plan(kind.label(), &plan, answer)
             }
             _ => {
                 let plan = order::draw(rng);

@@ -150,7 +150,7 @@ fn stops(facts: &State, execution: &mut Execution<'_>, rng: &mut Rng) -> Option<
         !unmet.is_empty() && unmet.iter().all(|fact| facts.contains(fact))
     })?;
     execution.steps.push(stopping);
-    let answer = Refusal::NeedUnmet.at(execution.steps.len());
+    let answer = Refusal::NeedUnmet.at(execution.steps.len()).from_start(1);
     let behind = (0..rng.below(room + 1)).filter_map(|_| world.step(objects, rng));
     execution.steps.extend(behind);
     Some((sorted(entries), answer))
@@ -164,7 +164,7 @@ fn misses(facts: &State, execution: &Execution<'_>, rng: &mut Rng) -> Option<(Go
     entries.insert(missed, !execution.state.contains(&missed));
     turn_some(entries.range_mut(missed..).skip(1).map(|(_, holds)| holds), rng);
     let place = entries.range(..=missed).count();
-    Some((sorted(entries), Refusal::GoalMissed.at(place)))
+    Some((sorted(entries), Refusal::GoalMissed.at(place).from_start(1)))
 }
 
 /// Fewer entries than the limit, true at the end: of facts added beyond the

@@ -11,6 +11,7 @@ use super::hall::{Dynamics, Shape, World};
 use super::kinds::draw_parents;
 use super::order::Plan;
 use super::rng::Rng;
+use super::starts::multiply;
 use super::{book, tiny};
 use crate::limits::{OBJECT_LIMIT, PARAMETER_LIMIT};
 
@@ -34,7 +35,8 @@ pub fn draw(rng: &mut Rng) -> Plan {
     loop {
         let (front, objects) = draw_front(rng);
         let mut world = World::with_rules(front, || visible_rule(6, 45, 20, rng));
-        let Some((order, _)) = ending.order(&world, objects, rng) else { continue };
+        let Some((mut order, _)) = ending.order(&world, objects, rng) else { continue };
+        multiply(&mut order, &world.book, rng);
         if rng.chance(75) {
             world.teach(rng);
         } else {

@@ -25,7 +25,8 @@ pub struct RecordDraft {
 #[derive(Clone, Debug, Default)]
 pub struct OrderDraft {
     pub objects: Vec<u8>,
-    pub start: Vec<Fact>,
+    /// The facts of each start.
+    pub starts: Vec<Vec<Fact>>,
     pub goal: Vec<(u8, Fact)>,
     pub steps: Vec<Step>,
 }
@@ -48,7 +49,8 @@ pub struct BookLayout {
 }
 
 pub struct OrderLayout {
-    pub start: usize,
+    /// Where the count of each start stands; its first fact stands 2 behind.
+    pub starts: Vec<usize>,
     pub goal: usize,
     pub steps: usize,
 }
@@ -198,21 +200,30 @@ impl BookDraft {
 impl OrderDraft {
     #[must_use]
     pub fn layout(&self) -> OrderLayout {
-        let start = 16 + self.objects.len();
-        let goal = start + 3 * self.start.len();
-        OrderLayout { start, goal, steps: goal + 4 * self.goal.len() }
+        let mut cursor = 16 + self.objects.len();
+        let start = |facts: &Vec<Fact>| {
+            let at = cursor;
+            cursor += 2 + 3 * facts.len();
+            at
+        };
+        let starts = self.starts.iter().map(start).collect();
+        OrderLayout { starts, goal: cursor, steps: cursor + 4 * self.goal.len() }
     }
 
     #[must_use]
     pub fn bytes(&self) -> Vec<u8> {
         let layout = self.layout();
         let mut bytes = Vec::new();
-        let counts = [self.objects.len(), self.start.len(), self.goal.len(), self.steps.len()];
-        for number in counts.into_iter().chain([16, layout.start, layout.goal, layout.steps]) {
+        let counts = [self.objects.len(), self.starts.len(), self.goal.len(), self.steps.len()];
+        let offsets = [16, 16 + self.objects.len(), layout.goal, layout.steps];
+        for number in counts.into_iter().chain(offsets) {
             push_number(&mut bytes, number);
         }
         bytes.extend_from_slice(&self.objects);
-        bytes.extend(self.start.iter().flatten());
+        for start in &self.starts {
+            push_number(&mut bytes, start.len());
+            bytes.extend(start.iter().flatten());
+        }
         for (holds, fact) in &self.goal {
             bytes.push(*holds);
             bytes.extend_from_slice(fact);

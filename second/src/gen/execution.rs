@@ -75,7 +75,7 @@ impl<'a> Execution<'a> {
     }
 
     pub fn order(self, goal: Vec<(u8, Fact)>) -> OrderDraft {
-        OrderDraft { objects: self.objects, start: self.start, goal, steps: self.steps }
+        OrderDraft { objects: self.objects, starts: vec![self.start], goal, steps: self.steps }
     }
 }
 

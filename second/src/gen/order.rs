@@ -6,6 +6,7 @@ use super::draft::{BookDraft, Fact, OrderDraft, RecordDraft};
 use super::facts::random_fact;
 use super::hall::{Dynamics, Shape, State, World};
 use super::rng::Rng;
+use super::starts::{multiply, turn_one};
 use super::{book, fullbook};
 
 /// A book that learns and an order of good form for it.
@@ -41,8 +42,10 @@ pub fn for_world(world: &World, shape: &Shape, rng: &mut Rng) -> OrderDraft {
     if rng.chance(25) {
         turn_one(&world.book, &record.objects, &mut start, rng);
     }
-    let start = start.into_iter().collect();
-    OrderDraft { objects: record.objects, start, goal, steps: record.steps }
+    let starts = vec![start.into_iter().collect()];
+    let mut order = OrderDraft { objects: record.objects, starts, goal, steps: record.steps };
+    multiply(&mut order, &world.book, rng);
+    order
 }
 
 /// A part of a record of the book, states included.
@@ -85,15 +88,7 @@ fn goal(book: &BookDraft, objects: &[u8], end: &[Fact], rng: &mut Rng) -> Vec<(u
     goal
 }
 
-fn turn_one(book: &BookDraft, objects: &[u8], state: &mut State, rng: &mut Rng) {
-    if let Some(fact) = random_fact(book, objects, rng) {
-        if !state.remove(&fact) && state.len() < 256 {
-            state.insert(fact);
-        }
-    }
-}
-
-/// Every count at its limit; the plan passes.
+/// Every count at its limit but that of the starts; the plan passes.
 pub fn at_the_limits() -> Plan {
     let book = BookDraft {
         kinds: 1,
@@ -103,6 +98,7 @@ pub fn at_the_limits() -> Plan {
     };
     let start = fullbook::first_facts(16, 256);
     let goal = start.iter().take(64).map(|&fact| (1, fact)).collect();
-    let order = OrderDraft { objects: vec![1; 16], start, goal, steps: vec![[1, 0, 0, 0, 0]; 64] };
+    let (objects, steps) = (vec![1; 16], vec![[1, 0, 0, 0, 0]; 64]);
+    let order = OrderDraft { objects, starts: vec![start], goal, steps };
     Plan { book, order }
 }

@@ -1,22 +1,24 @@
-//! Faults in an order: rows 14 to 18.
+//! Faults in an order: rows 14 to 18 and 22; those of its starts are in
+//! `start_faults`.
 
 use super::aim::{Aim, Hit};
 use super::draft::{put_number, OrderDraft};
 use super::order::Plan;
 use super::rng::Rng;
 use super::spoil::{over, Scene, FACT_FAULTS, STEP_FAULTS, TWICE_FAULTS};
+use super::start_faults;
 use crate::answer::Refusal;
 
 pub fn aims() -> Vec<Aim<Plan>> {
     let mut aims = header();
     aims.extend(objects());
-    aims.extend(start_facts());
+    aims.extend(start_faults::aims());
     aims.extend(goal_entries());
     aims.extend(steps());
     aims
 }
 
-fn scene(plan: &Plan) -> Scene<'_> {
+pub(super) fn scene(plan: &Plan) -> Scene<'_> {
     Scene { book: &plan.book, objects: &plan.order.objects }
 }
 
@@ -45,11 +47,6 @@ fn header() -> Vec<Aim<Plan>> {
         aim("objects over 16", |order, _| {
             let mut order = order.clone();
             order.objects.resize(17, 1);
-            Some(order.bytes())
-        }),
-        aim("start facts over 256", |order, _| {
-            let mut order = order.clone();
-            order.start.resize(257, [1, 1, 1]);
             Some(order.bytes())
         }),
         aim("goal entries over 64", |order, _| {
@@ -93,45 +90,6 @@ fn objects() -> Vec<Aim<Plan>> {
         })
     };
     vec![aim("kind 0", |_, _| 0), aim("kind over the count", over)]
-}
-
-fn start_facts() -> Vec<Aim<Plan>> {
-    let fact_at = |plan: &Plan, rng: &mut Rng| {
-        let count = plan.order.start.len();
-        (count > 0).then(|| rng.below(count))
-    };
-    let put = |order: OrderDraft, index: usize| {
-        let place = order.layout().start + 3 * index;
-        Some(Hit { bytes: order.bytes(), place })
-    };
-    let mut aims = vec![
-        Aim::new("start", "facts equal", Refusal::StartFact, move |plan: &Plan, rng: &mut Rng| {
-            let index = fact_at(plan, rng)?;
-            let mut order = plan.order.clone();
-            order.start[index] = order.start[index.checked_sub(1)?];
-            put(order, index)
-        }),
-        Aim::new(
-            "start",
-            "facts decrease",
-            Refusal::StartFact,
-            move |plan: &Plan, rng: &mut Rng| {
-                let index = fact_at(plan, rng)?;
-                let mut order = plan.order.clone();
-                order.start.swap(index, index.checked_sub(1)?);
-                put(order, index)
-            },
-        ),
-    ];
-    aims.extend(FACT_FAULTS.into_iter().map(|(what, spoil)| {
-        Aim::new("start", what, Refusal::StartFact, move |plan: &Plan, rng: &mut Rng| {
-            let index = fact_at(plan, rng)?;
-            let mut order = plan.order.clone();
-            order.start[index] = spoil(order.start[index], &scene(plan), rng)?;
-            put(order, index)
-        })
-    }));
-    aims
 }
 
 fn goal_entries() -> Vec<Aim<Plan>> {

@@ -6,12 +6,14 @@
 //! the bytes, which must be of good form, by himself.
 
 mod reading;
+mod state;
 
 use std::cmp::Reverse;
 
 use reading::{is_tiny, read_book, read_order};
+use state::{State, FULL, TINY};
 
-/// His verdict; `end` lists the facts of the end state in order.
+/// His verdict on a start alone; `end` lists the facts of the end state in order.
 #[derive(Debug, PartialEq, Eq)]
 pub enum Verdict {
     Impossible,
@@ -20,8 +22,8 @@ pub enum Verdict {
     Passes { steps: u32, end: Vec<[u8; 3]> },
 }
 
-/// His verdict, and how many facts held at most, up to the step of a stop or up
-/// to the end, under a model that comes to it; 0 if none fits.
+/// His verdict on a start alone, and how many facts held at most, up to the step
+/// of a stop or up to the end, under a model that comes to it; 0 if none fits.
 pub struct Judgement {
     pub verdict: Verdict,
     pub most: usize,
@@ -35,19 +37,6 @@ enum Outcome {
     Misses(u32),
     Passes,
 }
-
-/// A set of facts as bits. The few words of tiny halls keep these fast.
-#[derive(Clone, PartialEq)]
-struct State<const WORDS: usize> {
-    words: [u64; WORDS],
-    /// How many hold.
-    count: usize,
-}
-
-/// Enough for 3 objects and 8 relations.
-const TINY: usize = 2;
-/// Enough for the paper's limits, 16 objects and 16 relations.
-const FULL: usize = 73;
 
 /// One rule list for one move, over the move's atoms by their index.
 #[derive(Clone, Copy)]
@@ -80,24 +69,24 @@ struct Transition<const WORDS: usize> {
 }
 
 struct Plan<const WORDS: usize> {
-    start: State<WORDS>,
+    starts: Vec<State<WORDS>>,
     steps: Vec<GroundStep>,
     goal: Vec<(bool, usize)>,
 }
 
-/// The judge's verdict on a book and an order, both of good form.
+/// The judge's verdict on a book and each start of an order, both of good form.
 ///
 /// # Panics
 /// If a move has over 8 lifted atoms, or if the end states of a passing plan
 /// differ between models.
 #[must_use]
-pub fn verdict(book: &[u8], order: &[u8]) -> Verdict {
-    judge(book, order).verdict
+pub fn verdicts(book: &[u8], order: &[u8]) -> Vec<Verdict> {
+    judge(book, order).into_iter().map(|judgement| judgement.verdict).collect()
 }
 
-/// As [`verdict`], with how many facts held at most.
+/// As [`verdicts`], with how many facts held at most.
 #[must_use]
-pub fn judge(book: &[u8], order: &[u8]) -> Judgement {
+pub fn judge(book: &[u8], order: &[u8]) -> Vec<Judgement> {
     if is_tiny(book, order) {
         judge_in::<TINY>(book, order)
     } else {
@@ -105,19 +94,36 @@ pub fn judge(book: &[u8], order: &[u8]) -> Judgement {
     }
 }
 
-fn judge_in<const WORDS: usize>(book: &[u8], order: &[u8]) -> Judgement {
+/// The first start from which the plan does not pass: its position from 1, and
+/// what he says of it.
+#[must_use]
+pub fn failing(judgements: &[Judgement]) -> Option<(usize, &Judgement)> {
+    let passes = |judgement: &Judgement| matches!(judgement.verdict, Verdict::Passes { .. });
+    (1..).zip(judgements).find(|(_, judgement)| !passes(judgement))
+}
+
+fn judge_in<const WORDS: usize>(book: &[u8], order: &[u8]) -> Vec<Judgement> {
     let (atoms, transitions) = read_book::<WORDS>(book);
     let kept = consistent(&atoms, &transitions);
+    let plan = read_order::<WORDS>(order, &atoms);
+    plan.starts.iter().map(|start| judge_start(start, &plan, &kept)).collect()
+}
+
+/// Carries the plan out from this start under each model of the kept rules.
+fn judge_start<const WORDS: usize>(
+    start: &State<WORDS>,
+    plan: &Plan<WORDS>,
+    kept: &[Vec<Rules>],
+) -> Judgement {
     if kept.iter().any(Vec::is_empty) {
         return Judgement { verdict: Verdict::Impossible, most: 0 };
     }
-    let plan = read_order::<WORDS>(order, &atoms);
     // Begins as the last in order; of equal outcomes the one of most facts counts.
     let mut first = (Outcome::Passes, Reverse(0));
     let mut ends = Vec::new();
     let mut model = vec![0; kept.len()];
     loop {
-        let (most, end) = plan.carry_out(|action| kept[action][model[action]]);
+        let (most, end) = plan.carry_out(start, |action| kept[action][model[action]]);
         let outcome = match &end {
             Err(step) => Outcome::Stops(*step),
             Ok(end) => plan.missed(end).map_or(Outcome::Passes, Outcome::Misses),
@@ -126,7 +132,7 @@ fn judge_in<const WORDS: usize>(book: &[u8], order: &[u8]) -> Judgement {
         if let Some(end) = end.ok().filter(|end| !ends.contains(end)) {
             ends.push(end);
         }
-        if !advance(&mut model, &kept) {
+        if !advance(&mut model, kept) {
             break;
         }
     }
@@ -224,10 +230,14 @@ impl GroundStep {
 }
 
 impl<const WORDS: usize> Plan<WORDS> {
-    /// Under one model: how many facts held at most, and the end state or the
-    /// number from 1 of the step at which the model stops.
-    fn carry_out(&self, rules: impl Fn(usize) -> Rules) -> (usize, Result<State<WORDS>, u32>) {
-        let mut state = self.start.clone();
+    /// From one start, under one model: how many facts held at most, and the end
+    /// state or the number from 1 of the step at which the model stops.
+    fn carry_out(
+        &self,
+        start: &State<WORDS>,
+        rules: impl Fn(usize) -> Rules,
+    ) -> (usize, Result<State<WORDS>, u32>) {
+        let mut state = start.clone();
         let mut most = state.count;
         for (number, step) in (1u32..).zip(&self.steps) {
             let rules = rules(step.action);
@@ -244,37 +254,5 @@ impl<const WORDS: usize> Plan<WORDS> {
     fn missed(&self, end: &State<WORDS>) -> Option<u32> {
         let missed = |&(holds, fact): &(bool, usize)| end.holds(fact) != holds;
         self.goal.iter().position(missed).map(|index| index as u32 + 1)
-    }
-}
-
-impl<const WORDS: usize> State<WORDS> {
-    const EMPTY: Self = Self { words: [0; WORDS], count: 0 };
-    /// Objects are below this, 0 for an unused place.
-    const RADIX: usize = if WORDS == TINY { 4 } else { 17 };
-
-    /// The number of a fact: radix²·(relation−1) + radix·first + second.
-    fn fact(bytes: &[u8]) -> usize {
-        let [relation, first, second] = [bytes[0], bytes[1], bytes[2]].map(usize::from);
-        Self::RADIX * (Self::RADIX * (relation - 1) + first) + second
-    }
-
-    fn holds(&self, fact: usize) -> bool {
-        self.words[fact / 64] >> (fact % 64) & 1 == 1
-    }
-
-    fn set(&mut self, fact: usize, holds: bool) {
-        if self.holds(fact) != holds {
-            self.words[fact / 64] ^= 1 << (fact % 64);
-            self.count = if holds { self.count + 1 } else { self.count - 1 };
-        }
-    }
-
-    fn facts(&self) -> Vec<[u8; 3]> {
-        let radix = Self::RADIX;
-        (0..64 * WORDS)
-            .filter(|&fact| self.holds(fact))
-            .map(|fact| [fact / radix / radix + 1, fact / radix % radix, fact % radix])
-            .map(|fact| fact.map(|number| number as u8))
-            .collect()
     }
 }

@@ -1,6 +1,7 @@
 //! What the judge reads of a book and an order, whose bytes are of good form.
 
-use super::{Atom, GroundStep, Plan, State, Transition};
+use super::state::State;
+use super::{Atom, GroundStep, Plan, Transition};
 
 fn ground<const WORDS: usize>(step: &[u8], atoms: &[Vec<Atom>]) -> GroundStep {
     let action = usize::from(step[0]) - 1;
@@ -27,9 +28,9 @@ impl<'a> Reader<'a> {
         usize::from(bytes[0]) << 8 | usize::from(bytes[1])
     }
 
-    fn state<const WORDS: usize>(&mut self, count: usize) -> State<WORDS> {
+    fn state<const WORDS: usize>(&mut self) -> State<WORDS> {
         let mut state = State::EMPTY;
-        for _ in 0..count {
+        for _ in 0..self.number() {
             state.set(State::<WORDS>::fact(self.take(3)), true);
         }
         state
@@ -62,12 +63,10 @@ pub(super) fn read_book<const WORDS: usize>(
     for _ in 0..records {
         let head = reader.take(4);
         reader.take(usize::from(head[0]));
-        let count = reader.number();
-        let mut before: State<WORDS> = reader.state(count);
+        let mut before: State<WORDS> = reader.state();
         for _ in 0..head[1] {
             let step = ground::<WORDS>(reader.take(5), &atoms);
-            let count = reader.number();
-            let after: State<WORDS> = reader.state(count);
+            let after: State<WORDS> = reader.state();
             transitions.push(Transition { step, before, after: after.clone() });
             before = after;
         }
@@ -103,11 +102,11 @@ fn atoms(parents: &[u8], relations: &[&[u8]], entry: &[u8]) -> Vec<Atom> {
 
 pub(super) fn read_order<const WORDS: usize>(order: &[u8], atoms: &[Vec<Atom>]) -> Plan<WORDS> {
     let mut reader = Reader(order);
-    let [objects, start, goal, steps] = [(); 4].map(|()| reader.number());
+    let [objects, starts, goal, steps] = [(); 4].map(|()| reader.number());
     reader.take(8 + objects);
-    let start = reader.state(start);
+    let starts = (0..starts).map(|_| reader.state()).collect();
     let entry = |bytes: &[u8]| (bytes[0] == 1, State::<WORDS>::fact(&bytes[1..]));
     let goal = (0..goal).map(|_| entry(reader.take(4))).collect();
     let steps = (0..steps).map(|_| ground::<WORDS>(reader.take(5), atoms)).collect();
-    Plan { start, steps, goal }
+    Plan { starts, steps, goal }
 }

@@ -14,11 +14,11 @@ pub fn all() -> Vec<Vector> {
     vectors
 }
 
-/// Where the parts of M2's order stand.
+/// Where the parts of M2's order stand; the start's count is 2 before its facts.
 const O_OBJECTS: usize = 16;
-const O_START: usize = 20;
-const O_GOAL: usize = 29;
-const O_STEPS: usize = 33;
+const O_START: usize = 22;
+const O_GOAL: usize = 31;
+const O_STEPS: usize = 35;
 
 fn orders() -> Vec<Vector> {
     let wrong = |name, changes: &[(usize, &[u8])], answer| {
@@ -28,7 +28,7 @@ fn orders() -> Vec<Vector> {
     let stops = order(&START_2_CLEAR, &[], &[ROLL_2_3, [1, 1, 3, 3, 0]]);
     let second_step = stops.layout().steps + 5;
     vec![
-        wrong("14 before 15", &[(15, &[34]), (O_OBJECTS, &[0])], Refusal::OrderHeader.at(0)),
+        wrong("14 before 15", &[(15, &[36]), (O_OBJECTS, &[0])], Refusal::OrderHeader.at(0)),
         wrong("14 before 18", &[(7, &[3]), (O_STEPS, &[2])], Refusal::OrderHeader.at(0)),
         wrong("15: the first of two", &[(O_OBJECTS + 1, &[0, 3])], {
             Refusal::OrderObject.at(O_OBJECTS + 1)
@@ -37,10 +37,10 @@ fn orders() -> Vec<Vector> {
             Refusal::OrderObject.at(O_OBJECTS + 1)
         }),
         wrong("16: the first of two", &[(O_START + 3, &[3]), (O_START + 6, &[4])], {
-            Refusal::StartFact.at(O_START + 3)
+            Refusal::Start.at(O_START + 3)
         }),
         wrong("16 before 17", &[(O_START + 3, &[3]), (O_GOAL, &[2])], {
-            Refusal::StartFact.at(O_START + 3)
+            Refusal::Start.at(O_START + 3)
         }),
         check(
             "17: the first of two",

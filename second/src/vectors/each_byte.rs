@@ -73,15 +73,20 @@ fn in_book(at: usize) -> Answer {
     row.at(place)
 }
 
-/// Four objects from 16, three facts from 20, an entry at 29, steps at 33, 38.
+/// Four objects from 16, the start's count at 20, three facts from 22, an entry at
+/// 31, steps at 35, 40. Byte 3 counts 128 starts, byte 2 32,769; the low byte of
+/// the start's count leaves 128 facts, of which the goal cuts the fourth.
 fn in_order(at: usize) -> Answer {
     let (row, place) = match at {
+        2..=3 => (Refusal::StartCount, 0),
         0..=15 => (Refusal::OrderHeader, 0),
         16..=19 => (Refusal::OrderObject, at),
-        20..=28 => (Refusal::StartFact, 20 + (at - 20) / 3 * 3),
-        29..=32 => (Refusal::GoalEntry, 29),
-        33..=37 => (Refusal::PlanStep, 33),
-        _ => (Refusal::PlanStep, 38),
+        20 => (Refusal::Start, 20),
+        21 => (Refusal::Start, 31),
+        22..=30 => (Refusal::Start, 22 + (at - 22) / 3 * 3),
+        31..=34 => (Refusal::GoalEntry, 31),
+        35..=39 => (Refusal::PlanStep, 35),
+        _ => (Refusal::PlanStep, 40),
     };
     row.at(place)
 }

@@ -2,7 +2,7 @@
 //! parent, and a chain of all kinds that there are.
 
 use super::hall::{end_sheet, m2, sheet, with_parents as hall};
-use super::paper::{check, learn, m1_sheet};
+use super::paper::{check, learn, m1_sheet, unmet};
 use super::Vector;
 use crate::answer::{Answer, Refusal};
 use crate::calls::Job;
@@ -86,16 +86,16 @@ fn plans() -> Vec<Vector> {
     let hall = |parents: &[u8]| hall(parents).bytes();
     let end = end_sheet(&[[1, 1, 4], [2, 2, 0], [2, 3, 0]]);
     let spot_at_spot =
-        OrderDraft { start: vec![[1, 1, 2], [1, 3, 3], [2, 3, 0], [2, 4, 0]], ..m2() };
+        OrderDraft { starts: vec![vec![[1, 1, 2], [1, 3, 3], [2, 3, 0], [2, 4, 0]]], ..m2() };
     let m2 = || m2().bytes();
     vec![
         check("M2 with parents of 0", hall(&[0, 0]), m2(), Answer::success(2)).after(end.clone()),
         check("M2 with a spot below a bank", hall(&[0, 1]), m2(), Answer::success(2)).after(end),
         check("19: a spot at a spot, below a bank", hall(&[0, 1]), spot_at_spot.bytes(), {
-            Refusal::NeedUnmet.at(1)
+            unmet(1)
         }),
         check("16: a spot at a spot, with parents of 0", hall(&[0, 0]), spot_at_spot.bytes(), {
-            Refusal::StartFact.at(20 + 3)
+            Refusal::Start.at(22 + 3)
         }),
         chain_plan(),
     ]
@@ -118,7 +118,7 @@ fn chain_plan() -> Vector {
     };
     let order = OrderDraft {
         objects: (1..=8).collect(),
-        start: (1..=8).map(|object| [1, object, 0]).collect(),
+        starts: vec![(1..=8).map(|object| [1, object, 0]).collect()],
         goal: (1..=8).map(|object| (0, [1, object, 0])).collect(),
         steps: (1..=8).map(taken).collect(),
     };

@@ -73,7 +73,7 @@ pub fn empty_end() -> RecordDraft {
 pub fn order(start: &[Fact], goal: &[(u8, Fact)], steps: &[Step]) -> OrderDraft {
     OrderDraft {
         objects: vec![1, 2, 2, 2],
-        start: start.to_vec(),
+        starts: vec![start.to_vec()],
         goal: goal.to_vec(),
         steps: steps.to_vec(),
     }
@@ -88,8 +88,8 @@ pub const AT_4: Fact = [1, 1, 4];
 pub const ROLL_2_3: Step = [1, 1, 2, 3, 0];
 pub const ROLL_3_4: Step = [1, 1, 3, 4, 0];
 
-/// M2's order, which passes. Its objects stand at 16, the start at 20, the goal
-/// at 29 and the two steps at 33.
+/// M2's order, which passes. Its objects stand at 16, the start's count at 20, its
+/// facts at 22, the goal at 31 and the two steps at 35.
 pub fn m2() -> OrderDraft {
     order(&START, &[(1, AT_4)], &[ROLL_2_3, ROLL_3_4])
 }

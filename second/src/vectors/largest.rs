@@ -2,7 +2,7 @@
 //! parameters, and the last of 64 steps, 64 entries and 256 facts.
 
 use super::hall::{end_sheet, filed, one_fact, sheet, story, unbound, with};
-use super::paper::check;
+use super::paper::{check, missed};
 use super::Vector;
 use crate::answer::{Answer, Refusal};
 use crate::calls::Job::{self, Learn, LookOver};
@@ -96,7 +96,7 @@ fn four_parameters() -> Vec<Vector> {
     let absent: Vec<usize> = (0..256).filter(|&n| n != gone).collect();
     let plan = OrderDraft {
         objects: vec![1; 16],
-        start: vec![[16, 15, 16]],
+        starts: vec![vec![[16, 15, 16]]],
         goal: vec![(0, [16, 15, 16]), (1, [16, 16, 15])],
         steps: vec![[1, 1, 2, 15, 16]],
     };
@@ -124,8 +124,8 @@ fn last_of_an_order() -> Vec<Vector> {
         case("15: object 16", |order| order.objects[15] = 2, |_| Refusal::OrderObject.at(31)),
         case(
             "16: fact 256",
-            |order| order.start[255][2] = 15,
-            |order| Refusal::StartFact.at(order.layout().goal - 3),
+            |order| order.starts[0][255][2] = 15,
+            |order| Refusal::Start.at(order.layout().goal - 3),
         ),
         case(
             "17: entry 64",
@@ -137,6 +137,6 @@ fn last_of_an_order() -> Vec<Vector> {
             |order| order.steps[63][0] = 2,
             |order| Refusal::PlanStep.at(order.bytes().len() - 5),
         ),
-        case("20: entry 64", |order| order.goal[63].0 = 0, |_| Refusal::GoalMissed.at(64)),
+        case("20: entry 64", |order| order.goal[63].0 = 0, |_| missed(64)),
     ]
 }

@@ -5,9 +5,9 @@
 //! relation 1 over them.
 
 use super::hall::{end_sheet, sheet};
-use super::paper::check;
+use super::paper::{check, missed, unmet};
 use super::Vector;
-use crate::answer::{Answer, Refusal};
+use crate::answer::Answer;
 use crate::calls::Job::Learn;
 use crate::gen::{BookDraft, Fact, OrderDraft, RecordDraft, Step};
 use crate::limits::{END_SHEET_LENGTH, RULES_LENGTH};
@@ -26,7 +26,7 @@ fn facts(relation: u8, objects: u8) -> Vec<Fact> {
 fn order(goal: &[(u8, Fact)], steps: &[Step]) -> OrderDraft {
     OrderDraft {
         objects: vec![1; 16],
-        start: facts(1, 16),
+        starts: vec![facts(1, 16)],
         goal: goal.to_vec(),
         steps: steps.to_vec(),
     }
@@ -83,6 +83,7 @@ pub fn plans() -> Vec<Vector> {
     let mut vectors = passes();
     vectors.extend(stops());
     vectors.extend(misses());
+    vectors.extend(several_starts());
     vectors.push(one_a_step());
     vectors.extend(all_facts());
     vectors
@@ -119,7 +120,7 @@ fn passes() -> Vec<Vector> {
 fn stops() -> Vec<Vector> {
     let stop = |name, steps: &[Step], at| {
         let order = order(&[], steps).bytes();
-        check(&named(name), marks().bytes(), order, Refusal::NeedUnmet.at(at))
+        check(&named(name), marks().bytes(), order, unmet(at))
     };
     vec![
         stop("the 257th is needed not to hold", &[mark(5), mark(5)], 2),
@@ -132,7 +133,7 @@ fn stops() -> Vec<Vector> {
 fn misses() -> Vec<Vector> {
     let miss = |name, goal: &[(u8, Fact)], steps: &[Step], entry| {
         let order = order(goal, steps).bytes();
-        check(&named(name), marks().bytes(), order, Refusal::GoalMissed.at(entry))
+        check(&named(name), marks().bytes(), order, missed(entry))
     };
     let last_two = [(1, marked(15)), (1, marked(16))];
     vec![
@@ -144,6 +145,27 @@ fn misses() -> Vec<Vector> {
             2,
         ),
         miss("an entry of 1 about one removed", &last_two, &all_marked(unmark(16)), 2),
+    ]
+}
+
+/// All objects are marked from each of several starts of 256 facts.
+fn several_starts() -> Vec<Vector> {
+    let case = |name, last: Vec<Fact>, goal: &[(u8, Fact)], answer| {
+        let mut order = order(goal, &all_marked(look(1)));
+        let first = order.starts[0].clone();
+        order.starts.extend([first, last]);
+        check(&named(name), marks().bytes(), order.bytes(), answer)
+    };
+    // In place of one fact another that is marked already.
+    let but = |fact: Fact| -> Vec<Fact> {
+        facts(1, 16).into_iter().filter(|&held| held != fact).chain([marked(16)]).collect()
+    };
+    let lacking = facts(1, 16).into_iter().filter(|&fact| fact != [1, 16, 1]).collect();
+    vec![
+        case("three starts", facts(1, 16), &[(1, marked(16))], Answer::success(17)),
+        case("three starts, the last stops", but([1, 2, 1]), &[], unmet(16).from_start(3)),
+        case("three starts, the last stops earlier", but([1, 5, 5]), &[], unmet(5).from_start(3)),
+        case("three starts, the last misses", lacking, &[(1, [1, 16, 1])], missed(1).from_start(3)),
     ]
 }
 

@@ -62,17 +62,21 @@ fn orders() -> Vec<Vector> {
     cases.push(("one step more than counted".into(), [&m2[..], &ROLL_2_3].concat()));
     cases.push(("a gap before the objects".into(), gap(m2.clone(), 16, 4..=7)));
     cases.push(("a gap before the start".into(), gap(m2.clone(), 20, 5..=7)));
-    cases.push(("a gap before the goal".into(), gap(m2.clone(), 29, 6..=7)));
-    cases.push(("a gap before the steps".into(), gap(m2, 33, 7..=7)));
+    cases.push(("a gap before the steps".into(), gap(m2, 35, 7..=7)));
     let hall = || small_hall().bytes();
     let vector =
         |(what, order)| check(&format!("14: {what}"), hall(), order, Refusal::OrderHeader.at(0));
     let mut vectors: Vec<Vector> = cases.into_iter().map(vector).collect();
-    vectors.push(
-        check("limit: order of 16 bytes", hall(), OrderDraft::default().bytes(), {
-            Answer::success(0)
-        })
-        .after(vec![0; 512]),
-    );
+    let empty = OrderDraft { starts: vec![Vec::new()], ..OrderDraft::default() };
+    let ended = |goal: u8| {
+        let bytes = &empty.bytes()[..usize::from(goal)];
+        changed(bytes.to_vec(), &[(13, &[goal, 0, goal])])
+    };
+    vectors.extend([
+        check("limit: order of 18 bytes", hall(), ended(18), Answer::success(0))
+            .after(vec![0; 512]),
+        check("16: order of 17 bytes", hall(), ended(17), Refusal::Start.at(16)),
+        check("16: order of 16 bytes", hall(), ended(16), Refusal::Start.at(16)),
+    ]);
     vectors
 }

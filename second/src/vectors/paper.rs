@@ -8,12 +8,22 @@ use super::Vector;
 use crate::answer::{Answer, Refusal};
 use crate::calls::Job::{self, Add, Check, Learn, LookOver};
 use crate::gen::order::at_the_limits;
-use crate::gen::{extreme, fullbook, BookDraft, RecordDraft, Rng};
+use crate::gen::{extreme, fullbook, BookDraft, OrderDraft, RecordDraft, Rng};
 use crate::limits::{END_SHEET_LENGTH, FACT_LIMIT, RULES_LENGTH};
 
 /// A check with an end sheet of the right length.
 pub fn check(name: &str, book: Vec<u8>, order: Vec<u8>, answer: Answer) -> Vector {
     Vector::new(name, &[Check], book, answer).order(order).output(END_SHEET_LENGTH)
+}
+
+/// 19 at this step, from the only start or the first.
+pub fn unmet(step: usize) -> Answer {
+    Refusal::NeedUnmet.at(step).from_start(1)
+}
+
+/// 20 at this entry, likewise.
+pub fn missed(entry: usize) -> Answer {
+    Refusal::GoalMissed.at(entry).from_start(1)
 }
 
 /// A book that learns this sheet, with an output of its length.
@@ -34,12 +44,15 @@ pub fn marked() -> Vec<Vector> {
     let hall = || small_hall().bytes();
     let goal = [(1, AT_4)];
     let rolls = [ROLL_2_3, ROLL_3_4];
-    let step_at = |order: &crate::gen::OrderDraft| order.layout().steps;
-    let twice = order(&START, &goal, &[[1, 1, 2, 2, 0]]);
+    let twice = |goal: &[_]| order(&START, goal, &[[1, 1, 2, 2, 0]]).bytes();
     let mut empty_end = filed();
     empty_end.states[1].clear();
     let bare = BookDraft { moves: vec![[0; 6]], ..BookDraft::default() };
-    let bare_order = crate::gen::OrderDraft { steps: vec![[1, 0, 0, 0, 0]], ..Default::default() };
+    let bare_order = OrderDraft {
+        starts: vec![Vec::new()],
+        steps: vec![[1, 0, 0, 0, 0]],
+        ..OrderDraft::default()
+    };
 
     let mut vectors = vec![
         Vector::new("M1 looked over", &[LookOver], hall(), Answer::success(1)),
@@ -48,15 +61,16 @@ pub fn marked() -> Vec<Vector> {
             .after(m1_sheet()),
         check("M2", hall(), order(&START, &goal, &rolls).bytes(), Answer::success(2))
             .after(end_sheet(&[AT_4, [2, 2, 0], [2, 3, 0]])),
-        check("M3", hall(), order(&START_2_CLEAR, &goal, &rolls).bytes(), Refusal::NeedUnmet.at(1)),
+        check("M3", hall(), order(&START_2_CLEAR, &goal, &rolls).bytes(), unmet(1)),
         check("M4", hall(), order(&START, &[(1, AT_2)], &[]).bytes(), Answer::success(0))
             .after(end_sheet(&START)),
-        check("M5", hall(), order(&START, &goal, &[]).bytes(), Refusal::GoalMissed.at(1)),
+        check("M5", hall(), order(&START, &goal, &[]).bytes(), missed(1)),
         Vector::new("M6 learned", &[Learn], unrecorded().bytes(), Answer::success(0))
             .output(RULES_LENGTH)
             .after(sheet(&[[&[1, 2, 20, 24], &[1, 2, 20, 24], &[], &[]]])),
         check("M7", bare.bytes(), bare_order.bytes(), Answer::success(1)).after(end_sheet(&[])),
-        check("M8", hall(), twice.bytes(), Refusal::PlanStep.at(step_at(&twice))),
+        check("M8", hall(), twice(&[]), Refusal::PlanStep.at(31)),
+        check("M8 with a goal", hall(), twice(&goal), Refusal::PlanStep.at(35)),
         Vector::new(
             "M9",
             &[Learn, Check],
@@ -78,7 +92,7 @@ pub fn marked() -> Vec<Vector> {
     for roll in [ROLL_2_3, ROLL_3_4, [1, 1, 4, 2, 0]] {
         let name = format!("M6 roll {} {} {}", roll[1], roll[2], roll[3]);
         let order = order(&START, &[], &[roll]).bytes();
-        vectors.push(check(&name, unrecorded().bytes(), order, Refusal::NeedUnmet.at(1)));
+        vectors.push(check(&name, unrecorded().bytes(), order, unmet(1)));
     }
     vectors
 }

@@ -5,7 +5,7 @@ use super::hall::{
     end_sheet, filed, one_fact, order, sheet, small_hall, story, with, AT_2, AT_4, ROLL_2_3,
     ROLL_3_4, START, START_2_CLEAR,
 };
-use super::paper::{check, learn, m1_sheet};
+use super::paper::{check, learn, m1_sheet, missed, unmet};
 use super::Vector;
 use crate::answer::{Answer, Refusal};
 use crate::calls::Job::{Add, Check, Learn};
@@ -214,8 +214,6 @@ pub fn plans() -> Vec<Vector> {
     let plan = |name, start: &[Fact], goal: &[(u8, Fact)], steps: &[_], answer| {
         check(name, small_hall().bytes(), order(start, goal, steps).bytes(), answer)
     };
-    let unmet = |step| Refusal::NeedUnmet.at(step);
-    let missed = |entry| Refusal::GoalMissed.at(entry);
     let rolls = [ROLL_2_3, ROLL_3_4];
     let at_4 = [(1, AT_4)];
     let no_clear_3 = [AT_2, CLEAR_4];
@@ -264,17 +262,15 @@ pub fn plans_without_places() -> Vec<Vector> {
     };
     let plan = |name, goal: &[(u8, Fact)], steps: &[_], answer| {
         let (goal, steps) = (goal.to_vec(), steps.to_vec());
-        let order = OrderDraft { objects: vec![1; 3], start: Vec::new(), goal, steps };
+        let order = OrderDraft { objects: vec![1; 3], starts: vec![Vec::new()], goal, steps };
         check(name, book.bytes(), order.bytes(), answer)
     };
     let both = [(1, fact), (1, [2, 3, 0])];
     vec![
         plan("passes: a fact of no places", &both, &[turn, put(3)], Answer::success(2))
             .after(end_sheet(&[fact, [2, 3, 0]])),
-        plan("19: a fact of no places is needed", &[], &[put(3)], Refusal::NeedUnmet.at(1)),
-        plan("19: a fact of no places is needed not to hold", &[], &[turn, turn], {
-            Refusal::NeedUnmet.at(2)
-        }),
-        plan("20: a fact of no places", &[(0, fact)], &[turn], Refusal::GoalMissed.at(1)),
+        plan("19: a fact of no places is needed", &[], &[put(3)], unmet(1)),
+        plan("19: a fact of no places is needed not to hold", &[], &[turn, turn], unmet(2)),
+        plan("20: a fact of no places", &[(0, fact)], &[turn], missed(1)),
     ]
 }

@@ -1,7 +1,7 @@
 //! Kinds under kinds, by hand: plans with wagons, and records of wagons added.
 
 use super::hall::{changed, end_sheet, filed, with_parents};
-use super::paper::check;
+use super::paper::{check, missed, unmet};
 use super::wagon::{rolls, with};
 use super::Vector;
 use crate::answer::{Answer, Refusal};
@@ -23,7 +23,7 @@ pub fn all() -> Vec<Vector> {
 fn order(kind: u8, start: &[Fact], goal: &[(u8, Fact)], steps: &[Step]) -> OrderDraft {
     OrderDraft {
         objects: vec![kind, 2, 2, 2, 3],
-        start: start.to_vec(),
+        starts: vec![start.to_vec()],
         goal: goal.to_vec(),
         steps: steps.to_vec(),
     }
@@ -86,7 +86,7 @@ fn couples() -> Vec<Vector> {
     };
     let (loaded, both) = ([3, 5, 0], [[3, 1, 0], [3, 5, 0]]);
     let pass = Answer::success(1);
-    let unmet = Refusal::NeedUnmet.at(1);
+    let unmet = unmet(1);
     vec![
         plan("passes: a bank is coupled to a wagon", 1, &[loaded], pass)
             .after(end_sheet(&[loaded, [4, 1, 5]])),
@@ -108,9 +108,10 @@ const ROLL: Step = ROLLS[0];
 
 /// Rows 15 to 18.
 fn malformed() -> Vec<Vector> {
-    let start = |at: usize| Refusal::StartFact.at(21 + 3 * at);
-    let goal = |at: usize| Refusal::GoalEntry.at(21 + 4 * at);
-    let step = |at: usize| Refusal::PlanStep.at(21 + 5 * at);
+    // The start's count stands at 21.
+    let start = |at: usize| Refusal::Start.at(23 + 3 * at);
+    let goal = |at: usize| Refusal::GoalEntry.at(23 + 4 * at);
+    let step = |at: usize| Refusal::PlanStep.at(23 + 5 * at);
     let steps = |kind, steps: &[Step]| order(kind, &[], &[], steps);
     vec![
         plan("a kind over the count", steps(5, &[]), Refusal::OrderObject.at(16)),
@@ -132,7 +133,7 @@ fn malformed() -> Vec<Vector> {
 
 /// Rows 19 and 20.
 fn stops_and_misses() -> Vec<Vector> {
-    let (unmet, missed) = (Refusal::NeedUnmet.at(1), Refusal::GoalMissed.at(2));
+    let (unmet, missed) = (unmet(1), missed(2));
     let not_there = order(3, &[[2, 3, 0], [3, 1, 0]], &[], &[ROLL]);
     let clear_below = order(4, &[[1, 1, 2], [2, 2, 0], [2, 3, 0]], &[], &[ROLL]);
     let loaded = order(3, &START, &[(1, [1, 1, 4]), (0, [3, 1, 0])], &ROLLS);

@@ -18,7 +18,7 @@ pub fn learned(book: &[u8]) -> (Answer, Vec<u8>) {
     (answer, sheet)
 }
 
-/// An order for objects of these kinds.
+/// An order of one start for objects of these kinds.
 pub fn order(
     objects: &[u8],
     start: &[[u8; 3]],
@@ -26,12 +26,13 @@ pub fn order(
     steps: &[[u8; 5]],
 ) -> Vec<u8> {
     let start_at = 16 + objects.len();
-    let goal_at = start_at + 3 * start.len();
+    let goal_at = start_at + 2 + 3 * start.len();
     let steps_at = goal_at + 4 * goal.len();
-    let counts = [objects.len(), start.len(), goal.len(), steps.len()];
+    let counts = [objects.len(), 1, goal.len(), steps.len()];
     let header = counts.into_iter().chain([16, start_at, goal_at, steps_at]);
     let mut bytes: Vec<u8> = header.flat_map(|number| (number as u16).to_be_bytes()).collect();
     bytes.extend(objects);
+    bytes.extend((start.len() as u16).to_be_bytes());
     bytes.extend(start.iter().flatten());
     for (holds, fact) in goal {
         bytes.push(*holds);

@@ -6,4 +6,4 @@ use Rattle.answer.proofs.pack.Tie as tie
 
 pub pack-spec : {M : Type 1} → statement M
 unfolding packed
-pack-spec = tie.close (tie.spec (λ c κs. search needs) (λ c. search needs) (λ c κs. search needs) (λ c. search needs) (λ c. search needs))
+pack-spec = tie.close (tie.spec (λ c κs. search needs) (λ c. search needs) (λ c. search needs) (λ c. search needs) (λ c κs. search needs) (λ c. search needs) (λ c. search needs))

@@ -1,6 +1,6 @@
--- `changeover::changeover_check` meets its contract: the job's answer, packed, and the end sheet as the job left it.
-use Rattle.changeover.proofs.Bounds.{check-fits}
-use Rattle.changeover.proofs.Laws.{says-by}
+-- `changeover::changeover_check` meets its contract: the job's answer with its position, packed, and the end sheet as the job left it.
+use Rattle.changeover.proofs.Bounds.{check-fits, check-elsewhere}
+use Rattle.changeover.proofs.Laws.{says-at}
 use borrow.Author.Needs.{needs}
 use Rattle.changeover.proofs.changeover_check.Statement.{statement}
 use Rattle.changeover.proofs.changeover_check.Tie as tie
@@ -11,7 +11,7 @@ pack-requires c κs = rw (c .before .before .check .ensures .says) (check-fits _
 returns : tie.Need-returns
 returns c =
     let a = c .before .before .before .check .ensures in
-    record { answer = says-by _ _ _ (a .says) (check-fits _ _ _) (c .pack .ensures); end = a .bytes }
+    record { answer = says-at _ _ _ (a .says) (check-fits _ _ _) (c .pack .ensures); elsewhere = check-elsewhere _ _ _; end = a .bytes }
 
 pub changeover-check-spec : {M : Type 1} → statement M
 changeover-check-spec = tie.close (tie.spec (λ c κs. search needs) pack-requires (λ c. search needs) returns)

@@ -11,7 +11,7 @@ pack-requires c κs = rw (c .before .before .learn .ensures .says) (learn-fits _
 returns : tie.Need-returns
 returns c =
     let a = c .before .before .before .learn .ensures in
-    record { answer = says-by _ _ _ (a .says) (learn-fits _ _) (c .pack .ensures); sheet = a .bytes }
+    record { answer = says-by _ _ _ _ (a .says) (learn-fits _ _) (c .pack .ensures); sheet = a .bytes }
 
 pub changeover-learn-spec : {M : Type 1} → statement M
 changeover-learn-spec = tie.close (tie.spec (λ c κs. search needs) pack-requires (λ c. search needs) returns)

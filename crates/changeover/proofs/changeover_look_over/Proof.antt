@@ -9,7 +9,7 @@ pack-requires : tie.Need-pack-requires
 pack-requires c κs = rw (c .look-over .ensures) (look-over-fits _)
 
 returns : tie.Need-returns
-returns c = says-by _ _ _ (c .before .look-over .ensures) (look-over-fits _) (c .pack .ensures)
+returns c = says-by _ _ _ _ (c .before .look-over .ensures) (look-over-fits _) (c .pack .ensures)
 
 pub changeover-look-over-spec : {M : Type 1} → statement M
 changeover-look-over-spec = tie.close (tie.spec (λ c κs. search needs) pack-requires returns)

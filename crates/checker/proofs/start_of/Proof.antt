@@ -1,13 +1,22 @@
--- `checker::start_of` meets its contract: the start facts as the header places them.
-use Rattle.format.specs.Order.{goalAt}
+-- `checker::start_of` meets its contract: the facts of the start as its count says.
+use native.Mathlib.Omega.{arith}
+use Rattle.format.specs.Decode.{stateEnd}
 use Rattle.checker.proofs.Rows.{start-by}
 use borrow.Author.Needs.{needs}
 use Rattle.checker.proofs.start_of.Statement.{statement}
 use Rattle.checker.proofs.start_of.Tie as tie
 
+two-at-requires : tie.Need-two-at-requires
+unfolding stateEnd
+two-at-requires c κs = omega arith
+
+add-start-mask : tie.Need-add-start-mask
+unfolding stateEnd
+add-start-mask c = omega arith
+
+start-mask-requires : tie.Need-start-mask-requires
+unfolding stateEnd
+start-mask-requires c κs = (omega arith, omega arith)
+
 pub start-of-spec : {M : Type 1} → statement M
-unfolding goalAt
-start-of-spec =
-    tie.close
-    (tie.spec (λ c κs. search needs) (λ c. search needs) (λ c κs. search needs) (λ c κs. search needs)
-    (λ c. start-by _ _ _ (c .before .before .start-count .ensures) (c .before .start-at .ensures .0) (c .start-mask .ensures)))
+start-of-spec = tie.close (tie.spec two-at-requires (λ c. search needs) add-start-mask start-mask-requires (λ c. start-by _ _ _ (c .before .two-at .ensures) (c .start-mask .ensures)))

@@ -20,7 +20,7 @@ unfolding ForRightByPlace
 steps-requires c κs =
     let p = c .before .before .before .before .before .pre in
     let d = c .before .before .before .state .ensures _ _ (p .0 .table) in
-    let w = state-within _ _ _ _ _ _ (sym d ∙ is-good _ (sym (c .before .before .is-refused .ensures) ∙ c .before .if1 .left)) in
+    let w = state-within _ _ _ _ _ _ _ (sym d ∙ is-good _ (sym (c .before .before .is-refused .ensures) ∙ c .before .if1 .left)) in
     let v = c .value-of .ensures in
     (p .0, omega arith)
 

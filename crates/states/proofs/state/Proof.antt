@@ -10,7 +10,7 @@ use Rattle.states.proofs.state.Tie as tie
 
 returns : tie.Need-returns
 unfolding ForRightByPlace
-returns c sch ob right = sym (state-refused _ _ _ _ _ (sym (c .before .count-bad .ensures) ∙ c .if1 .taken))
+returns c sch ob right = sym (state-refused _ _ _ _ _ _ (sym (c .before .count-bad .ensures) ∙ c .if1 .taken))
 
 count-requires : tie.Need-count-requires
 count-requires c κs =
@@ -27,7 +27,7 @@ returns-2 : tie.Need-returns-2
 unfolding ForRightByPlace
 returns-2 c sch ob right =
     let d = c .before .before in
-    c .facts .ensures sch ob right ∙ sym (state-facts _ _ _ _ _ _ (sym (d .before .count-bad .ensures) ∙ d .if1 .left) (c .before .count .ensures))
+    c .facts .ensures sch ob right ∙ sym (state-facts _ _ _ _ _ _ _ (sym (d .before .count-bad .ensures) ∙ d .if1 .left) (c .before .count .ensures))
 
 pub state-spec : {M : Type 1} → statement M
 state-spec = tie.close (tie.spec (λ c κs. search needs) returns count-requires (λ c. search needs) (λ c. search needs) facts-requires returns-2)

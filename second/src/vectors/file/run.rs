@@ -29,7 +29,7 @@ impl fmt::Display for Failure {
 }
 
 /// Runs every call of every vector; answers how many there were, and what failed.
-pub fn run(vectors: &[Vector], calls: &impl Calls) -> (usize, Vec<Failure>) {
+pub fn run(vectors: &[Vector], calls: &(impl Calls + ?Sized)) -> (usize, Vec<Failure>) {
     let mut runs = 0;
     let mut failures = Vec::new();
     for vector in vectors {
@@ -41,7 +41,7 @@ pub fn run(vectors: &[Vector], calls: &impl Calls) -> (usize, Vec<Failure>) {
     (runs, failures)
 }
 
-fn run_one(vector: &Vector, job: Job, calls: &impl Calls) -> Option<Failure> {
+fn run_one(vector: &Vector, job: Job, calls: &(impl Calls + ?Sized)) -> Option<Failure> {
     let other = if job == Job::Check { &vector.order } else { &vector.record };
     // Two fills, so that a byte written with its old value is found once.
     for fill in [0x00, 0xff] {

@@ -26,8 +26,11 @@ pub fn print(vectors: &[Vector]) -> String {
         if vector.output > 0 {
             writeln!(text, "output {}", vector.output).expect(WRITES);
         }
-        let Answer { number, place } = vector.answer;
+        let Answer { number, place, position } = vector.answer;
         writeln!(text, "number {number}\nplace {place}").expect(WRITES);
+        if position > 0 {
+            writeln!(text, "position {position}").expect(WRITES);
+        }
         print_bytes(&mut text, "after", &vector.after);
     }
     writeln!(text, "\nend {}", vectors.len()).expect(WRITES);
@@ -71,7 +74,7 @@ pub fn parse(text: &str) -> Result<Vec<Vector>, String> {
     let (last, count) = entries.pop().ok_or("no line")?;
     for (key, value) in entries {
         if key == "vector" {
-            let none = Answer { number: u32::MAX, place: 0 };
+            let none = Answer { number: u32::MAX, place: 0, position: 0 };
             vectors.push(Vector::new(value, &[], Vec::new(), none));
             continue;
         }
@@ -86,6 +89,7 @@ pub fn parse(text: &str) -> Result<Vec<Vector>, String> {
             "output" => vector.output = number().map_err(in_vector)? as usize,
             "number" => vector.answer.number = number().map_err(in_vector)?,
             "place" => vector.answer.place = number().map_err(in_vector)?,
+            "position" => vector.answer.position = number().map_err(in_vector)?,
             "after" => vector.after = decode(&value).map_err(in_vector)?,
             _ => return Err(in_vector("no such key".into())),
         }

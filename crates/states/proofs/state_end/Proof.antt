@@ -1,8 +1,8 @@
--- `scan::state_end` meets its contract: the sum fits.
+-- `state_end` meets its contract: the sum fits.
 use Rattle.format.specs.Decode.{stateEnd}
 use borrow.Author.Needs.{needs}
-use Rattle.scan.proofs.state_end.Statement.{statement}
-use Rattle.scan.proofs.state_end.Tie as tie
+use Rattle.states.proofs.state_end.Statement.{statement}
+use Rattle.states.proofs.state_end.Tie as tie
 
 pub state-end-spec : {M : Type 1} → statement M
 unfolding stateEnd

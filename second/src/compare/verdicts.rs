@@ -1,0 +1,166 @@
+//! Which verdicts of the judge were met in a run, and how often each must be.
+
+use std::fmt;
+
+use crate::judge::{self, Judgement, Verdict};
+
+/// A kind of verdict. A hall may be of several.
+pub(super) struct Kind {
+    name: &'static str,
+    /// It must be met at least once in so many halls.
+    one_in: usize,
+    is_met: fn(&Decision) -> bool,
+}
+
+/// Of 8,000 halls 500 of each kind, 200 of those that need several starts.
+pub(super) const TINY: [Kind; 8] = [
+    Kind { name: "impossible", one_in: 16, is_met: |by| *by.verdict == Verdict::Impossible },
+    Kind { name: "19", one_in: 16, is_met: |by| by.stops() && !by.is_later() },
+    Kind { name: "20", one_in: 16, is_met: |by| by.misses() && !by.is_later() },
+    Kind { name: "19 from a later start", one_in: 40, is_met: |by| by.stops() && by.is_later() },
+    Kind { name: "20 from a later start", one_in: 40, is_met: |by| by.misses() && by.is_later() },
+    Kind { name: "passes without steps", one_in: 16, is_met: |by| by.steps() == Some(0) },
+    Kind { name: "passes with steps", one_in: 16, is_met: |by| by.steps() > Some(0) },
+    Kind { name: "passes from several starts", one_in: 40, is_met: |by| by.passes_several() },
+];
+
+/// Of 800 halls 100 of each kind, 40 of those that need several starts.
+pub(super) const CROWDED: [Kind; 5] = [
+    Kind { name: "19", one_in: 8, is_met: |by| by.stops() && !by.is_later() },
+    Kind { name: "20", one_in: 8, is_met: |by| by.misses() && !by.is_later() },
+    Kind { name: "19 or 20 from a later start", one_in: 20, is_met: |by| by.is_later() },
+    Kind { name: "passes", one_in: 8, is_met: |by| by.steps().is_some() },
+    Kind { name: "passes from several starts", one_in: 20, is_met: |by| by.passes_several() },
+];
+
+/// The verdict that decides a plan: that of the first start from which it does
+/// not pass, else that of the first start.
+pub(super) struct Decision<'a> {
+    verdict: &'a Verdict,
+    /// Of its start, from 1.
+    position: usize,
+    /// How many starts the order has.
+    starts: usize,
+}
+
+impl<'a> Decision<'a> {
+    pub(super) fn of(judgements: &'a [Judgement]) -> Self {
+        let (position, by) = judge::failing(judgements).unwrap_or((1, &judgements[0]));
+        Self { verdict: &by.verdict, position, starts: judgements.len() }
+    }
+
+    fn stops(&self) -> bool {
+        matches!(self.verdict, Verdict::Stops { .. })
+    }
+
+    fn misses(&self) -> bool {
+        matches!(self.verdict, Verdict::Misses { .. })
+    }
+
+    fn is_later(&self) -> bool {
+        self.position > 1
+    }
+
+    /// Those of a plan that passes.
+    fn steps(&self) -> Option<u32> {
+        match self.verdict {
+            Verdict::Passes { steps, .. } => Some(*steps),
+            _ => None,
+        }
+    }
+
+    fn passes_several(&self) -> bool {
+        self.steps().is_some() && self.starts > 1
+    }
+}
+
+/// How often each kind of verdict was met.
+pub struct Verdicts {
+    /// In the order of the report.
+    kinds: Vec<(&'static Kind, usize)>,
+    /// Halls of no kind.
+    others: usize,
+    halls: usize,
+}
+
+impl Verdicts {
+    pub(super) fn of_kinds(kinds: &'static [Kind]) -> Self {
+        Self { kinds: kinds.iter().map(|kind| (kind, 0)).collect(), others: 0, halls: 0 }
+    }
+
+    /// A hall, which without a decision is of no kind.
+    pub(super) fn count(&mut self, decision: Option<&Decision>) {
+        let mut is_other = true;
+        for (kind, times) in &mut self.kinds {
+            if decision.is_some_and(kind.is_met) {
+                *times += 1;
+                is_other = false;
+            }
+        }
+        self.others += usize::from(is_other);
+        self.halls += 1;
+    }
+
+    /// What was met too seldom, in words.
+    #[must_use]
+    pub fn missing(&self) -> Vec<String> {
+        let seldom = |&(kind, times): &(&Kind, usize)| {
+            let least = self.halls / kind.one_in;
+            (times < least)
+                .then(|| format!("{}: {times} times, at least {least} wanted", kind.name))
+        };
+        self.kinds.iter().filter_map(seldom).collect()
+    }
+}
+
+impl fmt::Display for Verdicts {
+    fn fmt(&self, f: &mut fmt::Formatter<'_>) -> fmt::Result {
+        for (number, (kind, times)) in self.kinds.iter().enumerate() {
+            write!(f, "{}{} {times}", if number > 0 { ", " } else { "" }, kind.name)?;
+        }
+        match self.others {
+            0 => Ok(()),
+            others => write!(f, ", others {others}"),
+        }
+    }
+}
+
+#[cfg(test)]
+mod tests {
+    use super::{Decision, Kind, Verdict, Verdicts, CROWDED, TINY};
+
+    /// What is missing after so many halls that pass without steps from two starts
+    /// and so many of no kind.
+    fn missing(kinds: &'static [Kind], passes: usize, others: usize) -> Vec<String> {
+        let verdict = Verdict::Passes { steps: 0, end: Vec::new() };
+        let decision = Decision { verdict: &verdict, position: 1, starts: 2 };
+        let mut met = Verdicts::of_kinds(kinds);
+        (0..passes).for_each(|_| met.count(Some(&decision)));
+        (0..others).for_each(|_| met.count(None));
+        met.missing()
+    }
+
+    #[test]
+    fn each_kind_has_its_own_least_number() {
+        let tiny = [
+            "impossible: 0 times, at least 500 wanted",
+            "19: 0 times, at least 500 wanted",
+            "20: 0 times, at least 500 wanted",
+            "19 from a later start: 0 times, at least 200 wanted",
+            "20 from a later start: 0 times, at least 200 wanted",
+            "passes without steps: 499 times, at least 500 wanted",
+            "passes with steps: 0 times, at least 500 wanted",
+        ];
+        assert_eq!(missing(&TINY, 499, 7_501), tiny);
+        assert_eq!(missing(&TINY, 500, 7_500), [&tiny[..5], &tiny[6..]].concat());
+        let crowded = [
+            "19: 0 times, at least 100 wanted",
+            "20: 0 times, at least 100 wanted",
+            "19 or 20 from a later start: 0 times, at least 40 wanted",
+            "passes: 39 times, at least 100 wanted",
+            "passes from several starts: 39 times, at least 40 wanted",
+        ];
+        assert_eq!(missing(&CROWDED, 39, 761), crowded);
+        assert_eq!(missing(&CROWDED, 100, 700), crowded[..3]);
+    }
+}
