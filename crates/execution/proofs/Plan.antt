@@ -3,16 +3,16 @@ use Prim.Native.Nat.{ℕ, zero, suc, _+_, _-_, _*_, _<_}
 use native.Mathlib.Numerals.{add-one, sub-one}
 use native.Mathlib.Omega.{arith}
 use mathlib.Core.Path.{_≡_, sym, ap, _∙_}
-use mathlib.Core.Bool.{true, false}
+use mathlib.Core.Bool.{Bool, true, false}
 use mathlib.Core.List.{List, _∷_}
 use Rattle.terms.specs.declared.Step.{Step}
 use Rattle.terms.specs.Schema.{Schema}
 use Rattle.terms.specs.Steps.{stepAt}
 use Rattle.limits.specs.Limits.{stepSize}
 use Rattle.format.specs.Order.{planFrom}
-use Rattle.statemask.specs.Statemask.{stepInapplicable, stepNext, Executed, execute}
+use Rattle.statemask.specs.Statemask.{Executed, execute}
 use Rattle.statemask.proofs.Plan.{execute-stop, execute-go}
-use Rattle.stepping.specs.Stepping.{Steppable}
+use Rattle.stepping.specs.Stepping.{Steppable, StepExecuted}
 use Rattle.execution.specs.Execution.{Executable, Executes}
 
 -- ---- what can be executed
@@ -48,12 +48,16 @@ module _ (sch : Schema) (l o : List ℕ) (n at k : ℕ) (m : List ℕ) where
     whole : execute sch l (planFrom o n at) m k ≡ execute sch l (st ∷ planFrom o (n - 1) (at + stepSize)) m k
     whole = ap (λ (p : List Step). execute sch l p m k) (plan-more o n at some ∙ ap (λ (s : Step). s ∷ planFrom o (n - 1) (at + stepSize)) (sym step))
 
-    pub execute-here : stepInapplicable sch l st m ≡ true → execute sch l (planFrom o n at) m k ≡ record { stop = k; mask = m }
-    execute-here e = whole ∙ execute-stop sch l st (planFrom o (n - 1) (at + stepSize)) m k e
+    -- what the step comes to
+    module _ (r : Bool) (m′ : List ℕ) (taken : StepExecuted sch l st m r m′) where
+      pub execute-here : r ≡ true → execute sch l (planFrom o n at) m k ≡ record { stop = k; mask = m′ }
+      execute-here e =
+          whole ∙ execute-stop sch l st (planFrom o (n - 1) (at + stepSize)) m k (sym (taken .inapplicable) ∙ e)
+          ∙ ap (λ (w : List ℕ). record { stop = k; mask = w }) (sym (taken .state ∙ rw e))
 
-    pub execute-more : (m′ : List ℕ) → stepInapplicable sch l st m ≡ false → m′ ≡ stepNext sch l st m
-        → execute sch l (planFrom o (n - 1) (at + stepSize)) m′ (k + 1) ≡ execute sch l (planFrom o n at) m k
-    execute-more m′ e moved = sym (whole ∙ execute-go sch l st (planFrom o (n - 1) (at + stepSize)) m k e ∙ rw (add-one k, moved))
+      pub execute-more : r ≡ false → execute sch l (planFrom o (n - 1) (at + stepSize)) m′ (k + 1) ≡ execute sch l (planFrom o n at) m k
+      execute-more e =
+          sym (whole ∙ execute-go sch l st (planFrom o (n - 1) (at + stepSize)) m k (sym (taken .inapplicable) ∙ e) ∙ rw (add-one k, taken .state, e))
 
 pub executes : (sch : Schema) (l : List ℕ) (plan : List Step) (old : List ℕ) (number : ℕ) (new : List ℕ)
     → record { stop = number; mask = new } ≡ execute sch l plan old 1 → Executes sch l plan old number new

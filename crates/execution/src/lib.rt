@@ -59,10 +59,9 @@ pub fn execute(
     let mut k: usize = 1;
     while 0 < left {
         let step = Step::read(o, at);
-        if stepping::is_inapplicable(book, h, step, observed, state) {
+        if stepping::execute_step(book, h, step, observed, state) {
             return k;
         }
-        stepping::advance(book, h, step, observed, state);
         at += limits::STEP_SIZE;
         k += 1;
         left -= 1;

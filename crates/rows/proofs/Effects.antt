@@ -19,7 +19,8 @@ use Rattle.mask.proofs.Whole.{length-maskOf, test-maskOf, is-maskOf, maskOf-sam
 use Rattle.atoms.proofs.Words.{bit-high, number-same}
 use Rattle.model.specs.Quantify.{below}
 use Rattle.model.proofs.Quantify.{below-in, below-out}
-use Rattle.rows.specs.Rows.{Indices, factAt, columnSet, changed, putAt, inRow, inWord}
+use Rattle.rows.specs.declared.Placement.{Placement}
+use Rattle.rows.specs.Rows.{Indices, rowOf, facts, columnSet, changed, putAt, inRow, inWord}
 use Rattle.rows.proofs.Words.{number-and, number-or, number-not, number-bits, bit-from, bit-low, Part, part-low, part-field}
 use Rattle.rows.proofs.Tests.{below-fours}
 use Rattle.rows.proofs.Rows.{columns-bit}
@@ -87,13 +88,13 @@ module _ (m : List ℕ) (row bits : ℕ) (len : length m ≡ 512) (fits : Bytes 
       (bytes-stored (set m (2 * row) (bits % 256)) (2 * row + 1) (bits / 256) (bytes-stored m (2 * row) (bits % 256) fits (omega arith)) (omega arith))
       (λ f l. test-row f)
 
-pub put-row-by : (m : List ℕ) (value : Bool) (row columns held bits : ℕ) → row < 256 → length m ≡ 512 → Bytes m → held ≡ number (testBit m) (8 * (2 * row)) 16
-    → bits ≡ changed value held columns
-    → set (set m (2 * row) (bits % 256)) (2 * row + 1) (bits / 256) ≡ putAt value (inRow row columns) m
+pub put-row-by : (m : List ℕ) (value : Bool) (row in′ columns held bits : ℕ) → row ≡ in′ → row < 256 → length m ≡ 512 → Bytes m
+    → held ≡ number (testBit m) (8 * (2 * row)) 16 → bits ≡ changed value held columns
+    → set (set m (2 * row) (bits % 256)) (2 * row + 1) (bits / 256) ≡ putAt value (inRow in′ columns) m
 unfolding putAt inRow changed
-put-row-by m value row columns held bits h len fits e c =
+put-row-by m value row in′ columns held bits here h len fits e c =
     let small : bits < 65536 = rw c (number-lt _ 0 16) in
-    stored-mask m row bits len fits h small ∙ maskOf-same 512 _ _ (λ f l. go f (ℕ-discrete (f / 16) row))
+    rw (← here) (stored-mask m row bits len fits h small ∙ maskOf-same 512 _ _ (λ f l. go f (ℕ-discrete (f / 16) row)))
   where
     go : (f : ℕ) → Dec (f / 16 ≡ row)
         → cond (eqb (f / 16) row) (bitOf bits (f % 16)) (testBit m f) ≡ cond (eqb (f / 16) row && bitOf columns (f % 16)) value (testBit m f)
@@ -133,39 +134,39 @@ unfolding putAt
 put-length value p m new e = ap length e ∙ length-maskOf 512 _
 
 -- ---- the four rows of a relation
-module _ (n : ℕ) (xs ys : List ℕ) (small : Indices ys) (bits f : ℕ) where
+module _ (P : Placement) (ys : List ℕ) (small : Indices ys) (bits f : ℕ) where
   unfoldable hit : ℕ → Bool
-  hit j = bitOf bits j && eqb (factAt n xs ys j) f
+  hit j = bitOf bits j && eqb (facts P ys j) f
 
-  row-hits : (p s k : ℕ) → p < 4 → s ≡ 4 * p → Part bits s k → inRow (n + getD xs p 0) (columnSet ys k) f ≡ below 4 (λ q. hit (s + q))
-  unfolding inRow hit factAt
+  row-hits : (p s k : ℕ) → p < 4 → s ≡ 4 * p → Part bits s k → inRow (rowOf P p) (columnSet ys k) f ≡ below 4 (λ q. hit (s + q))
+  unfolding inRow hit facts
   row-hits p s k h e part =
       rw (columns-bit ys k (f % 16) (omega arith))
       (bool-eq _ _
       (λ t.
-      let (here, some) = and-out (eqb (f / 16) (n + getD xs p 0)) _ t in
+      let (here, some) = and-out (eqb (f / 16) (rowOf P p)) _ t in
       let (q, l, g) = below-out 4 _ some in
       let (on, same) = and-out (bitOf k q) (eqb (getD ys q 0) (f % 16)) g in
-      let fact : 16 * (n + getD xs p 0) + getD ys q 0 ≡ f = omega (arith, eqb-true (f / 16) (n + getD xs p 0) here, eqb-true (getD ys q 0) (f % 16) same) in
-      below-in 4 (λ i. hit (s + i)) q l (and-in (bitOf bits (s + q)) _ (sym (part q l) ∙ on) (eq-eqb (factAt n xs ys (s + q)) f (at q l ∙ fact))))
+      let fact : 16 * rowOf P p + getD ys q 0 ≡ f = omega (arith, eqb-true (f / 16) (rowOf P p) here, eqb-true (getD ys q 0) (f % 16) same) in
+      below-in 4 (λ i. hit (s + i)) q l (and-in (bitOf bits (s + q)) _ (sym (part q l) ∙ on) (eq-eqb (facts P ys (s + q)) f (at q l ∙ fact))))
       (λ t.
       let (q, l, g) = below-out 4 (λ i. hit (s + i)) t in
-      let (on, same) = and-out (bitOf bits (s + q)) (eqb (factAt n xs ys (s + q)) f) g in
-      let fact : 16 * (n + getD xs p 0) + getD ys q 0 ≡ f = sym (at q l) ∙ eqb-true (factAt n xs ys (s + q)) f same in
-      let here : f / 16 ≡ n + getD xs p 0 = omega (arith, small q) in
+      let (on, same) = and-out (bitOf bits (s + q)) (eqb (facts P ys (s + q)) f) g in
+      let fact : 16 * rowOf P p + getD ys q 0 ≡ f = sym (at q l) ∙ eqb-true (facts P ys (s + q)) f same in
+      let here : f / 16 ≡ rowOf P p = omega (arith, small q) in
       let same′ : getD ys q 0 ≡ f % 16 = omega (arith, small q) in
-      and-in (eqb (f / 16) (n + getD xs p 0)) _ (eq-eqb (f / 16) (n + getD xs p 0) here)
+      and-in (eqb (f / 16) (rowOf P p)) _ (eq-eqb (f / 16) (rowOf P p) here)
       (below-in 4 (λ i. bitOf k i && eqb (getD ys i 0) (f % 16)) q l (and-in (bitOf k q) _ (part q l ∙ on) (eq-eqb (getD ys q 0) (f % 16) same′)))))
     where
-      at : (q : ℕ) → q < 4 → factAt n xs ys (s + q) ≡ 16 * (n + getD xs p 0) + getD ys q 0
+      at : (q : ℕ) → q < 4 → facts P ys (s + q) ≡ 16 * rowOf P p + getD ys q 0
       at q l =
           let i : (s + q) / 4 ≡ p = omega arith in
           let j : (s + q) % 4 ≡ q = omega arith in
           rw (i, j)
 
-  rows-hit : (inRow (n + getD xs 0 0) (columnSet ys (bits % 16)) f || inRow (n + getD xs 1 0) (columnSet ys (bits / 16 % 16)) f
-      || inRow (n + getD xs 2 0) (columnSet ys (bits / 256 % 16)) f || inRow (n + getD xs 3 0) (columnSet ys (bits / 4096 % 16)) f)
-      ≡ inWord (factAt n xs ys) bits f
+  rows-hit : (inRow (rowOf P 0) (columnSet ys (bits % 16)) f || inRow (rowOf P 1) (columnSet ys (bits / 16 % 16)) f
+      || inRow (rowOf P 2) (columnSet ys (bits / 256 % 16)) f || inRow (rowOf P 3) (columnSet ys (bits / 4096 % 16)) f)
+      ≡ inWord (facts P ys) bits f
   unfolding inWord hit
   rows-hit =
       below-fours hit _ _ _ _
@@ -174,19 +175,19 @@ module _ (n : ℕ) (xs ys : List ℕ) (small : Indices ys) (bits f : ℕ) where
       (row-hits 2 8 _ (omega arith) (omega arith) (part-field bits 8))
       (row-hits 3 12 _ (omega arith) (omega arith) (part-field bits 12))
 
-module _ (value : Bool) (n : ℕ) (xs ys : List ℕ) (small : Indices ys) (bits : ℕ) (c0 c1 c2 c3 : ℕ)
+module _ (value : Bool) (P : Placement) (ys : List ℕ) (small : Indices ys) (bits : ℕ) (c0 c1 c2 c3 : ℕ)
     (e0 : c0 ≡ columnSet ys (bits % 16)) (e1 : c1 ≡ columnSet ys (bits / 16 % 16)) (e2 : c2 ≡ columnSet ys (bits / 256 % 16))
     (e3 : c3 ≡ columnSet ys (bits / 4096 % 16)) where
   pub put-rows-by : (m m0 m1 m2 m3 : List ℕ)
-      → m0 ≡ putAt value (inRow (n + getD xs 0 0) c0) m → m1 ≡ putAt value (inRow (n + getD xs 1 0) c1) m0
-      → m2 ≡ putAt value (inRow (n + getD xs 2 0) c2) m1 → m3 ≡ putAt value (inRow (n + getD xs 3 0) c3) m2
-      → m3 ≡ putAt value (inWord (factAt n xs ys) bits) m
+      → m0 ≡ putAt value (inRow (rowOf P 0) c0) m → m1 ≡ putAt value (inRow (rowOf P 1) c1) m0
+      → m2 ≡ putAt value (inRow (rowOf P 2) c2) m1 → m3 ≡ putAt value (inRow (rowOf P 3) c3) m2
+      → m3 ≡ putAt value (inWord (facts P ys) bits) m
   put-rows-by m m0 m1 m2 m3 p0 p1 p2 p3 =
-      let r0 : ℕ → Bool = inRow (n + getD xs 0 0) c0 in
-      let r1 : ℕ → Bool = inRow (n + getD xs 1 0) c1 in
-      let r2 : ℕ → Bool = inRow (n + getD xs 2 0) c2 in
-      let r3 : ℕ → Bool = inRow (n + getD xs 3 0) c3 in
+      let r0 : ℕ → Bool = inRow (rowOf P 0) c0 in
+      let r1 : ℕ → Bool = inRow (rowOf P 1) c1 in
+      let r2 : ℕ → Bool = inRow (rowOf P 2) c2 in
+      let r3 : ℕ → Bool = inRow (rowOf P 3) c3 in
       let q1 : m1 ≡ putAt value (λ f. r0 f || r1 f) m = p1 ∙ ap (putAt value r1) p0 ∙ put-twice value r0 r1 m in
       let q2 : m2 ≡ putAt value (λ f. r0 f || r1 f || r2 f) m = p2 ∙ ap (putAt value r2) q1 ∙ put-twice value (λ f. r0 f || r1 f) r2 m in
       p3 ∙ ap (putAt value r3) q2 ∙ put-twice value (λ f. r0 f || r1 f || r2 f) r3 m
-      ∙ put-same value _ _ m (λ f. rw (e0, e1, e2, e3) (rows-hit n xs ys small bits f))
+      ∙ put-same value _ _ m (λ f. rw (e0, e1, e2, e3) (rows-hit P ys small bits f))

@@ -15,7 +15,8 @@ use Rattle.mask.specs.Sets.{number}
 use Rattle.mask.proofs.Numbers.{bit-and, bit-or, bit-none, bit-number}
 use Rattle.model.specs.Quantify.{below}
 use Rattle.model.proofs.Quantify.{below-in, below-out, below-cong, below-same}
-use Rattle.rows.specs.Rows.{Indices, factAt, columnSet, Clear, rowUnmet, wordUnmet}
+use Rattle.rows.specs.declared.Placement.{Placement}
+use Rattle.rows.specs.Rows.{Indices, rowOf, facts, columnSet, Clear, rowUnmet, wordUnmet}
 use Rattle.rows.proofs.Words.{number-and, number-or, number-not, number-some, number-bits, number-from, Part, part-low, part-field}
 use Rattle.rows.proofs.Tests.{below-fours, below-or, below-image}
 use Rattle.rows.proofs.Rows.{columns-bit}
@@ -37,15 +38,15 @@ row-unmet-by m row positive negative held hp hn e =
     (number-bits 16 negative hn) (number-from (testBit m) _ held (16 * row) 16 e (λ y l. refl))
 
 -- ---- the four rows of a relation
-module _ (m : List ℕ) (n : ℕ) (xs ys : List ℕ) (small : Indices ys) (positive negative : ℕ) where
+module _ (m : List ℕ) (P : Placement) (ys : List ℕ) (small : Indices ys) (positive negative : ℕ) where
   unfoldable need : ℕ → Bool
-  need j = bitOf positive j && not (testBit m (factAt n xs ys j)) || bitOf negative j && testBit m (factAt n xs ys j)
+  need j = bitOf positive j && not (testBit m (facts P ys j)) || bitOf negative j && testBit m (facts P ys j)
 
   row-needs : (p s k l : ℕ) → p < 4 → s ≡ 4 * p → Part positive s k → Part negative s l
-      → rowUnmet m (n + getD xs p 0) (columnSet ys k) (columnSet ys l) ≡ below 4 (λ q. need (s + q))
-  unfolding rowUnmet need factAt
+      → rowUnmet m (rowOf P p) (columnSet ys k) (columnSet ys l) ≡ below 4 (λ q. need (s + q))
+  unfolding rowUnmet need facts
   row-needs p s k l h e f g =
-      let held : ℕ → Bool = λ y. testBit m (16 * (n + getD xs p 0) + y) in
+      let held : ℕ → Bool = λ y. testBit m (16 * rowOf P p + y) in
       let column : ℕ → ℕ = λ q. getD ys q 0 in
       below-cong 16 _ (λ y. below 4 (λ q. bitOf k q && eqb (column q) y) && not (held y) || below 4 (λ q. bitOf l q && eqb (column q) y) && held y)
       (λ y b. rw (columns-bit ys k y b, columns-bit ys l y b))
@@ -58,21 +59,18 @@ module _ (m : List ℕ) (n : ℕ) (xs ys : List ℕ) (small : Indices ys) (posit
       let j : (s + q) % 4 ≡ q = omega arith in
       rw (f q b, g q b, i, j))
 
-  module _ (p0 p1 p2 p3 q0 q1 q2 q3 : ℕ)
-      (e0 : p0 ≡ columnSet ys (positive % 16)) (f0 : q0 ≡ columnSet ys (negative % 16))
-      (e1 : p1 ≡ columnSet ys (positive / 16 % 16)) (f1 : q1 ≡ columnSet ys (negative / 16 % 16))
-      (e2 : p2 ≡ columnSet ys (positive / 256 % 16)) (f2 : q2 ≡ columnSet ys (negative / 256 % 16))
-      (e3 : p3 ≡ columnSet ys (positive / 4096 % 16)) (f3 : q3 ≡ columnSet ys (negative / 4096 % 16)) where
-    pub rows-unmet-by : (rowUnmet m (n + getD xs 0 0) p0 q0 || rowUnmet m (n + getD xs 1 0) p1 q1 || rowUnmet m (n + getD xs 2 0) p2 q2 || rowUnmet m (n + getD xs 3 0) p3 q3)
-        ≡ wordUnmet m (factAt n xs ys) positive negative
-    unfolding wordUnmet need
-    rows-unmet-by =
-        rw (e0, e1, e2, e3, f0, f1, f2, f3)
-        (below-fours need _ _ _ _
-        (row-needs 0 0 _ _ (omega arith) (omega arith) (part-low positive) (part-low negative))
-        (row-needs 1 4 _ _ (omega arith) (omega arith) (part-field positive 4) (part-field negative 4))
-        (row-needs 2 8 _ _ (omega arith) (omega arith) (part-field positive 8) (part-field negative 8))
-        (row-needs 3 12 _ _ (omega arith) (omega arith) (part-field positive 12) (part-field negative 12)))
+  pub rows-unmet-by : (rowUnmet m (rowOf P 0) (columnSet ys (positive % 16)) (columnSet ys (negative % 16))
+      || rowUnmet m (rowOf P 1) (columnSet ys (positive / 16 % 16)) (columnSet ys (negative / 16 % 16))
+      || rowUnmet m (rowOf P 2) (columnSet ys (positive / 256 % 16)) (columnSet ys (negative / 256 % 16))
+      || rowUnmet m (rowOf P 3) (columnSet ys (positive / 4096 % 16)) (columnSet ys (negative / 4096 % 16)))
+      ≡ wordUnmet m (facts P ys) positive negative
+  unfolding wordUnmet need
+  rows-unmet-by =
+      below-fours need _ _ _ _
+      (row-needs 0 0 _ _ (omega arith) (omega arith) (part-low positive) (part-low negative))
+      (row-needs 1 4 _ _ (omega arith) (omega arith) (part-field positive 4) (part-field negative 4))
+      (row-needs 2 8 _ _ (omega arith) (omega arith) (part-field positive 8) (part-field negative 8))
+      (row-needs 3 12 _ _ (omega arith) (omega arith) (part-field positive 12) (part-field negative 12))
 
 -- ---- rows in which none of the facts holds
 four-bits : (q : ℕ) → q < 4 → bitOf 15 q ≡ true
@@ -83,12 +81,12 @@ four-bits (suc (suc zero)) h = refl
 four-bits (suc (suc (suc zero))) h = refl
 four-bits (suc (suc (suc (suc q)))) h = absurd (omega arith)
 
-pub rows-clear-by : (m : List ℕ) (n : ℕ) (xs ys : List ℕ) → Indices ys → (r0 r1 r2 r3 all : ℕ)
-    → r0 ≡ number (testBit m) (16 * (n + getD xs 0 0)) 16 → r1 ≡ number (testBit m) (16 * (n + getD xs 1 0)) 16
-    → r2 ≡ number (testBit m) (16 * (n + getD xs 2 0)) 16 → r3 ≡ number (testBit m) (16 * (n + getD xs 3 0)) 16
-    → all ≡ columnSet ys 15 → bitAnd (bitOr (bitOr (bitOr r0 r1) r2) r3) all ≡ 0 → Clear m (factAt n xs ys)
-unfolding factAt
-rows-clear-by m n xs ys small r0 r1 r2 r3 all e0 e1 e2 e3 e none j h = row (j / 4) (omega arith)
+pub rows-clear-by : (m : List ℕ) (P : Placement) (ys : List ℕ) → Indices ys → (r0 r1 r2 r3 all : ℕ)
+    → r0 ≡ number (testBit m) (16 * rowOf P 0) 16 → r1 ≡ number (testBit m) (16 * rowOf P 1) 16
+    → r2 ≡ number (testBit m) (16 * rowOf P 2) 16 → r3 ≡ number (testBit m) (16 * rowOf P 3) 16
+    → all ≡ columnSet ys 15 → bitAnd (bitOr (bitOr (bitOr r0 r1) r2) r3) all ≡ 0 → Clear m (facts P ys)
+unfolding facts
+rows-clear-by m P ys small r0 r1 r2 r3 all e0 e1 e2 e3 e none j h = row (j / 4) (omega arith)
   where
     y : ℕ
     y = getD ys (j % 4) 0
@@ -103,18 +101,18 @@ rows-clear-by m n xs ys small r0 r1 r2 r3 all e0 e1 e2 e3 e none j h = row (j / 
     off =
         is-false _ (λ on. clash _ (and-in _ _ on there) (sym (bit-and (bitOr (bitOr (bitOr r0 r1) r2) r3) all y) ∙ ap (λ (w : ℕ). bitOf w y) none ∙ bit-none y))
 
-    low : (r p : ℕ) → r ≡ number (testBit m) (16 * (n + getD xs p 0)) 16 → bitOf r y ≡ false → testBit m (16 * (n + getD xs p 0) + y) ≡ false
-    low r p f o = sym (bit-number (testBit m) (16 * (n + getD xs p 0)) 16 y (small (j % 4))) ∙ ap (λ (w : ℕ). bitOf w y) (sym f) ∙ o
+    low : (r p : ℕ) → r ≡ number (testBit m) (16 * rowOf P p) 16 → bitOf r y ≡ false → testBit m (16 * rowOf P p + y) ≡ false
+    low r p f o = sym (bit-number (testBit m) (16 * rowOf P p) 16 y (small (j % 4))) ∙ ap (λ (w : ℕ). bitOf w y) (sym f) ∙ o
 
-    row : (p : ℕ) → p < 4 → testBit m (16 * (n + getD xs p 0) + y) ≡ false
+    row : (p : ℕ) → p < 4 → testBit m (16 * rowOf P p + y) ≡ false
     row p l =
         let (o, o3) = neither (bitOf (bitOr (bitOr r0 r1) r2) y) (bitOf r3 y) (sym (bit-or _ r3 y) ∙ off) in
         let (o′, o2) = neither (bitOf (bitOr r0 r1) y) (bitOf r2 y) (sym (bit-or _ r2 y) ∙ o) in
         let (o0, o1) = neither (bitOf r0 y) (bitOf r1 y) (sym (bit-or r0 r1 y) ∙ o′) in
         at p l (low r0 0 e0 o0) (low r1 1 e1 o1) (low r2 2 e2 o2) (low r3 3 e3 o3)
       where
-        at : (p : ℕ) → p < 4 → testBit m (16 * (n + getD xs 0 0) + y) ≡ false → testBit m (16 * (n + getD xs 1 0) + y) ≡ false
-            → testBit m (16 * (n + getD xs 2 0) + y) ≡ false → testBit m (16 * (n + getD xs 3 0) + y) ≡ false → testBit m (16 * (n + getD xs p 0) + y) ≡ false
+        at : (p : ℕ) → p < 4 → testBit m (16 * rowOf P 0 + y) ≡ false → testBit m (16 * rowOf P 1 + y) ≡ false
+            → testBit m (16 * rowOf P 2 + y) ≡ false → testBit m (16 * rowOf P 3 + y) ≡ false → testBit m (16 * rowOf P p + y) ≡ false
         at zero l a b c d = a
         at (suc zero) l a b c d = b
         at (suc (suc zero)) l a b c d = c

@@ -1,13 +1,14 @@
 -- Rows and columns of four parameters: what the table has for a set of them, and an unused place.
 use Prim.Native.Nat.{ℕ, zero, suc, _+_, _-_, _*_, _%_, _^_, _≤_, _<_}
-use native.Mathlib.Nat.{zero-add, one-mul}
+use native.Mathlib.Nat.{zero-add, add-zero, one-mul}
+use native.Mathlib.Decide.{decLt}
 use native.Mathlib.Omega.{arith}
 use mathlib.Core.Path.{_≡_, refl, sym, ap, _∙_}
 use mathlib.Core.Bool.{Bool, true, false, cond, _&&_, _||_}
 use mathlib.Core.List.{List, [], _∷_}
 use lib.Bits.{bitOr}
 use lib.Dec.{eqb, leb, lit<}
-use lib.ListN.{getD}
+use lib.ListN.{getD, List·getD-eq-default}
 use lib.Pow.{shl-exact, pow-lt}
 use borrow.Author.Tests.{le-leb, lt-leb, eq-eqb, eqb-true}
 use Rattle.truth.specs.Bools.{clash, is-false, bool-eq, and-in, and-out}
@@ -16,7 +17,7 @@ use Rattle.mask.specs.Sets.{number}
 use Rattle.mask.proofs.Numbers.{bit-or, bit-power, bit-none, bits-ext, number-lt}
 use Rattle.model.specs.Quantify.{below}
 use Rattle.model.proofs.Quantify.{below-in, below-out, below-same}
-use Rattle.rows.specs.Rows.{Indices, unused, inPlace, columnSet, Tabled, Tables, tableAt}
+use Rattle.rows.specs.Rows.{StartsRelation, Indices, unused, inPlace, columnSet, Tabled, Tables, tableAt, rowsFrom, placementOf, Within}
 use Rattle.atoms.proofs.Words.{number-same}
 use Rattle.rows.proofs.Words.{number-or, bit-from}
 use Rattle.rows.proofs.Tests.{below-or}
@@ -132,14 +133,6 @@ tables-by ys small a b c d ea eb ec ed =
     }
 
 -- ---- a relation's places
-pub place-used : (places i : ℕ) (xs : List ℕ) → i ≤ places → xs ≡ inPlace places i xs
-unfolding inPlace
-place-used places i xs h = rw (le-leb i places h)
-
-pub place-unused : (places i : ℕ) (xs : List ℕ) → places < i → unused ≡ inPlace places i xs
-unfolding inPlace
-place-unused places i xs h = rw (lt-leb i places h)
-
 pub place-small : (places i : ℕ) (xs : List ℕ) → Indices xs → Indices (inPlace places i xs)
 unfolding inPlace
 place-small places i xs small = go (leb i places)
@@ -147,6 +140,43 @@ place-small places i xs small = go (leb i places)
     go : (b : Bool) → Indices (cond b xs unused)
     go true = small
     go false = unused-small
+
+-- the row of one of the four
+pub row-at : (n : ℕ) (xs : List ℕ) (q : ℕ) → q < 4 → getD (rowsFrom n xs) q 0 ≡ n + getD xs q 0
+unfolding rowsFrom
+row-at n xs zero h = refl
+row-at n xs (suc zero) h = refl
+row-at n xs (suc (suc zero)) h = refl
+row-at n xs (suc (suc (suc zero))) h = refl
+row-at n xs (suc (suc (suc (suc q)))) h = absurd (omega arith)
+
+-- where the bound facts of a relation with so many places stand
+module _ (places n : ℕ) (xs : List ℕ) (first : StartsRelation n) (small : Indices xs) where
+  placement-by : (rows : List ℕ) (at : ℕ) → rows ≡ rowsFrom n (inPlace places 1 xs) → at ≡ tableAt places → at ≤ 16
+      → ((record { rows = rows; at = at }) ≡ placementOf places xs n) × Within (record { rows = rows; at = at })
+  unfolding placementOf rowsFrom
+  placement-by rows at e f near = (rw (e, f), record { rows = λ q. rw e (go q (decLt q 4)); at = near })
+    where
+      go : (q : ℕ) → Dec (q < 4) → getD (rowsFrom n (inPlace places 1 xs)) q 0 < 256
+      go q (yes h) = omega (arith, row-at n (inPlace places 1 xs) q h, first .within, place-small places 1 xs small q)
+      go q (no h) = omega (arith, List·getD-eq-default (rowsFrom n (inPlace places 1 xs)) 0 {n = q} (omega arith))
+
+  pub placement-none : places < 1 → ((record { rows = n ∷ n ∷ n ∷ n ∷ []; at = 16 }) ≡ placementOf places xs n) × Within (record { rows = n ∷ n ∷ n ∷ n ∷ []; at = 16 })
+  unfolding inPlace rowsFrom tableAt
+  placement-none h = placement-by _ 16 (rw (lt-leb 1 places h, add-zero n)) (rw (lt-leb 2 places (omega arith))) (omega arith)
+
+  pub placement-some : (rows : List ℕ) (at : ℕ) → rows ≡ rowsFrom n xs → 1 ≤ places → at ≡ tableAt places → at ≤ 16
+      → ((record { rows = rows; at = at }) ≡ placementOf places xs n) × Within (record { rows = rows; at = at })
+  unfolding inPlace
+  placement-some rows at e h f near = placement-by rows at (e ∙ rw (le-leb 1 places h)) f near
+
+pub table-one : (places : ℕ) → places < 2 → 16 ≡ tableAt places
+unfolding tableAt
+table-one places h = rw (lt-leb 2 places h)
+
+pub table-two : (places : ℕ) → 2 ≤ places → 0 ≡ tableAt places
+unfolding tableAt
+table-two places h = rw (le-leb 2 places h)
 
 -- the table has the columns of a relation where its places say
 pub table-place : (places : ℕ) (t ys : List ℕ) → Tables t ys → Tabled t (tableAt places) (inPlace places 2 ys)

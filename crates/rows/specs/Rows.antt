@@ -9,6 +9,7 @@ use Rattle.limits.specs.Limits.{maxObjects, maxParams, maxAtoms, atomsPerRelati
 use Rattle.mask.specs.Bits.{bitOf, testBit}
 use Rattle.mask.specs.Sets.{number, maskOf}
 use Rattle.model.specs.Quantify.{below}
+use Rattle.rows.specs.declared.Placement.{Placement}
 
 -- the first bound fact of a relation
 pub record StartsRelation (n : ℕ) : Type 0 where
@@ -29,10 +30,6 @@ unused = 0 ∷ 0 ∷ 0 ∷ 0 ∷ []
 unfoldable pub inPlace : ℕ → ℕ → List ℕ → List ℕ
 inPlace places i xs = cond (leb i places) xs unused
 
--- The fact that bound fact j of a relation is, n being the first of them, by the rows and the columns of the parameters. Row r has facts 16 * r and on.
-unfoldable pub factAt : ℕ → List ℕ → List ℕ → ℕ → ℕ
-factAt n xs ys j = 16 * (n + getD xs (j / 4) 0) + getD ys (j % 4) 0
-
 -- the columns of the parameters in a set of four bits, as bits of a row
 unfoldable pub columnSet : List ℕ → ℕ → ℕ
 columnSet ys k = number (λ y. below maxParams (λ q. bitOf k q && eqb (getD ys q 0) y)) 0 maxObjects
@@ -49,9 +46,32 @@ pub record Tables (t ys : List ℕ) : Type 0 where
 unfoldable pub tableAt : ℕ → ℕ
 tableAt places = cond (leb 2 places) 0 16
 
--- what holds of all columns that a table has from an index on
-abbrev pub ForColumns : List ℕ → ℕ → (List ℕ → Type 0) → Type 0
-ForColumns t at P = (ys : List ℕ) → Indices ys → Tabled t at ys → P ys
+-- ---- a relation's bound facts
+
+-- the rows of four parameters among those of a relation, n being its first bound fact: row r has facts 16 * r and on
+unfoldable pub rowsFrom : ℕ → List ℕ → List ℕ
+rowsFrom n xs = (n + getD xs 0 0) ∷ (n + getD xs 1 0) ∷ (n + getD xs 2 0) ∷ (n + getD xs 3 0) ∷ []
+
+-- those of a relation with so many places, n being the first of them, by the rows and columns of the parameters
+unfoldable pub placementOf : ℕ → List ℕ → ℕ → Placement
+placementOf places xs n = record { rows = rowsFrom n (inPlace places 1 xs); at = tableAt places }
+
+-- they stand in a state, and a table has their columns
+pub record Within (p : Placement) : Type 0 where
+  pub rows : (q : ℕ) → getD (p .rows) q 0 < maxAtoms
+  pub at : p .at ≤ 16
+
+-- the row of a parameter, counted from 0, in the first place
+abbrev pub rowOf : Placement → ℕ → ℕ
+rowOf p q = getD (p .rows) q 0
+
+-- the fact that bound fact j of the sixteen is, by the columns of the parameters in the second place
+unfoldable pub facts : Placement → List ℕ → ℕ → ℕ
+facts p ys j = 16 * rowOf p (j / 4) + getD ys (j % 4) 0
+
+-- what holds of all columns that a table has for them
+abbrev pub ForColumns : List ℕ → Placement → (List ℕ → Type 0) → Type 0
+ForColumns t p P = (ys : List ℕ) → Indices ys → Tabled t (p .at) ys → P ys
 
 -- ---- needs
 

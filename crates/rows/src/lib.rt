@@ -4,11 +4,11 @@
 ghost use mathlib.Core.Path.{_≡_};
 ghost use mathlib.Core.Bool.{true};
 ghost use Prim.Native.Nat.{_+_, _*_, _^_, _≤_, _<_};
-ghost use lib.ListN.{length, getD};
-ghost use Rattle.limits.specs.Limits.{maxAtoms, maxObjects, stateSize, atomsPerRelation};
+ghost use lib.ListN.{length};
+ghost use Rattle.limits.specs.Limits.{maxAtoms, maxObjects, maxParams, stateSize, atomsPerRelation};
 ghost use Rattle.mask.specs.Bits.{testBit, Bytes};
 ghost use Rattle.mask.specs.Sets.{number};
-ghost use Rattle.rows.specs.Rows.{StartsRelation, Indices, inPlace, factAt, Tables, tableAt, ForColumns};
+ghost use Rattle.rows.specs.Rows.{StartsRelation, Indices, rowsFrom, placementOf, Within, rowOf, facts, columnSet, Tables, ForColumns};
 ghost use Rattle.rows.specs.Rows.{Clear, rowUnmet, wordUnmet, changed, putAt, inRow, inWord};
 
 // ---- words
@@ -30,14 +30,50 @@ pub fn word_at(m: &[u8], at: usize) -> u16
 
 // ---- rows and columns
 
-// Where the first place is unused, all are in the first row.
-pub fn rows_of(places: u8, xs: [usize; 4]) -> [usize; 4]
-    ensures { λ r. ⌜ r ≡ inPlace places 1 xs ⌝ }
+// Where a relation's bound facts stand in a state: the rows of the parameters in the first place, and where a table has the columns of those in the
+// second.
+pub struct Placement {
+    pub rows: [usize; 4],
+    pub at: usize,
+}
+
+fn rows_from(xs: [usize; 4], n: usize) -> [usize; 4]
+    requires { ⌜ Indices xs × StartsRelation n ⌝ }
+    ensures { λ r. ⌜ r ≡ rowsFrom n xs ⌝ }
 {
-    if places < 1 {
-        return [0, 0, 0, 0];
+    [n + xs[0], n + xs[1], n + xs[2], n + xs[3]]
+}
+
+// The bound facts of a relation with so many places, n being the first of them, by the rows and columns of the parameters. Where the first place is
+// unused, all are in the first row.
+pub fn placement_of(places: u8, xs: [usize; 4], n: usize) -> Placement
+    requires { ⌜ Indices xs × StartsRelation n ⌝ }
+    ensures { λ p. ⌜ (p ≡ placementOf places xs n) × Within p ⌝ }
+{
+    if 1 < places {
+        return Placement {
+            rows: rows_from(xs, n),
+            at: 0,
+        };
     }
-    xs
+    if 0 < places {
+        return Placement {
+            rows: rows_from(xs, n),
+            at: 16,
+        };
+    }
+    Placement {
+        rows: [n, n, n, n],
+        at: 16,
+    }
+}
+
+// The row of a parameter, counted from 0, in the first place.
+fn row(p: Placement, q: usize) -> usize
+    requires { ⌜ Within p × (q < maxParams) ⌝ }
+    ensures { λ r. ⌜ (r ≡ rowOf p q) × (r < maxAtoms) ⌝ }
+{
+    p.rows[q]
 }
 
 fn column(y: usize) -> u16
@@ -79,117 +115,74 @@ pub fn column_table(ys: [usize; 4]) -> [u16; 32]
     t
 }
 
-// Where a relation's columns stand in the table.
-pub fn table_at(places: u8) -> usize
-    ensures { λ r. ⌜ (r ≡ tableAt places) × (r ≤ 16) ⌝ }
+// The columns of a set of parameters, as four bits, in the second place.
+fn columns(t: &[u16; 32], p: Placement, k: u16) -> u16
+    requires { ⌜ Within p × (k < 16) ⌝ }
+    ensures { λ r. ⌜ ForColumns (now (t .entry)) p (λ ys. r ≡ columnSet ys k) ⌝ }
 {
-    if places < 2 {
-        return 16;
-    }
-    0
-}
-
-fn columns(t: &[u16; 32], at: usize, k: u16) -> u16
-    requires { ⌜ (at ≤ 16) × (k < 16) ⌝ }
-    ensures { λ r. ⌜ r ≡ getD (now (t .entry)) (at + k) 0 ⌝ }
-{
-    let i = at + k as usize;
+    let i = p.at + k as usize;
     t[i]
 }
 
 // ---- needs
 
-// A row of a state.
-fn row_word(state: &[u8; limits::STATE_SIZE], row: usize) -> u16
-    requires { ⌜ row < maxAtoms ⌝ }
-    ensures { λ r. ⌜ r ≡ number (testBit (now (state .entry))) (16 * row) atomsPerRelation ⌝ }
+// The facts of a state in the row of a parameter.
+fn row_word(p: Placement, q: usize, state: &[u8; limits::STATE_SIZE]) -> u16
+    requires { ⌜ Within p × (q < maxParams) ⌝ }
+    ensures { λ r. ⌜ r ≡ number (testBit (now (state .entry))) (16 * rowOf p q) atomsPerRelation ⌝ }
 {
-    word_at(state, 2 * row)
+    word_at(state, 2 * row(p, q))
 }
 
-// No fact of a relation holds in the rows and columns of the step's objects.
-fn rows_clear(
+// No fact of a relation holds in the rows and columns of the parameters.
+fn rows_clear(t: &[u16; 32], p: Placement, state: &[u8; limits::STATE_SIZE]) -> bool
+    requires { ⌜ Within p ⌝ }
+    ensures { λ r. ⌜ ForColumns (now (t .entry)) p (λ ys. r ≡ true → Clear (now (state .entry)) (facts p ys)) ⌝ }
+{
+    let held = row_word(p, 0, state)
+        | row_word(p, 1, state)
+        | row_word(p, 2, state)
+        | row_word(p, 3, state);
+    (held & columns(t, p, 15)) == 0
+}
+
+// A need of a parameter's row is unmet: of the parameters in the second place that are to hold with it, and of those that are not to.
+fn row_unmet(
     t: &[u16; 32],
-    at: usize,
-    rows: [usize; 4],
+    p: Placement,
     state: &[u8; limits::STATE_SIZE],
-    n: usize,
-) -> bool
-    requires { ⌜ (at ≤ 16) × Indices rows × StartsRelation n ⌝ }
-    ensures { λ r. ⌜ ForColumns (now (t .entry)) at (λ ys. r ≡ true → Clear (now (state .entry)) (factAt n rows ys)) ⌝ }
-{
-    let held = row_word(state, n + rows[0])
-        | row_word(state, n + rows[1])
-        | row_word(state, n + rows[2])
-        | row_word(state, n + rows[3]);
-    (held & columns(t, at, 15)) == 0
-}
-
-// A need of a row is unmet: of the columns that are to hold, and of those that are not to.
-fn row_unmet(state: &[u8; limits::STATE_SIZE], row: usize, positive: u16, negative: u16) -> bool
-    requires { ⌜ row < maxAtoms ⌝ }
-    ensures { λ r. ⌜ r ≡ rowUnmet (now (state .entry)) row positive negative ⌝ }
-{
-    let held = row_word(state, row);
-    ((positive & !held) | (negative & held)) != 0
-}
-
-// A need of one of a relation's bound facts is unmet: four rows, one for each parameter in the first place.
-fn rows_unmet(
-    t: &[u16; 32],
-    at: usize,
-    rows: [usize; 4],
-    state: &[u8; limits::STATE_SIZE],
-    n: usize,
+    q: usize,
     positive: u16,
     negative: u16,
 ) -> bool
-    requires { ⌜ (at ≤ 16) × Indices rows × StartsRelation n ⌝ }
-    ensures { λ r. ⌜ ForColumns (now (t .entry)) at (λ ys. r ≡ wordUnmet (now (state .entry)) (factAt n rows ys) positive negative) ⌝ }
+    requires { ⌜ Within p × (q < maxParams) × (positive < 16) × (negative < 16) ⌝ }
+    ensures { λ r. ⌜ ForColumns (now (t .entry)) p (λ ys. r ≡ rowUnmet (now (state .entry)) (rowOf p q) (columnSet ys positive) (columnSet ys negative)) ⌝ }
 {
-    row_unmet(
-        state,
-        n + rows[0],
-        columns(t, at, positive % 16),
-        columns(t, at, negative % 16),
-    )
-        | row_unmet(
-            state,
-            n + rows[1],
-            columns(t, at, positive / 16 % 16),
-            columns(t, at, negative / 16 % 16),
-        )
-        | row_unmet(
-            state,
-            n + rows[2],
-            columns(t, at, positive / 256 % 16),
-            columns(t, at, negative / 256 % 16),
-        )
-        | row_unmet(
-            state,
-            n + rows[3],
-            columns(t, at, positive / 4096 % 16),
-            columns(t, at, negative / 4096 % 16),
-        )
+    let held = row_word(p, q, state);
+    let to_hold = columns(t, p, positive);
+    let not_to_hold = columns(t, p, negative);
+    ((to_hold & !held) | (not_to_hold & held)) != 0
 }
 
-// The same, by what most rows of a state are: where none of the facts holds, the needs to hold decide.
+// A need of one of a relation's bound facts is unmet: four rows, one for each parameter in the first place. In most rows of a state none of the
+// facts holds, and the needs to hold decide.
 pub fn needs_unmet(
     t: &[u16; 32],
-    at: usize,
-    rows: [usize; 4],
+    p: Placement,
     state: &[u8; limits::STATE_SIZE],
-    n: usize,
     positive: u16,
     negative: u16,
 ) -> bool
-    requires { ⌜ (at ≤ 16) × Indices rows × StartsRelation n ⌝ }
-    ensures { λ r. ⌜ ForColumns (now (t .entry)) at (λ ys. r ≡ wordUnmet (now (state .entry)) (factAt n rows ys) positive negative) ⌝ }
+    requires { ⌜ Within p ⌝ }
+    ensures { λ r. ⌜ ForColumns (now (t .entry)) p (λ ys. r ≡ wordUnmet (now (state .entry)) (facts p ys) positive negative) ⌝ }
 {
-    if rows_clear(t, at, rows, state, n) {
+    if rows_clear(t, p, state) {
         return positive != 0;
     }
-    rows_unmet(t, at, rows, state, n, positive, negative)
+    row_unmet(t, p, state, 0, positive % 16, negative % 16)
+        | row_unmet(t, p, state, 1, positive / 16 % 16, negative / 16 % 16)
+        | row_unmet(t, p, state, 2, positive / 256 % 16, negative / 256 % 16)
+        | row_unmet(t, p, state, 3, positive / 4096 % 16, negative / 4096 % 16)
 }
 
 // ---- effects
@@ -203,32 +196,24 @@ fn changed(row: u16, columns: u16, value: bool) -> u16
     row & !columns
 }
 
-// Puts the value at the facts of a row in a set of columns.
-fn put_row(state: &mut [u8], row: usize, columns: u16, value: bool)
-    requires { ⌜ (length (now state) ≡ stateSize) × (row < maxAtoms) ⌝ }
-    ensures { λ _. ⌜ now (state .exit) ≡ putAt value (inRow row columns) (now (state .entry)) ⌝ }
+// Puts the value at the facts in a parameter's row and a set of columns.
+fn put_row(p: Placement, q: usize, columns: u16, value: bool, state: &mut [u8])
+    requires { ⌜ (length (now state) ≡ stateSize) × Within p × (q < maxParams) ⌝ }
+    ensures { λ _. ⌜ now (state .exit) ≡ putAt value (inRow (rowOf p q) columns) (now (state .entry)) ⌝ }
 {
-    let at = 2 * row;
+    let at = 2 * row(p, q);
     let bits = changed(word_at(state, at), columns, value);
     state[at] = (bits % 256) as u8;
     state[at + 1] = (bits / 256) as u8;
 }
 
 // The same of a relation's bound facts in a word: four rows, one for each parameter in the first place.
-pub fn put_rows(
-    t: &[u16; 32],
-    at: usize,
-    rows: [usize; 4],
-    n: usize,
-    bits: u16,
-    value: bool,
-    state: &mut [u8],
-)
-    requires { ⌜ (length (now state) ≡ stateSize) × (at ≤ 16) × Indices rows × StartsRelation n ⌝ }
-    ensures { λ _. ⌜ ForColumns (now (t .entry)) at (λ ys. now (state .exit) ≡ putAt value (inWord (factAt n rows ys) bits) (now (state .entry))) ⌝ }
+pub fn put_rows(t: &[u16; 32], p: Placement, bits: u16, value: bool, state: &mut [u8])
+    requires { ⌜ (length (now state) ≡ stateSize) × Within p ⌝ }
+    ensures { λ _. ⌜ ForColumns (now (t .entry)) p (λ ys. now (state .exit) ≡ putAt value (inWord (facts p ys) bits) (now (state .entry))) ⌝ }
 {
-    put_row(state, n + rows[0], columns(t, at, bits % 16), value);
-    put_row(state, n + rows[1], columns(t, at, bits / 16 % 16), value);
-    put_row(state, n + rows[2], columns(t, at, bits / 256 % 16), value);
-    put_row(state, n + rows[3], columns(t, at, bits / 4096 % 16), value);
+    put_row(p, 0, columns(t, p, bits % 16), value, state);
+    put_row(p, 1, columns(t, p, bits / 16 % 16), value, state);
+    put_row(p, 2, columns(t, p, bits / 256 % 16), value, state);
+    put_row(p, 3, columns(t, p, bits / 4096 % 16), value, state);
 }

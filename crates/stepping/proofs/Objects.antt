@@ -6,16 +6,17 @@ use mathlib.Core.Path.{_≡_, refl}
 use mathlib.Core.Bool.{Bool, true, false, cond}
 use mathlib.Core.List.{List, [], _∷_}
 use lib.Dec.{leb}
-use lib.ListN.{getD}
+use lib.ListN.{getD, List·getD-eq-default}
 use Rattle.terms.specs.declared.Param.{Param}
 use Rattle.terms.specs.declared.Object.{Object}
 use Rattle.terms.specs.declared.Relation.{Relation}
 use Rattle.terms.specs.declared.Binding.{Binding}
 use Rattle.terms.specs.Schema.{Schema}
 use Rattle.terms.specs.Steps.{objectOf, placed, ground, atomRelation, atomFirst, atomSecond}
-use Rattle.rows.specs.Rows.{StartsRelation, Indices, unused, inPlace, factAt, Tabled, Tables, tableAt}
-use Rattle.stepping.specs.Stepping.{Bounded, indices}
-use Rattle.rows.proofs.Rows.{unused-at, place-small, table-place}
+use Rattle.rows.specs.declared.Placement.{Placement}
+use Rattle.rows.specs.Rows.{StartsRelation, Indices, unused, inPlace, placementOf, Within, facts}
+use Rattle.stepping.specs.Stepping.{Bounded, indices, Placed}
+use Rattle.rows.proofs.Rows.{unused-at, place-small, row-at, table-place}
 
 -- ---- the objects of a binding
 module _ (b : Binding) where
@@ -31,16 +32,9 @@ module _ (b : Binding) where
   unfolding indices
   indices-small bounded q = go (decLt q 4)
     where
-      past : (q : ℕ) → 4 ≤ q → getD (indices b) q 0 ≡ 0
-      past zero h = absurd (omega arith)
-      past (suc zero) h = absurd (omega arith)
-      past (suc (suc zero)) h = absurd (omega arith)
-      past (suc (suc (suc zero))) h = absurd (omega arith)
-      past (suc (suc (suc (suc p)))) h = refl
-
       go : Dec (q < 4) → getD (indices b) q 0 < 16
       go (yes h) = let small = bounded (record { 0 = q + 1 }) (omega arith) (omega arith) in omega (arith, index-at q h)
-      go (no h) = omega (arith, past q (omega arith))
+      go (no h) = omega (arith, List·getD-eq-default (indices b) 0 {n = q} (omega arith))
 
   pub indices-by : Bounded b → (o1 o2 o3 o4 : Object) (x1 x2 x3 x4 : ℕ)
       → o1 ≡ objectOf b (record { 0 = 1 }) → o2 ≡ objectOf b (record { 0 = 2 }) → o3 ≡ objectOf b (record { 0 = 3 }) → o4 ≡ objectOf b (record { 0 = 4 })
@@ -69,15 +63,15 @@ module _ (b : Binding) where
         go false = unused-at p
 
   -- A relation's bound fact is the fact in the row and the column of its two parameters.
-  pub fact-ground : (sch : Schema) (n j places : ℕ) → StartsRelation n → j < 16 → places ≡ sch .places (atomRelation n)
-      → factAt n (inPlace places 1 (indices b)) (inPlace places 2 (indices b)) j ≡ ground sch b (n + j)
-  unfolding factAt ground atomRelation atomFirst atomSecond
+  fact-ground : (sch : Schema) (n j places : ℕ) → StartsRelation n → j < 16 → places ≡ sch .places (atomRelation n)
+      → facts (placementOf places (indices b) n) (inPlace places 2 (indices b)) j ≡ ground sch b (n + j)
+  unfolding facts placementOf ground atomRelation atomFirst atomSecond
   fact-ground sch n j places first h e =
       let w = first .whole in
       let r : (n + j) / 16 ≡ n / 16 = omega arith in
       let f : (n + j) / 4 % 4 ≡ j / 4 = omega arith in
       let s : (n + j) % 4 ≡ j % 4 = omega arith in
-      rw (r, f, s, e, placed-at sch (record { 0 = n / 16 + 1 }) 1 (j / 4) (omega arith), placed-at sch (record { 0 = n / 16 + 1 }) 2 (j % 4) (omega arith))
+      rw (row-at n (inPlace places 1 (indices b)) (j / 4) (omega arith), r, f, s, e, placed-at sch (record { 0 = n / 16 + 1 }) 1 (j / 4) (omega arith), placed-at sch (record { 0 = n / 16 + 1 }) 2 (j % 4) (omega arith))
       (omega arith)
 
   pub ground-relation : (sch : Schema) → Bounded b → (n : ℕ) → ground sch b n / 256 ≡ n / 16
@@ -87,21 +81,22 @@ module _ (b : Binding) where
       let second = placed-small sch bounded (record { 0 = n / 16 + 1 }) 2 (record { 0 = n % 4 + 1 }) (omega arith) (omega arith) in
       omega arith
 
-pub rows-inside : (b : Binding) (places : ℕ) (xs rows : List ℕ) → Bounded b → xs ≡ indices b → rows ≡ inPlace places 1 xs → Indices rows
-rows-inside b places xs rows bounded e r = rw (r, e) (place-small places 1 (indices b) (indices-small b bounded))
+pub indices-inside : (b : Binding) (xs : List ℕ) → Bounded b → xs ≡ indices b → Indices xs
+indices-inside b xs bounded e = rw e (indices-small b bounded)
 
--- ---- what a relation's rows, and its columns where the table has them, are to its bound facts
-pub record Placing (sch : Schema) (b : Binding) (n at : ℕ) (rows t ys : List ℕ) : Type 0 where
-  pub small : Indices ys
-  pub right : Tabled t at ys
-  pub is : (j : ℕ) → j < 16 → factAt n rows ys j ≡ ground sch b (n + j)
-
-pub placing : (sch : Schema) (b : Binding) (n places at : ℕ) (rows xs t : List ℕ) → Bounded b → StartsRelation n → xs ≡ indices b → Tables t xs
-    → places ≡ sch .places (atomRelation n) → at ≡ tableAt places → rows ≡ inPlace places 1 xs → Placing sch b n at rows t (inPlace places 2 xs)
-placing sch b n places at rows xs t bounded first e right p a r =
-    let few : Indices xs = rw e (indices-small b bounded) in
+-- a relation's bound facts are where its places say
+pub placed-by : (sch : Schema) (places : ℕ) (xs : List ℕ) (n : ℕ) (p : Placement) → StartsRelation n → places ≡ sch .places (atomRelation n)
+    → p ≡ placementOf places xs n → Within p → Placed sch xs n p
+unfolding placementOf
+placed-by sch places xs n p first e f within =
     record {
-      small = place-small places 2 xs few;
-      right = rw a (table-place places t xs right);
-      is = λ j h. rw (r, e) (fact-ground b sch n j places first h p);
+      within = within;
+      grounds = λ b bounded own. (
+        inPlace places 2 xs,
+        record {
+          small = rw own (place-small places 2 (indices b) (indices-small b bounded));
+          right = λ t tables. rw f (table-place places t xs tables);
+          is = λ j h. rw (f, own) (fact-ground b sch n j places first h e);
+        },
+      );
     }

@@ -1,7 +1,7 @@
 -- What a step asks of what is observed and of its objects, and names for what the functions pass on to each other.
-use Prim.Native.Nat.{ℕ, _+_, _-_, _≤_}
+use Prim.Native.Nat.{ℕ, _+_, _-_, _≤_, _<_}
 use mathlib.Core.Path.{_≡_}
-use mathlib.Core.Bool.{Bool, true, false, _&&_}
+use mathlib.Core.Bool.{Bool, true, false, cond, _&&_}
 use mathlib.Core.List.{List, [], _∷_}
 use lib.Dec.{eqb}
 use lib.ListN.{length}
@@ -13,10 +13,11 @@ use Rattle.terms.specs.declared.Step.{Step}
 use Rattle.terms.specs.Schema.{Schema}
 use Rattle.terms.specs.Steps.{objectOf, ground}
 use Rattle.model.specs.Quantify.{below}
-use Rattle.rows.specs.Rows.{putAt}
+use Rattle.rows.specs.declared.Placement.{Placement}
+use Rattle.rows.specs.Rows.{Indices, Tabled, Tables, Within, facts, putAt}
 use Rattle.observed.specs.Observed.{added, deleted, observedSet}
 use Rattle.observed.specs.Rules.{ruleSet}
-use Rattle.statemask.specs.Statemask.{unmet}
+use Rattle.statemask.specs.Statemask.{unmet, stepInapplicable, stepNext}
 
 -- ---- what is asked
 
@@ -40,6 +41,20 @@ indices b =
     ∷ (objectOf b (record { 0 = 4 }) .0 - 1)
     ∷ []
 
+-- ---- a relation's bound facts
+
+-- the facts of a placement, by these columns, are those that a relation's bound facts become under a binding, n being the first of them; a table of
+-- the objects has the columns
+pub record Grounds (sch : Schema) (b : Binding) (xs : List ℕ) (n : ℕ) (p : Placement) (ys : List ℕ) : Type 0 where
+  pub small : Indices ys
+  pub right : (t : List ℕ) → Tables t xs → Tabled t (p .at) ys
+  pub is : (j : ℕ) → j < atomsPerRelation → facts p ys j ≡ ground sch b (n + j)
+
+-- they are so for every binding of these objects
+pub record Placed (sch : Schema) (xs : List ℕ) (n : ℕ) (p : Placement) : Type 0 where
+  pub within : Within p
+  pub grounds : (b : Binding) → Bounded b → xs ≡ indices b → (ys : List ℕ) × Grounds sch b xs n p ys
+
 -- ---- needs
 
 -- a need of one of a relation's bound facts is unmet, n being the first of them
@@ -61,3 +76,10 @@ nextBelow sch l st m n =
 -- Where a state has the effects of the bound facts below n, it gets those of a relation's sixteen more.
 abbrev pub Advances : Schema → List ℕ → Step → ℕ → List ℕ → List ℕ → Type 0
 Advances sch l st n old new = (m : List ℕ) → old ≡ nextBelow sch l st m n → new ≡ nextBelow sch l st m (n + atomsPerRelation)
+
+-- ---- one step
+
+-- whether it is inapplicable in a state, and the state after it: where it is, the same
+pub record StepExecuted (sch : Schema) (l : List ℕ) (st : Step) (old : List ℕ) (r : Bool) (new : List ℕ) : Type 0 where
+  pub inapplicable : r ≡ stepInapplicable sch l st old
+  pub state : new ≡ cond r old (stepNext sch l st old)

@@ -11,7 +11,8 @@ ghost use Rattle.terms.specs.Schema.{schema};
 ghost use Rattle.rows.specs.Rows.{StartsRelation, Indices, Tables};
 ghost use Rattle.observed.specs.Observed.{observedSet};
 ghost use Rattle.statemask.specs.Statemask.{stepInapplicable, stepNext};
-ghost use Rattle.stepping.specs.Stepping.{Steppable, Bounded, indices, relationUnmet, Advances};
+ghost use Rattle.stepping.specs.Stepping.{Steppable, Bounded, indices, Placed, relationUnmet, Advances, StepExecuted};
+use rows::Placement;
 use terms::Binding;
 use terms::Param;
 use terms::Sections;
@@ -44,6 +45,14 @@ fn set_word(observed: &[u8], step: Step, k: usize, n: usize) -> u16
     rows::word_at(observed, observed::set_at(step.action, k) + n / 8)
 }
 
+// Where a relation's bound facts stand in a state for these objects, n being the first of them.
+fn placement(book: &[u8], h: Sections, xs: [usize; 4], n: usize) -> Placement
+    requires { ⌜ Indices xs × StartsRelation n ⌝ }
+    ensures { λ p. ⌜ Placed (schema h (now (book .entry))) xs n p ⌝ }
+{
+    rows::placement_of(h.places(book, terms::atom_relation(n)), xs, n)
+}
+
 // ---- needs
 
 // A need of one of a relation's bound facts is unmet. Where none is needed, no row is read.
@@ -66,27 +75,25 @@ fn relation_unmet(
     if (positive | negative) == 0 {
         return false;
     }
-    let places = h.places(book, terms::atom_relation(n));
-    let at = rows::table_at(places);
-    let rows = rows::rows_of(places, xs);
-    rows::needs_unmet(t, at, rows, state, n, positive, negative)
+    rows::needs_unmet(t, placement(book, h, xs, n), state, positive, negative)
 }
 
-pub fn is_inapplicable(
+// A need of one of the bound facts of a step's move is unmet, relation by relation.
+fn is_inapplicable(
     book: &[u8],
     h: Sections,
     step: Step,
     observed: &[u8],
+    xs: [usize; 4],
+    t: &[u16; 32],
     state: &[u8; limits::STATE_SIZE],
 ) -> bool
-    requires { ⌜ Steppable (now observed) step ⌝ }
+    requires { ⌜ Steppable (now observed) step × (xs ≡ indices (step .binding)) × Tables (now t) xs ⌝ }
     ensures { λ r. ⌜ r ≡ stepInapplicable (schema h (now (book .entry))) (now (observed .entry)) step (now (state .entry)) ⌝ }
 {
-    let xs = indices(step.binding);
-    let t = rows::column_table(xs);
     let mut n = 0;
     while n < limits::MAX_ATOMS {
-        if relation_unmet(book, h, step, observed, xs, &t, state, n) {
+        if relation_unmet(book, h, step, observed, xs, t, state, n) {
             return true;
         }
         n += limits::ATOMS_PER_RELATION;
@@ -115,37 +122,47 @@ fn put_relation(
     if (deleted | added) == 0 {
         return;
     }
-    let places = h.places(book, terms::atom_relation(n));
-    let at = rows::table_at(places);
-    let rows = rows::rows_of(places, xs);
-    rows::put_rows(t, at, rows, n, deleted, false, state);
-    rows::put_rows(t, at, rows, n, added, true, state);
+    let p = placement(book, h, xs, n);
+    rows::put_rows(t, p, deleted, false, state);
+    rows::put_rows(t, p, added, true, state);
 }
 
 // Those of all bound facts of a step's move, relation by relation.
-fn put_effects(book: &[u8], h: Sections, step: Step, observed: &[u8], state: &mut [u8])
-    requires { ⌜ (length (now state) ≡ stateSize) × Steppable (now observed) step ⌝ }
+fn put_effects(
+    book: &[u8],
+    h: Sections,
+    step: Step,
+    observed: &[u8],
+    xs: [usize; 4],
+    t: &[u16; 32],
+    state: &mut [u8],
+)
+    requires { ⌜ (length (now state) ≡ stateSize) × Steppable (now observed) step × (xs ≡ indices (step .binding)) × Tables (now t) xs ⌝ }
     ensures { λ _. ⌜ now (state .exit) ≡ stepNext (schema h (now (book .entry))) (now (observed .entry)) step (now (state .entry)) ⌝ }
 {
-    let xs = indices(step.binding);
-    let t = rows::column_table(xs);
     let mut n = 0;
     while n < limits::MAX_ATOMS {
-        put_relation(book, h, step, observed, xs, &t, n, state);
+        put_relation(book, h, step, observed, xs, t, n, state);
         n += limits::ATOMS_PER_RELATION;
     }
 }
 
-// The state after a step that is applicable.
-pub fn advance(
+// One step: whether it is inapplicable, and if not, the state after it. Needs and effects share one table.
+pub fn execute_step(
     book: &[u8],
     h: Sections,
     step: Step,
     observed: &[u8],
     state: &mut [u8; limits::STATE_SIZE],
-)
+) -> bool
     requires { ⌜ Steppable (now observed) step ⌝ }
-    ensures { λ _. ⌜ now (state .exit) ≡ stepNext (schema h (now (book .entry))) (now (observed .entry)) step (now (state .entry)) ⌝ }
+    ensures { λ r. ⌜ StepExecuted (schema h (now (book .entry))) (now (observed .entry)) step (now (state .entry)) r (now (state .exit)) ⌝ }
 {
-    put_effects(book, h, step, observed, state);
+    let xs = indices(step.binding);
+    let t = rows::column_table(xs);
+    if is_inapplicable(book, h, step, observed, xs, &t, state) {
+        return true;
+    }
+    put_effects(book, h, step, observed, xs, &t, state);
+    false
 }

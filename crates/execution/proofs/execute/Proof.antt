@@ -23,8 +23,8 @@ abbrev μ-loop : tie.MeasureT-loop
 loop-holds : tie.Need-loop-holds Inv-loop μ-loop
 loop-holds c = (c .before .before .before .pre, omega arith, refl)
 
-is-inapplicable-requires : tie.Need-is-inapplicable-requires Inv-loop μ-loop
-is-inapplicable-requires c κs =
+execute-step-requires : tie.Need-execute-step-requires Inv-loop μ-loop
+execute-step-requires c κs =
     let d = c .before in
     let e = d .before in
     executable-step _ _ _ _ (e .before .loop .inv .0) (e .loop-test .taken) _ (d .read .ensures)
@@ -35,25 +35,17 @@ returns c =
     let e = d .before .before in
     let f = e .before in
     executes _ _ _ _ _ _
-    (sym (execute-here _ _ _ _ _ _ _ (f .loop-test .taken) _ (e .read .ensures) (sym (d .is-inapplicable .ensures) ∙ c .if1 .taken)) ∙ f .before .loop .inv .2)
-
-advance-requires : tie.Need-advance-requires Inv-loop μ-loop
-advance-requires c κs =
-    let d = c .before .before .before .before in
-    let e = d .before in
-    executable-step _ _ _ _ (e .before .loop .inv .0) (e .loop-test .taken) _ (d .read .ensures)
+    (sym (execute-here _ _ _ _ _ _ _ (f .loop-test .taken) _ (e .read .ensures) _ _ (d .execute-step .ensures) (c .if1 .taken)) ∙ f .before .loop .inv .2)
 
 loop-again : tie.Need-loop-again Inv-loop μ-loop
 loop-again c =
-    let b = c .before .before in
-    let d = b .before in
+    let d = c .before in
     let e = d .before .before in
     let f = e .before in
     let inv = f .before .loop .inv in (
       executable-next _ _ _ _ (inv .0) (f .loop-test .taken),
       omega arith,
-      execute-more _ _ _ _ _ _ _ (f .loop-test .taken) _ (e .read .ensures) _ (sym (d .is-inapplicable .ensures) ∙ b .if1 .left) (c .advance .ensures)
-          ∙ inv .2,
+      execute-more _ _ _ _ _ _ _ (f .loop-test .taken) _ (e .read .ensures) _ _ (d .execute-step .ensures) (c .if1 .left) ∙ inv .2,
     )
 
 returns-2 : tie.Need-returns-2 Inv-loop μ-loop
@@ -62,5 +54,5 @@ returns-2 c = executes _ _ _ _ _ _ (sym (execute-none _ _ _ _ _ _ _ (omega arith
 pub execute-spec : {M : Type 1} → statement M
 execute-spec =
     tie.close
-    (tie.spec Inv-loop μ-loop loop-holds (λ c κs. search needs) is-inapplicable-requires returns advance-requires (λ c. search needs)
+    (tie.spec Inv-loop μ-loop loop-holds (λ c κs. search needs) execute-step-requires returns (λ c. search needs)
     (λ c. search needs) (λ c. search needs) (λ c. search needs) loop-again returns-2)

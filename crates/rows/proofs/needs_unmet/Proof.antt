@@ -1,7 +1,7 @@
 -- `rows::needs_unmet` meets its contract: the needs to hold alone where no fact holds, or the four rows.
 use native.Mathlib.Omega.{arith}
 use borrow.Author.Needs.{needs}
-use Rattle.rows.proofs.Needs.{clear-unmet}
+use Rattle.rows.proofs.Needs.{rows-unmet-by, clear-unmet}
 use Rattle.rows.proofs.needs_unmet.Statement.{statement}
 use Rattle.rows.proofs.needs_unmet.Tie as tie
 
@@ -9,7 +9,11 @@ returns : tie.Need-returns
 returns c ys small right = clear-unmet _ _ _ _ (omega arith) (c .before .rows-clear .ensures ys small right (c .if1 .taken))
 
 returns-2 : tie.Need-returns-2
-returns-2 c ys small right = c .rows-unmet .ensures ys small right
+returns-2 c ys small right =
+    let r3 = c .before in
+    let r2 = r3 .before in
+    rw (r2 .before .row-unmet .ensures ys small right, r2 .row-unmet2 .ensures ys small right, r3 .row-unmet3 .ensures ys small right, c .row-unmet4 .ensures ys small right)
+    (rows-unmet-by _ _ ys small _ _)
 
 pub needs-unmet-spec : {M : Type 1} → statement M
-needs-unmet-spec = tie.close (tie.spec (λ c κs. search needs) returns (λ c κs. search needs) returns-2)
+needs-unmet-spec = tie.close (tie.spec (λ c κs. search needs) returns (λ c κs. search needs) (λ c κs. search needs) (λ c κs. search needs) (λ c κs. search needs) returns-2)

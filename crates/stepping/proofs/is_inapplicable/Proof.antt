@@ -10,21 +10,19 @@ use Rattle.stepping.proofs.is_inapplicable.Statement.{statement}
 use Rattle.stepping.proofs.is_inapplicable.Tie as tie
 
 abbrev Inv-loop : tie.InvT-loop
-Inv-loop book h step observed state xs t n₀ n = (n % 16 ≡ 0) × (n ≤ 256) × (unmetBelow (schema h book) observed step state n ≡ false)
+Inv-loop book h step observed xs t state n₀ n = (n % 16 ≡ 0) × (n ≤ 256) × (unmetBelow (schema h book) observed step state n ≡ false)
 
 abbrev μ-loop : tie.MeasureT-loop
-μ-loop book h step observed state xs t n₀ n = 256 - n
+μ-loop book h step observed xs t state n₀ n = 256 - n
 
 loop-holds : tie.Need-loop-holds Inv-loop μ-loop
 loop-holds c = (omega arith, omega arith, unmet-first _ _ _ _)
 
 relation-unmet-requires : tie.Need-relation-unmet-requires Inv-loop μ-loop
 relation-unmet-requires c κs =
-    let w = c .before in
-    let a = w .before in
-    let t = a .before in
-    let i = t .before in
-    (i .before .before .before .pre, starts _ (a .loop .inv .0) (w .loop-test .taken), i .indices .ensures .0, t .column-table .ensures)
+    let a = c .before in
+    let q = a .before .before .before .pre in
+    (q .0, starts _ (a .loop .inv .0) (c .loop-test .taken), q .1, q .2)
 
 returns : tie.Need-returns Inv-loop μ-loop
 returns c =
@@ -34,13 +32,11 @@ returns c =
 loop-again : tie.Need-loop-again Inv-loop μ-loop
 loop-again c =
     let d = c .before in
-    (omega arith, omega arith, unmet-more _ _ _ _ _ (d .before .before .before .loop .inv .2) (sym (d .relation-unmet .ensures) ∙ c .if1 .left))
+    (omega arith, omega arith, unmet-more _ _ _ _ _ (d .before .before .loop .inv .2) (sym (d .relation-unmet .ensures) ∙ c .if1 .left))
 
 returns-2 : tie.Need-returns-2 Inv-loop μ-loop
 returns-2 c = unmet-last _ _ _ _ _ (omega arith) (c .before .loop .inv .2)
 
 pub is-inapplicable-spec : {M : Type 1} → statement M
 is-inapplicable-spec =
-    tie.close
-    (tie.spec Inv-loop μ-loop (λ c κs. c .before .before .pre .bounded) (λ c κs. c .indices .ensures .1) loop-holds relation-unmet-requires returns
-    (λ c. omega arith) (λ c. omega arith) loop-again returns-2)
+    tie.close (tie.spec Inv-loop μ-loop loop-holds relation-unmet-requires returns (λ c. omega arith) (λ c. omega arith) loop-again returns-2)
