@@ -85,7 +85,7 @@ pub fn atom_set(book: &[u8], h: Sections, m: Move) -> [u8; 32]
     ensures { λ r. ⌜ r ≡ atomSet (schema h (now (book .entry))) (m .0) ⌝ }
 {
     let mut set = mask::empty32();
-    if terms::out_of_range(h.moves.count, m.0) {
+    if terms::out_of_range(h.moves.count, m.0 as u16) {
         return set;
     }
     let kinds = params_by_kind(book, h, m);

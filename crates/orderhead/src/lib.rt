@@ -4,8 +4,7 @@ use answer::Answer;
 use terms::Objects;
 ghost use mathlib.Core.Path.{_≡_};
 ghost use Prim.Native.Nat.{_+_, _*_, _≤_};
-ghost use Rattle.limits.specs.Limits.{headerSize, maxObjects, maxStarts, maxTwo, nearCeiling};
-ghost use Rattle.terms.specs.Schema.{outOfRange};
+ghost use Rattle.limits.specs.Limits.{headerSize, maxObjects, maxTwo, nearCeiling};
 ghost use Rattle.format.specs.Order.{objectCount, startCount, goalCount, stepCount};
 ghost use Rattle.format.specs.Order.{startAt, goalAt, stepsAt, orderCountsBad, orderOffsetsBad, orderHeader, orderObjects};
 
@@ -37,7 +36,7 @@ pub fn step_count(o: &[u8]) -> u16
     input::two_at(o, 6)
 }
 
-// Where the sections start: by the counts, and for the goal entries by the header, since the starts are of any length.
+// Where the sections start: by the counts, and for the goal entries by the header, since the counts do not tell how long the starts are.
 pub fn start_at(o: &[u8]) -> usize
     ensures { λ r. ⌜ (r ≡ startAt (now (o .entry))) × (r ≤ headerSize + maxTwo) ⌝ }
 {
@@ -76,14 +75,6 @@ fn counts_bad(o: &[u8]) -> bool
         | (MAX_STEPS < step_count(o))
 }
 
-// Row 22.
-fn starts_bad(o: &[u8]) -> bool
-    ensures { λ r. ⌜ r ≡ outOfRange maxStarts (startCount (now (o .entry))) ⌝ }
-{
-    let n = start_count(o);
-    (n < 1) | (limits::MAX_STARTS < n)
-}
-
 // Row 14 after it: the sections touch, and the steps end the order.
 fn offsets_bad(o: &[u8]) -> bool
     ensures { λ r. ⌜ r ≡ orderOffsetsBad (now (o .entry)) ⌝ }
@@ -104,16 +95,13 @@ fn offsets_bad(o: &[u8]) -> bool
 pub fn header(o: &[u8]) -> Answer
     ensures { λ r. ⌜ r ≡ orderHeader (now (o .entry)) ⌝ }
 {
-    let counts = counts_bad(o);
-    let starts = starts_bad(o);
-    let offsets = offsets_bad(o);
-    if counts {
+    if counts_bad(o) {
         return Answer::Refused(14, 0);
     }
-    if starts {
+    if terms::out_of_range(limits::MAX_STARTS, start_count(o)) {
         return Answer::Refused(22, 0);
     }
-    if offsets {
+    if offsets_bad(o) {
         return Answer::Refused(14, 0);
     }
     Answer::Good(limits::HEADER_SIZE)

@@ -93,9 +93,9 @@ pub header-good : (o : List ℕ) (h : Answer) (b : Bool) → h ≡ orderHeader o
 header-good o h b head told unmet = sym head ∙ is-good h (sym told ∙ unmet)
 
 module _ (sch : Schema) (o : List ℕ) (h : Answer) (head : h ≡ orderHeader o) (b : Bool) (b-is : b ≡ isRefused h) where
-  pub row-fourteen : b ≡ true → h ≡ orderForm sch o
+  pub header-refused : b ≡ true → h ≡ orderForm sch o
   unfolding orderForm
-  row-fourteen e = part-stays _ _ h b head b-is e
+  header-refused e = part-stays _ _ h b head b-is e
 
   module _ (unmet : b ≡ false) where
     objects-on : (walk (orderObject (sch .kinds) o) (objectCount o) headerSize >>= λ _. fromStart sch (typedObjects (orderObjects o) o) o) ≡ orderForm sch o

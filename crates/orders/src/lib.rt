@@ -25,7 +25,7 @@ fn objects(o: &[u8], kinds: u16) -> Answer
     let mut left = orderhead::object_count(o);
     let mut at = limits::HEADER_SIZE;
     while 0 < left {
-        if terms::out_of_range(kinds, input::byte_at(o, at)) {
+        if terms::out_of_range(kinds, input::byte_at(o, at) as u16) {
             return Answer::Refused(15, at);
         }
         at += 1;

@@ -56,7 +56,7 @@ fn objects(s: &[u8], kinds: u16, end: usize, n: usize, from: usize) -> Answer
     let mut left = n;
     let mut at = from;
     while 0 < left {
-        if (end < at + 1) | terms::out_of_range(kinds, input::byte_at(s, at)) {
+        if (end < at + 1) | terms::out_of_range(kinds, input::byte_at(s, at) as u16) {
             return Answer::Refused(7, at);
         }
         at += 1;

@@ -55,7 +55,7 @@ fn kind_bad(s: &[u8], kinds: u16, i: usize, used: bool) -> bool
     ensures { λ r. ⌜ r ≡ kindBad (now (s .entry)) kinds i used ⌝ }
 {
     let kind = input::byte_at(s, i);
-    (used & terms::out_of_range(kinds, kind)) | (!used & (kind != 0))
+    (used & terms::out_of_range(kinds, kind as u16)) | (!used & (kind != 0))
 }
 
 // Row 4, of the relation at an offset.

@@ -128,7 +128,7 @@ pub fn step_bad(book: &[u8], h: Sections, kinds: &[u32; 256], st: Step) -> bool
     ensures { λ r. ⌜ ForRightByKind (schema h (now (book .entry))) (now (kinds .entry)) (λ ob. r ≡ stepBad (schema h (now (book .entry))) ob st) ⌝ }
 {
     let params = h.params(book, st.action);
-    terms::out_of_range(h.moves.count, st.action.0)
+    terms::out_of_range(h.moves.count, st.action.0 as u16)
         | argument_bad(book, h, kinds, st, params, 1)
         | argument_bad(book, h, kinds, st, params, 2)
         | argument_bad(book, h, kinds, st, params, 3)

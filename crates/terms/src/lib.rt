@@ -156,11 +156,10 @@ pub fn index(n: u8) -> usize
     n as usize - 1
 }
 
-pub fn out_of_range(count: u16, n: u8) -> bool
+pub fn out_of_range(count: u16, n: u16) -> bool
     ensures { λ r. ⌜ r ≡ outOfRange count n ⌝ }
 {
-    let wide = n as u16;
-    (wide < 1) | (count < wide)
+    (n < 1) | (count < n)
 }
 
 impl Fact {

@@ -18,10 +18,10 @@ returns : tie.Need-returns Inv-loop μ-loop
 unfolding schema
 returns c =
     let d = c .before in
-    d .before .empty32 .ensures ∙ no-atoms _ _ (sym (d .out-of-range .ensures) ∙ c .if1 .taken)
+    d .before .before .empty32 .ensures ∙ no-atoms _ _ (sym (d .out-of-range .ensures) ∙ c .if1 .taken)
 
 loop-holds : tie.Need-loop-holds Inv-loop μ-loop
-loop-holds c = (refl, atoms-first _ _ _ (c .before .before .before .before .empty32 .ensures))
+loop-holds c = (refl, atoms-first _ _ _ (c .before .before .before .before .before .empty32 .ensures))
 
 loop-again : tie.Need-loop-again Inv-loop μ-loop
 unfolding schema
@@ -46,5 +46,5 @@ returns-2 c =
 pub atom-set-spec : {M : Type 1} → statement M
 atom-set-spec =
     tie.close
-    (tie.spec Inv-loop μ-loop (λ c κs. search needs) (λ c κs. search needs) returns (λ c κs. search needs) (λ c κs. search needs) loop-holds
+    (tie.spec Inv-loop μ-loop (λ c κs. search needs) (λ c. search needs) (λ c κs. search needs) returns (λ c κs. search needs) (λ c κs. search needs) loop-holds
     (λ c κs. omega arith) (λ c κs. search needs) (λ c κs. omega arith) (λ c. omega arith) (λ c. omega arith) loop-again returns-2)

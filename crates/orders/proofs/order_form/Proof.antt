@@ -1,13 +1,13 @@
 -- `order_form` meets its contract: the header, the objects, then what follows them.
 use native.Mathlib.Omega.{arith}
 use Rattle.format.proofs.Orders.{order-header-good}
-use Rattle.orders.proofs.Tests.{kinds-are, row-fourteen, header-good, row-fifteen, rows-behind}
+use Rattle.orders.proofs.Tests.{kinds-are, header-refused, header-good, row-fifteen, rows-behind}
 use borrow.Author.Needs.{needs}
 use Rattle.orders.proofs.order_form.Statement.{statement}
 use Rattle.orders.proofs.order_form.Tie as tie
 
 returns : tie.Need-returns
-returns c = row-fourteen _ _ _ (c .before .before .header .ensures) _ (c .before .is-refused .ensures) (c .if1 .taken)
+returns c = header-refused _ _ _ (c .before .before .header .ensures) _ (c .before .is-refused .ensures) (c .if1 .taken)
 
 returns-2 : tie.Need-returns-2
 returns-2 c =

@@ -6,4 +6,4 @@ use Rattle.sections.proofs.kind_bad.Tie as tie
 
 pub kind-bad-spec : {M : Type 1} → statement M
 unfolding kindBad
-kind-bad-spec = tie.close (tie.spec (λ c κs. search needs) (λ c κs. search needs) (λ c. cc))
+kind-bad-spec = tie.close (tie.spec (λ c κs. search needs) (λ c. search needs) (λ c κs. search needs) (λ c. cc))

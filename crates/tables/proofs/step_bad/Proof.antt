@@ -2,7 +2,6 @@
 use Rattle.terms.specs.Schema.{schema}
 use Rattle.terms.specs.Steps.{stepBad}
 use Rattle.tables.specs.Tables.{ForRightByKind}
-use native.Mathlib.Omega.{arith}
 use borrow.Author.Needs.{needs}
 use Rattle.tables.proofs.step_bad.Statement.{statement}
 use Rattle.tables.proofs.step_bad.Tie as tie
@@ -22,6 +21,5 @@ returns c ob right =
 pub step-bad-spec : {M : Type 1} → statement M
 step-bad-spec =
     tie.close
-    (tie.spec (λ c κs. search needs) (λ c κs. search needs) (λ c κs. (omega arith, c .before .params .ensures))
-    (λ c κs. (omega arith, c .before .before .params .ensures)) (λ c κs. (omega arith, c .before .before .before .params .ensures))
-    (λ c κs. (omega arith, c .before .before .before .before .params .ensures)) returns)
+    (tie.spec (λ c κs. search needs) (λ c. search needs) (λ c κs. search needs) (λ c κs. search needs) (λ c κs. search needs) (λ c κs. search needs)
+    (λ c κs. search needs) returns)
