@@ -10,8 +10,7 @@ use lib.Seq.{take-at}
 use Rattle.answer.specs.declared.Answer.{Answer}
 use Rattle.answer.specs.declared.Answer.the-variants.{Good, Refused}
 use Rattle.answer.specs.Answer.{_>>=_, refuse, isRefused, valueOf, kept}
-use Rattle.truth.specs.Bools.{clash}
-use Rattle.answer.specs.Laws.{stays, follows, bind-assoc, refuse-met, refuse-unmet}
+use Rattle.answer.specs.Laws.{stays, follows, bind-assoc, refuse-met, refuse-unmet, refused-kept}
 use Rattle.terms.specs.declared.Sections.{Sections}
 use Rattle.terms.specs.Sections.{sectionsOf}
 use Rattle.limits.specs.Limits.{headerSize, maxLength, maxRecords}
@@ -35,9 +34,8 @@ short-enough s a b e f g = look-over-good s _ (sym e ∙ is-good a (sym f ∙ g)
 
 module _ (s r old : List ℕ) where
   kept-old : (a : Answer) → a ≡ add s r (length old) → isRefused a ≡ true → Outcome s r old old a
-  unfolding addBytes kept isRefused
-  kept-old (Good n) e f = clash false f refl
-  kept-old (Refused n p) e f = record { says = e; bytes = rw (← e) }
+  unfolding addBytes
+  kept-old a e f = record { says = e; bytes = refused-kept _ a _ old e f }
 
   pub first-refused : (a : Answer) (b : Bool) → a ≡ lookOver s → b ≡ isRefused a → b ≡ true → Outcome s r old old a
   unfolding add

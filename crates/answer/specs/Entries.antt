@@ -8,7 +8,8 @@ use Rattle.answer.specs.declared.Answer.{Answer}
 use Rattle.answer.specs.declared.Answer.the-variants.{Good, Refused}
 use Rattle.answer.specs.Answer.{_>>=_, refuse}
 use Rattle.answer.specs.Laws.{good-refused, bind-good, refuse-met, refuse-unmet, passed}
-use Rattle.answer.specs.Refusals.{refused-cases, row-cases}
+use Rattle.answer.specs.Refusals.{row-cases}
+use Rattle.answer.specs.Items.{items-place}
 use Rattle.answer.specs.Walk.{walk, walk-refused, walk-good, walk-parted, walk-induction}
 
 -- an entry that says where the next one starts
@@ -62,12 +63,6 @@ module _ (item : ℕ → Answer) (bad : ℕ → Bool) (num size : ℕ) (is : Ent
 
   -- a refusal has the entries' number, and stands among them
   pub entries-place : (n at k p : ℕ) → walk item n at ≡ Refused k p → (k ≡ num) × (p ≤ at + size * n)
-  unfolding walk
-  entries-place zero at k p e = good-refused at k p e
-  entries-place (suc n) at k p e =
-      refused-cases (item at) _ k p e
-      (λ f. row-cases (bad at) num at _ k p (sym (is at) ∙ f) (λ x y. (x, omega arith)) (λ x y. good-refused (at + size) k p y))
-      (λ m f g.
-      let r = item-good at m f in
-      let t = entries-place n m k p g in
-      (t .0, rw mul-suc (omega arith)))
+  entries-place =
+      items-place item num size (λ at next good. omega (arith, item-good at next good .1))
+      (λ at k p e. row-cases (bad at) num at _ k p (sym (is at) ∙ e) (λ x y. (x, omega arith)) (λ x y. good-refused (at + size) k p y))

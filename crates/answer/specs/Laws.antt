@@ -70,6 +70,17 @@ unfolding _>>=_
 parted (Good n) m k e = (n, refl, e)
 parted (Refused n p) m k e = good-refused m n p (sym e)
 
+-- success is no refusal
+pub refused-good : (m : ℕ) → isRefused (Good m) ≡ false
+unfolding isRefused
+refused-good m = refl
+
+-- a refusal leaves lent bytes as they were, by what the call returned
+pub refused-kept : (a r : Answer) (new old : List ℕ) → r ≡ a → isRefused r ≡ true → old ≡ kept a new old
+unfolding kept isRefused
+refused-kept a (Good n) new old e f = clash false f refl
+refused-kept a (Refused n p) new old e f = rw (← e)
+
 -- lent bytes that stay as they were on success stay so in any case
 pub kept-same : (a : Answer) (new old : List ℕ) → new ≡ old → kept a new old ≡ old
 unfolding kept

@@ -36,7 +36,7 @@ use Rattle.jobs.specs.Check.{planRun, orderRun, goalAnswer, runAnswer, startAns
 use Rattle.jobs.proofs.Starts.{failing-all, failing-some, failing-position}
 use Rattle.wellformed.proofs.Headers.{moves-few}
 use Rattle.wellformed.proofs.Records.{recorded-somewhere}
-use Rattle.wellformed.proofs.Orders.{length-plan, length-starts}
+use Rattle.wellformed.proofs.Orders.{length-plan, length-start-states}
 use Rattle.format.proofs.OrderForm.{order-good, order-bounded}
 use Rattle.scan.specs.Scan.{Observable}
 use Rattle.scan.proofs.Observing.{record-observable}
@@ -138,7 +138,7 @@ unfolding startsAnswer
 starts-bounded s o n form =
     let h = order-good (schemaOf s) o n form .header in
     let w = failing-position (startAnswer s o) (stepCount o) 1 (startStates o) in
-    (failing-all (startAnswer s o) (stepCount o) (Bounded maxLength) (bounded-good maxLength _ (omega (arith, h .steps))) 1 (startStates o) (λ start m. start-bounded s o n start form), omega (arith, w, length-starts o, h .starts))
+    (failing-all (startAnswer s o) (stepCount o) (Bounded maxLength) (bounded-good maxLength _ (omega (arith, h .steps))) 1 (startStates o) (λ start m. start-bounded s o n start form), omega (arith, w, length-start-states o, h .starts))
 
 starts-row : (s o : List ℕ) → (startsAnswer s o .position ≡ 0) ⊎ ((number (startsAnswer s o .answer) ≡ 19) ⊎ (number (startsAnswer s o .answer) ≡ 20))
 unfolding startsAnswer
@@ -165,7 +165,7 @@ check-bounded s o size =
 abbrev Positions : Positioned → Type 0
 Positions r = (r .position ≤ 1 + maxStarts) × ((r .position ≡ 0) ⊎ ((number (r .answer) ≡ 19) ⊎ (number (r .answer) ≡ 20)))
 
--- the position of a check is that of one of at most 16 starts, and 0 unless by 19 or 20
+-- the position of a check is small enough to be packed, and 0 unless by 19 or 20
 check-position : (s o : List ℕ) (size : ℕ) → Positions (check s o size)
 unfolding check thenAt unpositioned
 check-position s o size = go (beforePlan s o size) refl

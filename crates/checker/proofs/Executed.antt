@@ -78,7 +78,7 @@ mem-plan o (suc n) at (suc i) h =
     rw e (there (mem-plan o n (at + stepSize) i (omega arith)))
 
 module _ (s : List ℕ) (n m : ℕ) (good : lookOver s ≡ Good n) (learns : learnable s ≡ Good m) where
-  -- steps that are right over some objects, from any start facts that the mask has bits for
+  -- steps that are right over some objects, from any start that the mask has bits for
   module _ (ob : TypedObjects) (few : ob .count ≤ maxObjects) (steps : List Step) (right : (st : Step) → Mem st steps → RightStep (schemaOf s) ob st) where
     moves-known : (st : Step) → Mem st steps → (1 ≤ st .action .0) × (st .action .0 ≤ maxMoves)
     moves-known st i =

@@ -9,7 +9,7 @@ use Rattle.answer.specs.declared.Answer.{Answer}
 use Rattle.answer.specs.declared.Answer.the-variants.{Good, Refused}
 use Rattle.answer.specs.declared.Positioned.{Positioned}
 use Rattle.answer.specs.Answer.{_>>=_, refuse, isRefused, valueOf, unpositioned, thenAt, kept}
-use Rattle.answer.specs.Laws.{stays, bind-good, refuse-unmet}
+use Rattle.answer.specs.Laws.{stays, bind-good, refuse-unmet, refused-kept}
 use Rattle.answer.specs.Turns.{is-good}
 use Rattle.answer.specs.Positions.{then-refused, then-by}
 use Rattle.input.specs.Bytes.{two}
@@ -31,9 +31,8 @@ use Rattle.execution.specs.Execution.{Executable}
 use Rattle.learner.specs.Learner.{observedOf, BookObserved}
 use Rattle.learner.proofs.Book.{schema-own, form-good}
 use Rattle.checker.specs.Checker.{PlanExecuted, executedFrom, answerFrom, StartsGood, answerEach, StartsOutcome, fromOrder, Ready, OrderOutcome, CheckOutcome}
-use Rattle.checker.proofs.Laws.{refused-kept}
 use Rattle.checker.proofs.Executed.{executable, starts-good, start-executed, start-sheet}
-use Rattle.checker.proofs.Starts.{only-stops}
+use Rattle.checker.proofs.Starts.{only-goes}
 
 -- the start as the code reads it
 pub start-by : (o : List ℕ) (n at : ℕ) {m : List ℕ} → n ≡ two o at → m ≡ startMask (factsAt o n (at + countSize)) → m ≡ startMask (stateAt o at)
@@ -98,7 +97,7 @@ module _ (s o old : List ℕ) (h : Sections) (observed : List ℕ) (ready : Read
       kept-sheet (start ∷ other ∷ rest) e x w = refl
       kept-sheet (start ∷ []) e (Refused m p) w = refl
       kept-sheet (start ∷ []) e (Good m) w =
-          start-sheet s (formed .0) _ (formed .1) (ready .learns) o _ order start (rw e here) (only-stops (schemaOf s) (observedOf s .masks) o start m (sym w))
+          start-sheet s (formed .0) _ (formed .1) (ready .learns) o _ order start (rw e here) (only-goes (schemaOf s) (observedOf s .masks) o start m (sym w))
 
       pub at-run : OrderOutcome s o old new r
       unfolding answerEach startStates

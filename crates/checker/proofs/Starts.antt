@@ -12,7 +12,7 @@ use Rattle.answer.specs.declared.Answer.the-variants.{Good}
 use Rattle.answer.specs.declared.Positioned.{Positioned}
 use Rattle.answer.specs.Answer.{isRefused, valueOf, unpositioned, kept}
 use Rattle.truth.specs.Bools.{clash, decide}
-use Rattle.answer.specs.Laws.{kept-same}
+use Rattle.answer.specs.Laws.{kept-same, refused-good, refused-kept}
 use Rattle.answer.specs.Turns.{is-good}
 use Rattle.answer.specs.Walk.{walk, walk-parted}
 use Rattle.limits.specs.Limits.{maxLength}
@@ -25,9 +25,9 @@ use Rattle.format.proofs.States.{state-ends}
 use Rattle.jobs.specs.Check.{firstFailing, endAfter}
 use Rattle.jobs.proofs.Starts.{failing-none, failing-here, failing-later, end-several}
 use Rattle.statemask.specs.Statemask.{execute, startMask}
-use Rattle.wellformed.proofs.Orders.{starts-count}
+use Rattle.wellformed.proofs.Orders.{length-starts}
 use Rattle.checker.specs.Checker.{PlanExecuted, executedFrom, answerFrom, StartsGood, answerEach, StartsOutcome}
-use Rattle.checker.proofs.Laws.{refused-kept, executed-ends}
+use Rattle.checker.proofs.Laws.{executed-ends}
 
 -- ---- a start, and those after it
 starts-more : (o : List ℕ) (n at : ℕ) → 0 < n → startsFrom o n at ≡ stateAt o at ∷ startsFrom o (n - 1) (stateEnd o at)
@@ -88,10 +88,6 @@ module _ (sch : Schema) (l o : List ℕ) where
         ∙ sym (ap (each k) (starts-more o n at some))
         ∙ left
 
-refused-good : (m : ℕ) → isRefused (Good m) ≡ false
-unfolding isRefused
-refused-good m = refl
-
 -- ---- the only start
 module _ (sch : Schema) (l o old state new : List ℕ) (at : ℕ) (r : Answer) (b : Bool) (one : startCount o ≡ 1) (from : at ≡ startAt o)
     (start : state ≡ startMask (stateAt o at)) (out : PlanExecuted (execute sch l (plan o) state 1) (stepCount o) (goal o) new r) (told : b ≡ isRefused r) where
@@ -138,10 +134,10 @@ module _ (sch : Schema) (l o old state new : List ℕ) (at : ℕ) (r : Answer) (
         }
 
 -- one start alone whose answer is good has not stopped
-pub only-stops : (sch : Schema) (l o : List ℕ) (start : List Fact) (m : ℕ) → firstFailing (answerFrom sch l o) (stepCount o) 1 (start ∷ []) .answer ≡ Good m
+pub only-goes : (sch : Schema) (l o : List ℕ) (start : List Fact) (m : ℕ) → firstFailing (answerFrom sch l o) (stepCount o) 1 (start ∷ []) .answer ≡ Good m
     → executedFrom sch l o start .stop ≡ 0
 unfolding answerFrom
-only-stops sch l o start m e = go (decide (isRefused (answerFrom sch l o start)))
+only-goes sch l o start m e = go (decide (isRefused (answerFrom sch l o start)))
   where
     go : (isRefused (answerFrom sch l o start) ≡ true) ⊎ (isRefused (answerFrom sch l o start) ≡ false) → executedFrom sch l o start .stop ≡ 0
     go (inl r) =
@@ -152,4 +148,4 @@ only-stops sch l o start m e = go (decide (isRefused (answerFrom sch l o start))
 -- ---- several starts
 pub several-by : (sch : Schema) (l o old : List ℕ) (n : ℕ) (r : Positioned) → n ≡ startCount o → (n ≡ 1 → ⊥) → r ≡ answerEach sch l o → StartsOutcome sch l o old old r
 several-by sch l o old n r count more says =
-    record { says = says; bytes = sym (kept-same (r .answer) _ old (end-several _ (starts o) old (λ one. more (count ∙ sym (starts-count o) ∙ one)))) }
+    record { says = says; bytes = sym (kept-same (r .answer) _ old (end-several _ (starts o) old (λ one. more (count ∙ sym (length-starts o) ∙ one)))) }

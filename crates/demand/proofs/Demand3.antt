@@ -25,6 +25,7 @@ use Rattle.model.specs.Domain.{State, GroundAction, GoalLiteral}
 use Rattle.model.specs.Judge.{Verdict, impossible, passes}
 use Rattle.model.specs.Check.{judgedRun, checked}
 use Rattle.model.specs.Formed.{Grounded}
+use Rattle.model.proofs.Members.{some-member}
 use Rattle.model.proofs.Judge.{unique}
 use Rattle.model.proofs.Impossible.{learned-valid}
 use Rattle.model.specs.Exact.{Exact}
@@ -37,11 +38,11 @@ use Rattle.jobs.specs.Judge.{FitsBook, BookVerdict, StartVerdict}
 use Rattle.format.proofs.OrderForm.{order-good, order-met}
 use Rattle.wellformed.proofs.Headers.{right-schema, relations-few}
 use Rattle.wellformed.proofs.Formed.{formed}
-use Rattle.wellformed.proofs.Orders.{grounded, plan-under, length-starts, start-under}
+use Rattle.wellformed.proofs.Orders.{grounded, plan-under, length-start-states, start-under}
 use Rattle.wellformed.proofs.Ends.{Under, run-under}
 use Rattle.wellformed.proofs.Learnable.{inconsistentIn, learnable-clean, learnable-inconsistent}
 use Rattle.demand.proofs.Failing.{comes, pass-comes, AllRunsPass, from-failing, failing-answers, past, none-fails, all-pass}
-use Rattle.demand.specs.Demand3.{NoneFits, Impossible, Answers, AllPass, Decides, Shows, Demand3}
+use Rattle.demand.specs.Demand3.{NoneFits, Impossible, Answers, Passed, AllPass, Shows, Demand3}
 
 -- ---- answers
 refused-impossible : (a : Answer) (num p : ℕ) → a ≡ Refused num p → (num ≡ 11) ⊎ (num ≡ 12) → Impossible a
@@ -59,10 +60,6 @@ unfolding number table rowFrom row upTo
 late (Good n) from h = not-passed (Good n) h refl
 late (Refused num p) from (inl e) = clash (upTo 13 11) (rw e at (from num p refl)) refl
 late (Refused num p) from (inr e) = clash (upTo 13 12) (rw e at (from num p refl)) refl
-
-some-member : {A : Type 0} (xs : List A) → 1 ≤ length xs → (x : A) × Mem x xs
-some-member [] l = absurd (omega arith)
-some-member (x ∷ xs) l = (x, here)
 
 module _ (s : List ℕ) (n : ℕ) (good : lookOver s ≡ Good n) where
   judge : Exact (domain (schemaOf s)) (FitsBook s) (inconsistentIn s) (checked (domain (schemaOf s)) (transitionsOf s))
@@ -145,7 +142,7 @@ module _ (s : List ℕ) (n : ℕ) (good : lookOver s ≡ Good n) where
     proper = grounded (schemaOf s) (right-schema s n good .falling) o m form
 
     some-starts : (1 ≤ length (startStates o)) × (length (startStates o) ≤ maxStarts)
-    some-starts = let h = order-good (schemaOf s) o m form .header in rw (length-starts o) (h .some, h .starts)
+    some-starts = let h = order-good (schemaOf s) o m form .header in rw (length-start-states o) (h .some, h .starts)
 
     module _ (clean : inconsistentIn s ≡ false) where
       -- only rows 19 and 20 are left
@@ -166,35 +163,37 @@ module _ (s : List ℕ) (n : ℕ) (good : lookOver s ≡ Good n) where
       )
 
     verdict : (before : List State) (start : State) (rest : List State) → startStates o ≡ before ++ (start ∷ rest) → AllPass s o before
-        → (v : Verdict) → StartVerdict s o start v → Decides v rest → Answers (stepCount o) (suc (length before)) v (check s o endSheetSize)
+        → (v : Verdict) → StartVerdict s o start v → Answers (suc (length before)) v (check s o endSheetSize)
     unfolding startsAnswer startAnswer
-    verdict before start rest parts all v h d = go (decide (inconsistentIn s))
+    verdict before start rest parts all v h = go (decide (inconsistentIn s))
       where
-        go : (inconsistentIn s ≡ true) ⊎ (inconsistentIn s ≡ false) → Answers (stepCount o) (suc (length before)) v (check s o endSheetSize)
+        go : (inconsistentIn s ≡ true) ⊎ (inconsistentIn s ≡ false) → Answers (suc (length before)) v (check s o endSheetSize)
         go (inl e) =
-            subst (λ (w : Verdict). Answers (stepCount o) (suc (length before)) w (check s o endSheetSize))
+            subst (λ (w : Verdict). Answers (suc (length before)) w (check s o endSheetSize))
             (inconsistent-verdict start (planOf (schemaOf s) o) (goalOf o) proper e v h) (inconsistent-check o endSheetSize e)
         go (inr e) =
             let same = start-verdict e start v .0 h in
             let moved = past (stepCount o) (goalOf o) (orderRun s o) before (start ∷ rest) 1 (suc (length before)) (omega arith) (runs-pass e before .0 all) in
-            rw (check-starts e, parts, moved, ← same) (failing-answers (stepCount o) (goalOf o) (orderRun s o) (suc (length before)) start rest (rw same d))
+            rw (check-starts e, parts, moved, ← same) (failing-answers (stepCount o) (goalOf o) (orderRun s o) (suc (length before)) start rest)
 
-    pass : (number (check s o endSheetSize .answer) ≡ 0) ↔ AllPass s o (startStates o)
-    unfolding startsAnswer startAnswer unpositioned number
-    pass = go (decide (inconsistentIn s))
+    pass : AllPass s o (startStates o) → Passed (stepCount o) (check s o endSheetSize)
+    unfolding startsAnswer startAnswer
+    pass all = go (decide (inconsistentIn s))
       where
-        go : (inconsistentIn s ≡ true) ⊎ (inconsistentIn s ≡ false) → (number (check s o endSheetSize .answer) ≡ 0) ↔ AllPass s o (startStates o)
-        go (inl e) = (
-          λ z. absurd (not-passed (check s o endSheetSize .answer) (inconsistent-check o endSheetSize e .0) z),
-          λ all.
-              let (start, i) = some-member (startStates o) (some-starts .0) in
-              let (end, h) = all start i in
-              absurd (inconsistent-fails start (planOf (schemaOf s) o) (goalOf o) proper e end h),
-        )
-        go (inr e) = (
-          λ z. runs-pass e (startStates o) .1 (all-pass (stepCount o) (goalOf o) (orderRun s o) (startStates o) 1 (rw (check-starts e) at z)),
-          λ all. rw (check-starts e, none-fails (stepCount o) (goalOf o) (orderRun s o) (startStates o) 1 (runs-pass e (startStates o) .0 all)),
-        )
+        go : (inconsistentIn s ≡ true) ⊎ (inconsistentIn s ≡ false) → Passed (stepCount o) (check s o endSheetSize)
+        go (inl e) =
+            let (start, i) = some-member (startStates o) (some-starts .0) in
+            let (end, h) = all start i in
+            absurd (inconsistent-fails start (planOf (schemaOf s) o) (goalOf o) proper e end h)
+        go (inr e) = rw (check-starts e) (none-fails (stepCount o) (goalOf o) (orderRun s o) (startStates o) 1 (runs-pass e (startStates o) .0 all))
+
+    only : number (check s o endSheetSize .answer) ≡ 0 → AllPass s o (startStates o)
+    unfolding startsAnswer startAnswer
+    only z = go (decide (inconsistentIn s))
+      where
+        go : (inconsistentIn s ≡ true) ⊎ (inconsistentIn s ≡ false) → AllPass s o (startStates o)
+        go (inl e) = absurd (not-passed (check s o endSheetSize .answer) (inconsistent-check o endSheetSize e .0) z)
+        go (inr e) = runs-pass e (startStates o) .1 (all-pass (stepCount o) (goalOf o) (orderRun s o) (startStates o) 1 (rw (check-starts e) at z))
 
     sheet : (start : State) → startStates o ≡ start ∷ [] → (end : State) → StartVerdict s o start (passes end)
         → (lent : List ℕ) → length lent ≡ endSheetSize → Shows (checkBytes s o lent) end
@@ -223,9 +222,10 @@ demand3 s n good =
       checking = checking s n good;
       verdict = verdict s n good;
       pass = pass s n good;
+      only = only s n good;
       sheet = sheet s n good;
       unwritten = unwritten s n good;
-      start = some-starts s n good;
+      starts = some-starts s n good;
       some = λ o m form start. some-verdict s n good start (planOf (schemaOf s) o) (goalOf o) (proper s n good o m form);
       one = λ o start v w. unique (domain (schemaOf s)) (FitsBook s) (planOf (schemaOf s) o) start (goalOf o) v w;
     }

@@ -18,7 +18,7 @@ use Rattle.model.specs.Judge.{Verdict, stops, misses, passes, wrong}
 use Rattle.model.specs.Check.{reached, judgedRun}
 use Rattle.jobs.specs.Check.{goalAnswer, runAnswer, firstFailing}
 use Rattle.jobs.proofs.Starts.{failing-none, failing-here, failing-later}
-use Rattle.demand.specs.Demand3.{Answers, Decides}
+use Rattle.demand.specs.Demand3.{Answers, Passed}
 
 -- ---- one start
 -- what a run comes to, with the goal: as a verdict, and as an answer
@@ -60,13 +60,12 @@ from-turn k (Good n) next whole t from later = rw (t .1 refl) later
 from-turn k (Refused num p) next whole t from later = rw (t .0 refl) from
 
 module _ (steps k : ℕ) (next whole : Positioned) where
-  -- a verdict that decides is the answer, at the position of its start
-  turn-answers : (r : Run) (v : Verdict) (a : Answer) → Comes steps r v a → Turn k a next whole
-      → (rest : List State) → Decides v rest → (rest ≡ [] → next ≡ unpositioned (Good steps)) → Answers steps k v whole
-  unfolding isRefused unpositioned number place
-  turn-answers r v a (stopping j) t rest d last = rw (t .0 refl) (refl, refl, refl)
-  turn-answers r v a (missing end i) t rest d last = rw (t .0 refl) (refl, refl, refl)
-  turn-answers r v a (passing end) t rest d last = rw (t .1 refl ∙ last d) (refl, refl, refl)
+  -- a verdict that is no pass is the answer, at the position of its start
+  turn-answers : (r : Run) (v : Verdict) (a : Answer) → Comes steps r v a → Turn k a next whole → Answers k v whole
+  unfolding isRefused number place
+  turn-answers r v a (stopping j) t = rw (t .0 refl) (refl, refl, refl)
+  turn-answers r v a (missing end i) t = rw (t .0 refl) (refl, refl, refl)
+  turn-answers r v a (passing end) t = tt
 
   -- number 0 is that of a pass, with no failure after it
   turn-passes : (r : Run) (v : Verdict) (a : Answer) → Comes steps r v a → Turn k a next whole
@@ -100,11 +99,9 @@ module _ (steps : ℕ) (goal : List GoalLiteral) (runs : State → Run) where
   from-failing k (start ∷ rest) =
       from-turn k _ _ _ (first-turn k start rest) (from-comes steps _ _ _ (comes steps goal (runs start))) (from-failing (suc k) rest)
 
-  -- the first start of a list: its verdict, if it decides, and what number 0 says of it
-  pub failing-answers : (k : ℕ) (start : State) (rest : List State) → Decides (judgedRun goal (runs start)) rest
-      → Answers steps k (judgedRun goal (runs start)) (failing k (start ∷ rest))
-  failing-answers k start rest d =
-      turn-answers steps k _ _ _ _ _ (comes steps goal (runs start)) (first-turn k start rest) rest d (λ last. rw last (failing-none alone steps (suc k)))
+  -- the first start of a list: its verdict, and what number 0 says of it
+  pub failing-answers : (k : ℕ) (start : State) (rest : List State) → Answers k (judgedRun goal (runs start)) (failing k (start ∷ rest))
+  failing-answers k start rest = turn-answers steps k _ _ _ _ _ (comes steps goal (runs start)) (first-turn k start rest)
 
   failing-passes : (k : ℕ) (start : State) (rest : List State) → number (failing k (start ∷ rest) .answer) ≡ 0
       → RunPasses start × (number (failing (suc k) rest .answer) ≡ 0)
@@ -120,8 +117,10 @@ module _ (steps : ℕ) (goal : List GoalLiteral) (runs : State → Run) where
       failing-later alone steps k start _ (rw good) ∙ past before rest (suc k) at (omega arith) (λ other m. all other (there m))
 
   -- where all pass the answer is the step count, at no position
-  pub none-fails : (starts : List State) (k : ℕ) → AllRunsPass starts → failing k starts ≡ unpositioned (Good steps)
-  none-fails starts k all = ap (failing k) (sym (append-nil starts)) ∙ past starts [] k (k + length starts) refl all ∙ failing-none alone steps _
+  pub none-fails : (starts : List State) (k : ℕ) → AllRunsPass starts → Passed steps (failing k starts)
+  unfolding unpositioned number place
+  none-fails starts k all =
+      rw (ap (failing k) (sym (append-nil starts)) ∙ past starts [] k (k + length starts) refl all ∙ failing-none alone steps _) (refl, refl, refl)
 
   -- and they all pass where the number is 0
   pub all-pass : (starts : List State) (k : ℕ) → number (failing k starts .answer) ≡ 0 → AllRunsPass starts

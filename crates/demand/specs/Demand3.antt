@@ -32,23 +32,20 @@ NoneFits s = (M : Model) → FitsBook s M → ⊥
 abbrev pub Impossible : Answer → Type 0
 Impossible a = (number a ≡ 11) ⊎ (number a ≡ 12)
 
--- the number, the place and the position that a verdict on the start at position k has, for a plan of so many steps
-abbrev pub Answers : ℕ → ℕ → Verdict → Positioned → Type 0
-Answers steps k impossible r = Impossible (r .answer) × (r .position ≡ 0)
-Answers steps k (stops j) r = (number (r .answer) ≡ 19) × (place (r .answer) ≡ j) × (r .position ≡ k)
-Answers steps k (misses i) r = (number (r .answer) ≡ 20) × (place (r .answer) ≡ i) × (r .position ≡ k)
-Answers steps k (passes end) r = (number (r .answer) ≡ 0) × (place (r .answer) ≡ steps) × (r .position ≡ 0)
+-- the number, the place and the position that a verdict on the start at position k gives; a pass gives none by itself, since a later start may fail
+abbrev pub Answers : ℕ → Verdict → Positioned → Type 0
+Answers k impossible r = Impossible (r .answer) × (r .position ≡ 0)
+Answers k (stops j) r = (number (r .answer) ≡ 19) × (place (r .answer) ≡ j) × (r .position ≡ k)
+Answers k (misses i) r = (number (r .answer) ≡ 20) × (place (r .answer) ≡ i) × (r .position ≡ k)
+Answers k (passes end) r = Unit {0}
+
+-- those of a plan of so many steps that passes
+abbrev pub Passed : ℕ → Positioned → Type 0
+Passed steps r = (number (r .answer) ≡ 0) × (place (r .answer) ≡ steps) × (r .position ≡ 0)
 
 -- each of the starts has a pass
 abbrev pub AllPass : List ℕ → List ℕ → List State → Type 0
 AllPass s o starts = (start : State) → Mem start starts → (end : State) × StartVerdict s o start (passes end)
-
--- a verdict that decides an order: one that is no pass, or that on the last start
-abbrev pub Decides : Verdict → List State → Type 0
-Decides impossible rest = Unit {0}
-Decides (stops k) rest = Unit {0}
-Decides (misses i) rest = Unit {0}
-Decides (passes end) rest = rest ≡ []
 
 -- the end sheet holds the state: 512 bytes, the bits set being just the facts that hold
 pub record Shows (sheet : List ℕ) (end : State) : Type 0 where
@@ -66,12 +63,13 @@ pub record JudgeAgrees (s : List ℕ) : Type 0 where
   -- And so does checking, whatever order and lent output come with the book.
   pub checking : (o : List ℕ) (size : ℕ) → Impossible (check s o size .answer) ↔ NoneFits s
   -- For every order of good form with an end sheet of 512 bytes: of the starts in file order, the first whose verdict is no pass gives the
-  -- check's number and place, and its position; where every start before the last has a pass, the last gives them.
+  -- check's number and place, and its position.
   pub verdict : (o : List ℕ) (n : ℕ) → orderForm (schemaOf s) o ≡ Good n
       → (before : List State) (start : State) (rest : List State) → startStates o ≡ before ++ (start ∷ rest) → AllPass s o before
-      → (v : Verdict) → StartVerdict s o start v → Decides v rest → Answers (stepCount o) (suc (length before)) v (check s o endSheetSize)
-  -- So the plan passes exactly if it passes from each start alone.
-  pub pass : (o : List ℕ) (n : ℕ) → orderForm (schemaOf s) o ≡ Good n → (number (check s o endSheetSize .answer) ≡ 0) ↔ AllPass s o (startStates o)
+      → (v : Verdict) → StartVerdict s o start v → Answers (suc (length before)) v (check s o endSheetSize)
+  -- The plan passes exactly if it passes from each start alone; then the place is its step count, and the position 0.
+  pub pass : (o : List ℕ) (n : ℕ) → orderForm (schemaOf s) o ≡ Good n → AllPass s o (startStates o) → Passed (stepCount o) (check s o endSheetSize)
+  pub only : (o : List ℕ) (n : ℕ) → orderForm (schemaOf s) o ≡ Good n → number (check s o endSheetSize .answer) ≡ 0 → AllPass s o (startStates o)
   -- On a pass of an order with one start the bits set in the end sheet are just the facts of his end state.
   pub sheet : (o : List ℕ) (n : ℕ) → orderForm (schemaOf s) o ≡ Good n
       → (start : State) → startStates o ≡ start ∷ [] → (end : State) → StartVerdict s o start (passes end)
@@ -80,7 +78,7 @@ pub record JudgeAgrees (s : List ℕ) : Type 0 where
   pub unwritten : (o : List ℕ) (first second : State) (rest : List State) → startStates o ≡ first ∷ second ∷ rest → (lent : List ℕ) → checkBytes s o lent ≡ lent
   -- An order of good form has a start. The judge has a verdict on each of its starts, and only one: so the lines above do not hold for want
   -- of a start or of a verdict.
-  pub start : (o : List ℕ) (n : ℕ) → orderForm (schemaOf s) o ≡ Good n → (1 ≤ length (startStates o)) × (length (startStates o) ≤ maxStarts)
+  pub starts : (o : List ℕ) (n : ℕ) → orderForm (schemaOf s) o ≡ Good n → (1 ≤ length (startStates o)) × (length (startStates o) ≤ maxStarts)
   pub some : (o : List ℕ) (n : ℕ) → orderForm (schemaOf s) o ≡ Good n → (start : State) → (v : Verdict) × StartVerdict s o start v
   pub one : (o : List ℕ) (start : State) (v w : Verdict) → StartVerdict s o start v → StartVerdict s o start w → v ≡ w
 

@@ -32,7 +32,7 @@ goalCount o = two o 4
 unfoldable pub stepCount : List ℕ → ℕ
 stepCount o = two o 6
 
--- where the sections begin. The starts are of any length, so that only the header says where they end and the goal entries begin
+-- where the sections begin. The counts do not tell how long the starts are, so that only the header says where they end and the goal entries begin
 unfoldable pub startAt : List ℕ → ℕ
 startAt o = headerSize + objectCount o
 

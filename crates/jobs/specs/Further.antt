@@ -79,11 +79,11 @@ kindsUnder =
     ∷ []
 
 -- Starts: bank 1 at spot 2, spots 3 and 4 clear; the same with spot 2 clear too, from where no roll of the bank goes.
-abbrev clear : List ℕ
-clear = 0x00 ∷ 0x03 ∷ 0x01 ∷ 0x01 ∷ 0x02 ∷ 0x02 ∷ 0x03 ∷ 0x00 ∷ 0x02 ∷ 0x04 ∷ 0x00 ∷ []
+abbrev passingStart : List ℕ
+passingStart = 0x00 ∷ 0x03 ∷ 0x01 ∷ 0x01 ∷ 0x02 ∷ 0x02 ∷ 0x03 ∷ 0x00 ∷ 0x02 ∷ 0x04 ∷ 0x00 ∷ []
 
-abbrev unclear : List ℕ
-unclear = 0x00 ∷ 0x04 ∷ 0x01 ∷ 0x01 ∷ 0x02 ∷ 0x02 ∷ 0x02 ∷ 0x00 ∷ 0x02 ∷ 0x03 ∷ 0x00 ∷ 0x02 ∷ 0x04 ∷ 0x00 ∷ []
+abbrev stoppingStart : List ℕ
+stoppingStart = 0x00 ∷ 0x04 ∷ 0x01 ∷ 0x01 ∷ 0x02 ∷ 0x02 ∷ 0x02 ∷ 0x00 ∷ 0x02 ∷ 0x03 ∷ 0x00 ∷ 0x02 ∷ 0x04 ∷ 0x00 ∷ []
 
 -- An order over bank 1 and spots 2, 3, 4 with the goal of the bank at 4. It is told the count of starts, the bytes between objects and goal,
 -- and the steps.
@@ -111,19 +111,19 @@ withByte at byte o = take at o ++ (byte ∷ drop (suc at) o)
 -- cut, and one over 256; a fact out of order, and one that is cut; a byte left over; goal entries that begin before the starts
 abbrev pub severalStarts : List Case
 severalStarts =
-    record { gives = saidAt (check book (fromStarts 2 (clear ++ clear) rollTwice) endSheetSize); wanted = 0 ∷ 2 ∷ 0 ∷ [] }
-    ∷ record { gives = checkBytes book (fromStarts 2 (clear ++ clear) rollTwice) lent; wanted = lent }
-    ∷ record { gives = saidAt (check book (fromStarts 2 (clear ++ unclear) rollTwice) endSheetSize); wanted = 19 ∷ 1 ∷ 2 ∷ [] }
-    ∷ record { gives = saidAt (check book (fromStarts 2 (clear ++ unclear) roll) endSheetSize); wanted = 20 ∷ 1 ∷ 1 ∷ [] }
-    ∷ record { gives = saidAt (check book (fromStarts 2 (unclear ++ clear) roll) endSheetSize); wanted = 19 ∷ 1 ∷ 1 ∷ [] }
+    record { gives = saidAt (check book (fromStarts 2 (passingStart ++ passingStart) rollTwice) endSheetSize); wanted = 0 ∷ 2 ∷ 0 ∷ [] }
+    ∷ record { gives = checkBytes book (fromStarts 2 (passingStart ++ passingStart) rollTwice) lent; wanted = lent }
+    ∷ record { gives = saidAt (check book (fromStarts 2 (passingStart ++ stoppingStart) rollTwice) endSheetSize); wanted = 19 ∷ 1 ∷ 2 ∷ [] }
+    ∷ record { gives = saidAt (check book (fromStarts 2 (passingStart ++ stoppingStart) roll) endSheetSize); wanted = 20 ∷ 1 ∷ 1 ∷ [] }
+    ∷ record { gives = saidAt (check book (fromStarts 2 (stoppingStart ++ passingStart) roll) endSheetSize); wanted = 19 ∷ 1 ∷ 1 ∷ [] }
     ∷ record { gives = saidAt (check book (fromStarts 0 [] roll) endSheetSize); wanted = 22 ∷ 0 ∷ 0 ∷ [] }
-    ∷ record { gives = saidAt (check book (fromStarts 17 clear roll) endSheetSize); wanted = 22 ∷ 0 ∷ 0 ∷ [] }
+    ∷ record { gives = saidAt (check book (fromStarts 17 passingStart roll) endSheetSize); wanted = 22 ∷ 0 ∷ 0 ∷ [] }
     ∷ record { gives = saidAt (check book (withByte 9 0x11 (fromStarts 0 [] roll)) endSheetSize); wanted = 22 ∷ 0 ∷ 0 ∷ [] }
     ∷ record { gives = saidAt (check book (withByte 1 0x11 (fromStarts 0 [] roll)) endSheetSize); wanted = 14 ∷ 0 ∷ 0 ∷ [] }
-    ∷ record { gives = saidAt (check book (fromStarts 2 (clear ++ (0x00 ∷ [])) roll) endSheetSize); wanted = 16 ∷ 31 ∷ 0 ∷ [] }
-    ∷ record { gives = saidAt (check book (fromStarts 2 (clear ++ (0x01 ∷ 0x01 ∷ [])) roll) endSheetSize); wanted = 16 ∷ 31 ∷ 0 ∷ [] }
-    ∷ record { gives = saidAt (check book (fromStarts 2 (clear ++ (0x00 ∷ 0x02 ∷ 0x02 ∷ 0x03 ∷ 0x00 ∷ 0x02 ∷ 0x03 ∷ 0x00 ∷ [])) roll) endSheetSize); wanted = 16 ∷ 36 ∷ 0 ∷ [] }
-    ∷ record { gives = saidAt (check book (fromStarts 2 (clear ++ (0x00 ∷ 0x02 ∷ 0x02 ∷ 0x03 ∷ 0x00 ∷ [])) roll) endSheetSize); wanted = 16 ∷ 36 ∷ 0 ∷ [] }
-    ∷ record { gives = saidAt (check book (fromStarts 2 (clear ++ (unclear ++ (0x00 ∷ []))) roll) endSheetSize); wanted = 16 ∷ 45 ∷ 0 ∷ [] }
-    ∷ record { gives = saidAt (check book (withByte 13 0x13 (fromStarts 1 clear roll)) endSheetSize); wanted = 14 ∷ 0 ∷ 0 ∷ [] }
+    ∷ record { gives = saidAt (check book (fromStarts 2 (passingStart ++ (0x00 ∷ [])) roll) endSheetSize); wanted = 16 ∷ 31 ∷ 0 ∷ [] }
+    ∷ record { gives = saidAt (check book (fromStarts 2 (passingStart ++ (0x01 ∷ 0x01 ∷ [])) roll) endSheetSize); wanted = 16 ∷ 31 ∷ 0 ∷ [] }
+    ∷ record { gives = saidAt (check book (fromStarts 2 (passingStart ++ (0x00 ∷ 0x02 ∷ 0x02 ∷ 0x03 ∷ 0x00 ∷ 0x02 ∷ 0x03 ∷ 0x00 ∷ [])) roll) endSheetSize); wanted = 16 ∷ 36 ∷ 0 ∷ [] }
+    ∷ record { gives = saidAt (check book (fromStarts 2 (passingStart ++ (0x00 ∷ 0x02 ∷ 0x02 ∷ 0x03 ∷ 0x00 ∷ [])) roll) endSheetSize); wanted = 16 ∷ 36 ∷ 0 ∷ [] }
+    ∷ record { gives = saidAt (check book (fromStarts 2 (passingStart ++ (stoppingStart ++ (0x00 ∷ []))) roll) endSheetSize); wanted = 16 ∷ 45 ∷ 0 ∷ [] }
+    ∷ record { gives = saidAt (check book (withByte 13 0x13 (fromStarts 1 passingStart roll)) endSheetSize); wanted = 14 ∷ 0 ∷ 0 ∷ [] }
     ∷ []

@@ -9,7 +9,7 @@ use Rattle.answer.specs.declared.Answer.{Answer}
 use Rattle.answer.specs.declared.Answer.the-variants.{Good, Refused}
 use Rattle.answer.specs.Answer.{_>>=_, refuse, isRefused, valueOf, kept}
 use Rattle.truth.specs.Bools.{clash}
-use Rattle.answer.specs.Laws.{stays, follows, bind-good, parted}
+use Rattle.answer.specs.Laws.{stays, follows, bind-good, parted, refused-kept}
 use Rattle.answer.specs.Turns.{is-good, part-stays, part-follows}
 use Rattle.terms.specs.declared.Sections.{Sections}
 use Rattle.terms.specs.Sections.{sectionsOf}
@@ -142,15 +142,11 @@ module _ (s bytes : List ℕ) (w : Walked) (form : FormObserved s bytes w) (b : 
 
 -- learning, by what observing the book returned
 pub learn-refused : (s old : List ℕ) (a : Answer) (b : Bool) → a ≡ learnable s → b ≡ isRefused a → b ≡ true → LearnOutcome s old old a
-unfolding learn learnBytes kept isRefused
+unfolding learn learnBytes
 learn-refused s old a b e q r =
     let f : isRefused (learnable s) ≡ true = sym (ap isRefused e) ∙ sym q ∙ r in
     let l : a ≡ learn s (length old) = e ∙ stays (learnable s) _ f in
-    record { says = l; bytes = go a (sym q ∙ r) l }
-  where
-    go : (x : Answer) → isRefused x ≡ true → x ≡ learn s (length old) → old ≡ kept (learn s (length old)) (ruleSheet s) old
-    go (Good n) i j = clash false i refl
-    go (Refused n p) i j = rw (← j)
+    record { says = l; bytes = refused-kept _ a _ old l (sym q ∙ r) }
 
 module _ (s old : List ℕ) (m : ℕ) (good : learnable s ≡ Good m) where
   -- row 13

@@ -1,6 +1,9 @@
 -- Members of lists joined, and of the lists that the entries of a list give: records in another sequence give the same transitions.
+use Prim.Native.Nat.{_≤_}
+use native.Mathlib.Omega.{arith}
 use mathlib.Core.Logic.{_⊎_, inl, inr, _↔_}
 use mathlib.Core.List.{List, [], _∷_, _++_, flatMap}
+use lib.ListN.{length}
 use Rattle.model.specs.Quantify.{Mem, here, there}
 
 module _ {A : Type 0} where
@@ -20,6 +23,10 @@ module _ {A : Type 0} where
       go : Mem x xs ⊎ Mem x ys → Mem x (y ∷ xs) ⊎ Mem x ys
       go (inl k) = inl (there k)
       go (inr k) = inr k
+
+  pub some-member : (xs : List A) → 1 ≤ length xs → (x : A) × Mem x xs
+  some-member [] l = absurd (omega arith)
+  some-member (x ∷ xs) l = (x, here)
 
 module _ {A B : Type 0} (f : A → List B) where
   pub flat-in : {b : B} {x : A} (xs : List A) → Mem x xs → Mem b (f x) → Mem b (flatMap f xs)

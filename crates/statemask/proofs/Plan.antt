@@ -100,7 +100,7 @@ unfolding endSheet
 agrees-sheet c (stopped k) a e = absurd (omega arith)
 agrees-sheet c (ended end) a e = a .1
 
--- ---- from the start facts
+-- ---- from a start
 module _ (D : Domain) (M : Model) (sch : Schema) (l : List ℕ) (plan : List Step) (c : Executing D M sch l plan) (fs : List Fact) (under : Under (holding fs)) where
   pub execute-start : Agrees (execute sch l plan (startMask fs) 1) (run D M (map (groundAction sch) plan) (holding fs) 1)
   execute-start =

@@ -84,13 +84,13 @@ length-starts-from o zero at = refl
 length-starts-from o (suc n) at = ap suc (length-starts-from o n (stateEnd o at))
 
 -- and it has as many starts
-pub starts-count : (o : List ℕ) → length (starts o) ≡ startCount o
+pub length-starts : (o : List ℕ) → length (starts o) ≡ startCount o
 unfolding starts
-starts-count o = length-starts-from o (startCount o) (startAt o)
+length-starts o = length-starts-from o (startCount o) (startAt o)
 
-pub length-starts : (o : List ℕ) → length (startStates o) ≡ startCount o
+pub length-start-states : (o : List ℕ) → length (startStates o) ≡ startCount o
 unfolding startStates
-length-starts o = simp length-map (starts-count o)
+length-start-states o = simp length-map (length-starts o)
 
 -- An order of good form is right in all its parts.
 pub order-right : (sch : Schema) → Falling sch → (o : List ℕ) (n : ℕ) → orderForm sch o ≡ Good n → RightOrder sch o
