@@ -188,6 +188,21 @@ static int read_case(struct one_case *c)
     return 1;
 }
 
+/* The areas to lend and the pattern; then the guards are tested, which all else relies on. */
+static void prepare(void)
+{
+    books = area_new(ROOM);
+    others = area_new(ROOM);
+    outs = area_new(ROOM);
+    pattern = (uint8_t *)malloc(outs.size);
+    if (pattern == NULL)
+        exit(2);
+    for (size_t at = 0; at < outs.size; at++)
+        pattern[at] = (uint8_t)(at * 167 + at / 256);
+    catch_touches();
+    test_the_guards();
+}
+
 int main(void)
 {
     static const char *const names[JOBS] = {"look over", "learn", "check", "add"};
@@ -195,17 +210,7 @@ int main(void)
     unsigned several = 0, later = 0; /* good from several starts, refused by one behind the first */
     struct one_case c;
 
-    books = area_new(ROOM);
-    others = area_new(ROOM);
-    outs = area_new(ROOM);
-    pattern = (uint8_t *)malloc(outs.size);
-    if (pattern == NULL)
-        return 2;
-    for (size_t at = 0; at < outs.size; at++)
-        pattern[at] = (uint8_t)(at * 167 + at / 256);
-    catch_touches();
-    test_the_guards();
-
+    prepare();
     while (read_case(&c)) {
         snprintf(where, sizeof where, "%s, case %u\n", names[c.job], good[c.job] + refused[c.job]);
         run(&c, FLUSH_WITH_END, 0);

@@ -53,18 +53,10 @@ impl CheckStream {
             13 if round % 10 == 0 => {
                 let plan = order::at_the_limits();
                 let answer = Answer::success(plan.order.steps.len());
-                aimed_plan(Label { part: "order", what: "at every limit" }, &plan, answer)
+                let label = Label { part: "order", what: "at every limit but that of starts" };
+                aimed_plan(label, &plan, answer)
             }
-            14 => {
-                let ending = Ending::ALL[round % Ending::ALL.len()];
-                let (mut plan, answer) = crowded::case(ending, rng);
-                // Equal starts have the answer of the first, and no end sheet.
-                if rng.chance(40) {
-                    let start = plan.order.starts[0].clone();
-                    plan.order.starts.resize(rng.range(2, START_LIMIT), start);
-                }
-                aimed_plan(ending.label(), &plan, answer)
-            }
+            14 => crowded_plan(Ending::ALL[round % Ending::ALL.len()], rng),
             15 => {
                 let kind = Starts::ALL[round % Starts::ALL.len()];
                 let (plan, answer) = several::case(kind, rng);
@@ -99,6 +91,17 @@ fn case(
     output: usize,
 ) -> JobCase {
     JobCase { job: Job::Check, label, aimed, book, other: order, output }
+}
+
+/// A plan in whose execution over 256 facts hold. At times it has equal starts:
+/// they have the answer of the first, and no end sheet.
+fn crowded_plan(ending: Ending, rng: &mut Rng) -> JobCase {
+    let (mut plan, answer) = crowded::case(ending, rng);
+    if rng.chance(40) {
+        let start = plan.order.starts[0].clone();
+        plan.order.starts.resize(rng.range(2, START_LIMIT), start);
+    }
+    aimed_plan(ending.label(), &plan, answer)
 }
 
 /// A plan that must get this answer, with an end sheet of the right length.

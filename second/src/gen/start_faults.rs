@@ -42,6 +42,17 @@ impl Which {
     const fn of(self, names: [&'static str; 3]) -> &'static str {
         names[self as usize]
     }
+
+    /// A fault in this start; `make` is given its index.
+    fn aim(
+        self,
+        names: [&'static str; 3],
+        make: fn(&Plan, usize, &mut Rng) -> Option<Hit>,
+    ) -> Aim<Plan> {
+        Aim::new("start", self.of(names), Refusal::Start, move |plan: &Plan, rng: &mut Rng| {
+            make(plan, self.index(&plan.order, rng)?, rng)
+        })
+    }
 }
 
 /// A start count that is none or too large.
@@ -148,13 +159,16 @@ fn in_fact(
 
 /// Every fault of a state, in one of several starts.
 fn states(which: Which) -> Vec<Aim<Plan>> {
-    let aim = |names, make: fn(&Plan, usize, &mut Rng) -> Option<Hit>| {
-        Aim::new("start", which.of(names), Refusal::Start, move |plan: &Plan, rng: &mut Rng| {
-            make(plan, which.index(&plan.order, rng)?, rng)
-        })
-    };
+    let mut aims = facts_of(which);
+    aims.push(count_of(which));
+    aims.extend(cuts_of(which));
+    aims
+}
+
+/// A fact that is wrong or out of order.
+fn facts_of(which: Which) -> Vec<Aim<Plan>> {
     vec![
-        aim(
+        which.aim(
             ["fact wrong, the first", "fact wrong, a middle one", "fact wrong, the last"],
             |plan, start, rng| {
                 in_fact(plan, start, rng, |facts, at, rng| {
@@ -164,7 +178,7 @@ fn states(which: Which) -> Vec<Aim<Plan>> {
                 })
             },
         ),
-        aim(
+        which.aim(
             ["facts equal, the first", "facts equal, a middle one", "facts equal, the last"],
             |plan, start, rng| {
                 in_fact(plan, start, rng, |facts, at, _| {
@@ -173,7 +187,7 @@ fn states(which: Which) -> Vec<Aim<Plan>> {
                 })
             },
         ),
-        aim(
+        which.aim(
             [
                 "facts decrease, the first",
                 "facts decrease, a middle one",
@@ -186,35 +200,42 @@ fn states(which: Which) -> Vec<Aim<Plan>> {
                 })
             },
         ),
-        // Laid out in full, so that nothing but the count is wrong.
-        aim(
-            [
-                "count over 256, the first",
-                "count over 256, a middle one",
-                "count over 256, the last",
-            ],
-            |plan, start, _| {
-                let mut order = plan.order.clone();
-                order.starts[start].resize(FACT_LIMIT + 1, [1, 1, 1]);
-                Some(Hit { bytes: order.bytes(), place: order.layout().starts[start] })
-            },
-        ),
-        aim(["count cut, the first", "count cut, a middle one", "count cut, the last"], {
+    ]
+}
+
+/// A count over its limit, laid out in full, so that nothing else is wrong.
+fn count_of(which: Which) -> Aim<Plan> {
+    which.aim(
+        ["count over 256, the first", "count over 256, a middle one", "count over 256, the last"],
+        |plan, start, _| {
+            let mut order = plan.order.clone();
+            order.starts[start].resize(FACT_LIMIT + 1, [1, 1, 1]);
+            Some(Hit { bytes: order.bytes(), place: order.layout().starts[start] })
+        },
+    )
+}
+
+/// The starts' end within a count or a fact.
+fn cuts_of(which: Which) -> Vec<Aim<Plan>> {
+    vec![
+        which.aim(
+            ["count cut, the first", "count cut, a middle one", "count cut, the last"],
             |plan, start, rng| {
                 let place = plan.order.layout().starts[start];
                 let bytes = ended(&plan.order, place + rng.below(2));
                 Some(Hit { bytes, place })
-            }
-        }),
-        aim(["fact cut, the first", "fact cut, a middle one", "fact cut, the last"], {
+            },
+        ),
+        which.aim(
+            ["fact cut, the first", "fact cut, a middle one", "fact cut, the last"],
             |plan, start, rng| {
                 let facts = plan.order.starts[start].len();
                 let at = (facts > 0).then(|| rng.below(facts))?;
                 let place = plan.order.layout().starts[start] + 2 + 3 * at;
                 let bytes = ended(&plan.order, place + rng.below(3));
                 Some(Hit { bytes, place })
-            }
-        }),
+            },
+        ),
     ]
 }
 
