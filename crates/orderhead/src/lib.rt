@@ -95,13 +95,16 @@ fn offsets_bad(o: &[u8]) -> bool
 pub fn header(o: &[u8]) -> Answer
     ensures { λ r. ⌜ r ≡ orderHeader (now (o .entry)) ⌝ }
 {
-    if counts_bad(o) {
+    let counts = counts_bad(o);
+    let starts = terms::out_of_range(limits::MAX_STARTS, start_count(o));
+    let offsets = offsets_bad(o);
+    if counts {
         return Answer::Refused(14, 0);
     }
-    if terms::out_of_range(limits::MAX_STARTS, start_count(o)) {
+    if starts {
         return Answer::Refused(22, 0);
     }
-    if offsets_bad(o) {
+    if offsets {
         return Answer::Refused(14, 0);
     }
     Answer::Good(limits::HEADER_SIZE)

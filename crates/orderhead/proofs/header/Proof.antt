@@ -5,34 +5,34 @@ use Rattle.orderhead.proofs.header.Statement.{statement}
 use Rattle.orderhead.proofs.header.Tie as tie
 
 returns : tie.Need-returns
-returns c = at-counts _ _ (c .before .counts-bad .ensures) (c .if1 .taken)
+returns c = at-counts _ _ (c .before .before .before .before .counts-bad .ensures) (c .if1 .taken)
 
 returns-2 : tie.Need-returns-2
 returns-2 c =
-    let r = c .before in
+    let i = c .before in
+    let r = i .before .before in
     let n = r .before in
-    let i = n .before in
-    at-starts _ _ (i .before .counts-bad .ensures) (i .if1 .left) _ (rw (n .start-count .ensures) at (r .out-of-range .ensures)) (c .if2 .taken)
+    at-starts _ _ (n .before .counts-bad .ensures) (i .if1 .left) _ (rw (n .start-count .ensures) at (r .out-of-range .ensures)) (c .if2 .taken)
 
 returns-3 : tie.Need-returns-3
 returns-3 c =
-    let d = c .before in
-    let j = d .before in
-    let r = j .before in
+    let j = c .before in
+    let i = j .before in
+    let d = i .before in
+    let r = d .before in
     let n = r .before in
-    let i = n .before in
-    at-offsets _ _ (i .before .counts-bad .ensures) (i .if1 .left) _ (rw (n .start-count .ensures) at (r .out-of-range .ensures)) (j .if2 .left) _ (d .offsets-bad .ensures) (c .if3 .taken)
+    at-offsets _ _ (n .before .counts-bad .ensures) (i .if1 .left) _ (rw (n .start-count .ensures) at (r .out-of-range .ensures)) (j .if2 .left) _ (d .offsets-bad .ensures) (c .if3 .taken)
 
 returns-4 : tie.Need-returns-4
 returns-4 c =
-    let d = c .before in
-    let j = d .before in
-    let r = j .before in
+    let j = c .before in
+    let i = j .before in
+    let d = i .before in
+    let r = d .before in
     let n = r .before in
-    let i = n .before in
-    at-objects _ _ (i .before .counts-bad .ensures) (i .if1 .left) _ (rw (n .start-count .ensures) at (r .out-of-range .ensures)) (j .if2 .left) _ (d .offsets-bad .ensures) (c .if3 .left)
+    at-objects _ _ (n .before .counts-bad .ensures) (i .if1 .left) _ (rw (n .start-count .ensures) at (r .out-of-range .ensures)) (j .if2 .left) _ (d .offsets-bad .ensures) (c .if3 .left)
 
 pub header-spec : {M : Type 1} → statement M
 header-spec =
     tie.close
-    (tie.spec (λ c κs. search needs) returns (λ c κs. search needs) (λ c κs. search needs) returns-2 (λ c κs. search needs) returns-3 returns-4)
+    (tie.spec (λ c κs. search needs) (λ c κs. search needs) (λ c κs. search needs) (λ c κs. search needs) returns returns-2 returns-3 returns-4)
