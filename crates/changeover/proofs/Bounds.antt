@@ -17,7 +17,8 @@ use Rattle.terms.specs.Sections.{sectionsOf}
 use Rattle.terms.specs.Schema.{Schema}
 use Rattle.limits.specs.Limits.{maxLength, maxMoves, maxSteps, maxStarts, maxEntries, stepSize, entrySize}
 use Rattle.format.specs.LookOver.{lookOver}
-use Rattle.format.specs.Decode.{RecordedStep, stateEnd, recordedStepsAt, stepsOfRecord, recordedStep}
+use Rattle.format.specs.Lists.{listEnd}
+use Rattle.format.specs.Decode.{RecordedStep, recordedStepsAt, stepsOfRecord, recordedStep}
 use Rattle.format.specs.Order.{stepCount, goalCount, goal, goalFrom, orderForm}
 use Rattle.answer.specs.Bounds.{Bounded, bounded-good, bounded-then, bounded-row, bounded-wider}
 use Rattle.format.proofs.LookOver.{look-over-good}
@@ -47,7 +48,7 @@ use Rattle.changeover.proofs.Laws.{Fits, fits-by}
 steps-placed : (s : List ℕ) (n at : ℕ) {f : RecordedStep} → Observable s n at → Mem f (recordedStepsAt s n at) → f .place ≤ maxLength
 unfolding Observable recordedStepsAt recordedStep
 steps-placed s (suc n) at h here = h .2
-steps-placed s (suc n) at h (there m) = steps-placed s n (stateEnd s at + stepSize) (h .5) m
+steps-placed s (suc n) at h (there m) = steps-placed s n (listEnd s at + stepSize) (h .5) m
 
 unbound-effects-bounded : (sch : Schema) (fs : List RecordedStep) → ((f : RecordedStep) → Mem f fs → f .place ≤ maxLength) → Bounded maxLength (unboundEffects sch fs)
 unfolding unboundEffects

@@ -19,7 +19,7 @@ use Rattle.terms.specs.declared.Fact.{Fact}
 use Rattle.terms.specs.Sections.{sectionsOf}
 use Rattle.terms.specs.Schema.{Schema, schema}
 use Rattle.format.specs.LookOver.{lookOver}
-use Rattle.format.specs.Decode.{factsAt, stateAt}
+use Rattle.format.specs.Lists.{factsAt, listAt}
 use Rattle.format.specs.Order.{startCount, startAt, stepCount, stepsAt, orderForm, starts, goal, plan}
 use Rattle.model.specs.Quantify.{here}
 use Rattle.jobs.specs.Planning.{schemaOf, holding, startStates}
@@ -35,8 +35,8 @@ use Rattle.checker.proofs.Executed.{executable, starts-good, start-exec
 use Rattle.checker.proofs.Starts.{only-goes}
 
 -- the start as the code reads it
-pub start-by : (o : List ℕ) (n at : ℕ) {m : List ℕ} → n ≡ two o at → m ≡ startMask (factsAt o n (at + countSize)) → m ≡ startMask (stateAt o at)
-unfolding stateAt
+pub start-by : (o : List ℕ) (n at : ℕ) {m : List ℕ} → n ≡ two o at → m ≡ startMask (factsAt o n (at + countSize)) → m ≡ startMask (listAt o at)
+unfolding listAt
 start-by o n at p e = rw p at e
 
 -- rows 19 and 20 from it

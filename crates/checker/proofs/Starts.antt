@@ -19,7 +19,7 @@ use Rattle.limits.specs.Limits.{maxLength}
 use Rattle.terms.specs.declared.Fact.{Fact}
 use Rattle.terms.specs.Schema.{Schema}
 use Rattle.format.specs.States.{state}
-use Rattle.format.specs.Decode.{stateAt, stateEnd}
+use Rattle.format.specs.Lists.{listAt, listEnd}
 use Rattle.format.specs.Order.{goalAt, startCount, startAt, stepCount, startsFrom, starts, goal, plan}
 use Rattle.format.proofs.States.{state-ends}
 use Rattle.jobs.specs.Check.{firstFailing, endAfter}
@@ -30,7 +30,7 @@ use Rattle.checker.specs.Checker.{PlanExecuted, executedFrom, answerFrom
 use Rattle.checker.proofs.Laws.{executed-ends}
 
 -- ---- a start, and those after it
-starts-more : (o : List ℕ) (n at : ℕ) → 0 < n → startsFrom o n at ≡ stateAt o at ∷ startsFrom o (n - 1) (stateEnd o at)
+starts-more : (o : List ℕ) (n at : ℕ) → 0 < n → startsFrom o n at ≡ listAt o at ∷ startsFrom o (n - 1) (listEnd o at)
 unfolding startsFrom
 starts-more o zero at h = absurd (omega arith)
 starts-more o (suc n) at h = rw sub-one
@@ -41,7 +41,7 @@ starts-none o n at e = rw e
 
 -- the first of some good starts ends before the goal entries, and those after it are good
 pub next-start : (o : List ℕ) (n at : ℕ) → StartsGood o n at → 0 < n
-    → (stateEnd o at ≤ maxLength) × (stateEnd o at ≤ length o) × StartsGood o (n - 1) (stateEnd o at)
+    → (listEnd o at ≤ maxLength) × (listEnd o at ≤ length o) × StartsGood o (n - 1) (listEnd o at)
 next-start o zero at g h = absurd (omega arith)
 next-start o (suc n) at g h =
     let (next, good, rest) = walk-parted (state 16 (g .sch) (g .ob) o (goalAt o)) n at (goalAt o) (g .good) in
@@ -71,46 +71,46 @@ module _ (sch : Schema) (l o : List ℕ) where
   each-ends k n at steps r left none p e =
       e ∙ ap (λ (x : ℕ). unpositioned (Good x)) p ∙ sym (failing-none (answerFrom sch l o) (stepCount o) k) ∙ sym (ap (each k) (starts-none o n at none)) ∙ left
 
-  module _ (k n at : ℕ) (a : Answer) (b : Bool) (left : each k (startsFrom o n at) ≡ answerEach sch l o) (some : 0 < n) (says : a ≡ answerFrom sch l o (stateAt o at)) (told : b ≡ isRefused a) where
-    first : isRefused (answerFrom sch l o (stateAt o at)) ≡ b
+  module _ (k n at : ℕ) (a : Answer) (b : Bool) (left : each k (startsFrom o n at) ≡ answerEach sch l o) (some : 0 < n) (says : a ≡ answerFrom sch l o (listAt o at)) (told : b ≡ isRefused a) where
+    first : isRefused (answerFrom sch l o (listAt o at)) ≡ b
     first = sym (told ∙ ap isRefused says)
 
     pub each-fails : b ≡ true → _≡_ {A = Positioned} (record { answer = a; position = k }) (answerEach sch l o)
     each-fails e =
-        rw says (sym (failing-here (answerFrom sch l o) (stepCount o) k (stateAt o at) (startsFrom o (n - 1) (stateEnd o at)) (first ∙ e)))
+        rw says (sym (failing-here (answerFrom sch l o) (stepCount o) k (listAt o at) (startsFrom o (n - 1) (listEnd o at)) (first ∙ e)))
         ∙ sym (ap (each k) (starts-more o n at some))
         ∙ left
 
-    pub each-goes : b ≡ false → each (k + 1) (startsFrom o (n - 1) (stateEnd o at)) ≡ answerEach sch l o
+    pub each-goes : b ≡ false → each (k + 1) (startsFrom o (n - 1) (listEnd o at)) ≡ answerEach sch l o
     each-goes e =
         let up : k + 1 ≡ suc k = omega arith in
-        rw up (sym (failing-later (answerFrom sch l o) (stepCount o) k (stateAt o at) (startsFrom o (n - 1) (stateEnd o at)) (first ∙ e)))
+        rw up (sym (failing-later (answerFrom sch l o) (stepCount o) k (listAt o at) (startsFrom o (n - 1) (listEnd o at)) (first ∙ e)))
         ∙ sym (ap (each k) (starts-more o n at some))
         ∙ left
 
 -- ---- the only start
 module _ (sch : Schema) (l o old state new : List ℕ) (at : ℕ) (r : Answer) (b : Bool) (one : startCount o ≡ 1) (from : at ≡ startAt o)
-    (start : state ≡ startMask (stateAt o at)) (out : PlanExecuted (execute sch l (plan o) state 1) (stepCount o) (goal o) new r) (told : b ≡ isRefused r) where
-  only : starts o ≡ stateAt o at ∷ []
+    (start : state ≡ startMask (listAt o at)) (out : PlanExecuted (execute sch l (plan o) state 1) (stepCount o) (goal o) new r) (told : b ≡ isRefused r) where
+  only : starts o ≡ listAt o at ∷ []
   unfolding starts startsFrom
   only = rw (one, from)
 
-  own-out : PlanExecuted (executedFrom sch l o (stateAt o at)) (stepCount o) (goal o) new r
+  own-out : PlanExecuted (executedFrom sch l o (listAt o at)) (stepCount o) (goal o) new r
   unfolding executedFrom
   own-out = rw start at out
 
-  own-says : r ≡ answerFrom sch l o (stateAt o at)
+  own-says : r ≡ answerFrom sch l o (listAt o at)
   unfolding answerFrom
   own-says = own-out .says
 
-  refusing : isRefused (answerFrom sch l o (stateAt o at)) ≡ b
+  refusing : isRefused (answerFrom sch l o (listAt o at)) ≡ b
   refusing = sym (told ∙ ap isRefused own-says)
 
   pub only-fails : b ≡ true → StartsOutcome sch l o old old (record { answer = r; position = 1 })
   unfolding answerEach
   only-fails e =
       record {
-        says = rw only (rw own-says (sym (failing-here (answerFrom sch l o) (stepCount o) 1 (stateAt o at) [] (refusing ∙ e))));
+        says = rw only (rw own-says (sym (failing-here (answerFrom sch l o) (stepCount o) 1 (listAt o at) [] (refusing ∙ e))));
         bytes = refused-kept r r _ old refl (sym told ∙ e);
       }
 
@@ -129,7 +129,7 @@ module _ (sch : Schema) (l o old state new : List ℕ) (at : ℕ) (r : Answer) (
         record {
           says =
               q ∙ ap unpositioned passes
-              ∙ sym (ap (each sch l o 1) only ∙ failing-later (answerFrom sch l o) (stepCount o) 1 (stateAt o at) [] (refusing ∙ e) ∙ failing-none (answerFrom sch l o) (stepCount o) 2);
+              ∙ sym (ap (each sch l o 1) only ∙ failing-later (answerFrom sch l o) (stepCount o) 1 (listAt o at) [] (refusing ∙ e) ∙ failing-none (answerFrom sch l o) (stepCount o) 2);
           bytes = rw (w, only) (f ∙ own-out .mask);
         }
 

@@ -10,7 +10,7 @@ ghost use Prim.Native.Nat.{_≤_};
 ghost use lib.ListN.{length};
 ghost use Rattle.limits.specs.Limits.{maxLength, endSheetSize};
 ghost use Rattle.terms.specs.Schema.{schema};
-ghost use Rattle.format.specs.Decode.{stateAt, stateEnd};
+ghost use Rattle.format.specs.Lists.{listAt, listEnd};
 ghost use Rattle.format.specs.Order.{startCount, startAt, stepCount, stepsAt, goal, plan};
 ghost use Rattle.statemask.specs.Statemask.{startMask, execute};
 ghost use Rattle.execution.specs.Execution.{Executable};
@@ -54,16 +54,16 @@ fn write_end(end: &mut [u8], state: [u8; limits::STATE_SIZE])
 
 // The state of the start at an offset.
 fn start_of(o: &[u8], at: usize) -> [u8; limits::STATE_SIZE]
-    requires { ⌜ (stateEnd (now o) at ≤ maxLength) × (stateEnd (now o) at ≤ length (now o)) ⌝ }
-    ensures { λ r. ⌜ r ≡ startMask (stateAt (now (o .entry)) at) ⌝ }
+    requires { ⌜ (listEnd (now o) at ≤ maxLength) × (listEnd (now o) at ≤ length (now o)) ⌝ }
+    ensures { λ r. ⌜ r ≡ startMask (listAt (now (o .entry)) at) ⌝ }
 {
     execution::start_mask(o, input::two_at(o, at) as usize, at + limits::COUNT_SIZE)
 }
 
 // Rows 19 and 20 from the start at an offset.
 fn run_start(book: &[u8], h: Sections, observed: &[u8], o: &[u8], at: usize) -> Answer
-    requires { ⌜ Executable (now observed) (now o) (stepCount (now o)) (stepsAt (now o)) × (stateEnd (now o) at ≤ maxLength) × (stateEnd (now o) at ≤ length (now o)) ⌝ }
-    ensures { λ r. ⌜ r ≡ answerFrom (schema h (now (book .entry))) (now (observed .entry)) (now (o .entry)) (stateAt (now (o .entry)) at) ⌝ }
+    requires { ⌜ Executable (now observed) (now o) (stepCount (now o)) (stepsAt (now o)) × (listEnd (now o) at ≤ maxLength) × (listEnd (now o) at ≤ length (now o)) ⌝ }
+    ensures { λ r. ⌜ r ≡ answerFrom (schema h (now (book .entry))) (now (observed .entry)) (now (o .entry)) (listAt (now (o .entry)) at) ⌝ }
 {
     let mut state = start_of(o, at);
     execute_plan(book, h, observed, o, &mut state)
@@ -85,7 +85,7 @@ fn run_each(book: &[u8], h: Sections, observed: &[u8], o: &[u8]) -> Positioned
                 position: k,
             };
         }
-        at = states::state_end(o, at);
+        at = states::list_end(o, at);
         k += 1;
         left -= 1;
     }

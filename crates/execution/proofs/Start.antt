@@ -7,7 +7,7 @@ use mathlib.Core.List.{List}
 use Rattle.terms.specs.declared.Fact.{Fact}
 use Rattle.terms.specs.Facts.{factAt, factNumber}
 use Rattle.limits.specs.Limits.{factSize}
-use Rattle.format.specs.Decode.{factsAt}
+use Rattle.format.specs.Lists.{factsAt}
 use Rattle.mask.specs.Bits.{setBit}
 use Rattle.statemask.specs.Statemask.{withFacts}
 

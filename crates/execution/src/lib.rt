@@ -7,7 +7,7 @@ ghost use lib.ListN.{length};
 ghost use Rattle.limits.specs.Limits.{factSize, entrySize, farCeiling};
 ghost use Rattle.terms.specs.Schema.{schema};
 ghost use Rattle.terms.specs.Facts.{factNumber};
-ghost use Rattle.format.specs.Decode.{factsAt};
+ghost use Rattle.format.specs.Lists.{factsAt};
 ghost use Rattle.format.specs.Order.{goalFrom, planFrom, entryAt};
 ghost use Rattle.statemask.specs.Statemask.{startMask, missed, misses};
 ghost use Rattle.execution.specs.Execution.{Executable, Executes};

@@ -27,7 +27,8 @@ use Rattle.limits.specs.Limits.{headSize, countSize, factSize, stepSize, maxFac
 use Rattle.format.specs.States.{cut, countBad, factRefused, facts, state}
 use Rattle.format.specs.Records.{objectsIn, stepsIn, lengthIn, headBad, object, step, objectsOf, recordAt, stepRefused}
 use Rattle.format.specs.LookOver.{stepTotal}
-use Rattle.format.specs.Decode.{RecordedStep, stateEnd, recordedStep, recordedStepsAt, stepsOfRecord, stepsOfRecords}
+use Rattle.format.specs.Lists.{listEnd}
+use Rattle.format.specs.Decode.{RecordedStep, recordedStep, recordedStepsAt, stepsOfRecord, stepsOfRecords}
 use Rattle.format.proofs.States.{fact-good, count-within, state-within, state-end, state-ends}
 use Rattle.format.proofs.Records.{head-limits, head-objects, object-entry, step-good, step-within, step-reach, trajectory-parted, record-good, record-in, record-within}
 use Rattle.format.proofs.Typing.{objects-known}
@@ -191,18 +192,18 @@ module _ {s t : List ℕ} {at at′ size : ℕ} (c : Copied s at t at′ size) w
       trajectory-recorded zero a b next last face e w = refl
       trajectory-recorded (suc n) a b next last face e w =
           let (after, good, rest) = trajectory-parted S H s end n a next last e w in
-          let behind = step-good S H s end (stateEnd s a) after good .2 in
+          let behind = step-good S H s end (listEnd s a) after good .2 in
           let within = state-ends 8 S H s end a next e .1 in
-          let within′ = state-ends 8 S H s end (stateEnd s a + stepSize) after behind .1 in
-          let reach : stateEnd s a + stepSize ≤ end = step-reach S H s end (stateEnd s a) after good in
+          let within′ = state-ends 8 S H s end (listEnd s a + stepSize) after behind .1 in
+          let reach : listEnd s a + stepSize ≤ end = step-reach S H s end (listEnd s a) after good in
           let face′ = end-copied c a b face (omega arith) in
           let face″ = facing-on face′ stepSize in
           rw (
-            place-same (stateEnd s a) (stateEnd t b) face′,
-            step-copied c (stateEnd s a) (stateEnd t b) face′ (omega arith),
+            place-same (listEnd s a) (listEnd t b) face′,
+            step-copied c (listEnd s a) (listEnd t b) face′ (omega arith),
             state-copied c a b face (omega arith),
-            state-copied c (stateEnd s a + stepSize) (stateEnd t b + stepSize) face″ (omega arith),
-            trajectory-recorded n (stateEnd s a + stepSize) (stateEnd t b + stepSize) after last face″ behind rest,
+            state-copied c (listEnd s a + stepSize) (listEnd t b + stepSize) face″ (omega arith),
+            trajectory-recorded n (listEnd s a + stepSize) (listEnd t b + stepSize) after last face″ behind rest,
           )
 
     module _ (h : Sections) where

@@ -12,7 +12,7 @@ use Rattle.terms.specs.Steps.{stepAt}
 use Rattle.limits.specs.Limits.{headSize, countSize, factSize, stepSize, relationSize, moveSize}
 use Rattle.format.specs.Header.{kindBad, relationBad, moveBad}
 use Rattle.format.specs.Records.{objectsIn, stepsIn, lengthIn}
-use Rattle.format.specs.Decode.{factsAt, stateAt, stateEnd}
+use Rattle.format.specs.Lists.{factsAt, listAt, listEnd}
 
 -- so many bytes of s from `at` on stand in t from `at′` on
 pub record Copied (s : List ℕ) (at : ℕ) (t : List ℕ) (at′ size : ℕ) : Type 0 where
@@ -84,8 +84,8 @@ module _ {s t : List ℕ} {at at′ size : ℕ} (c : Copied s at t at′ size) w
         (byte-copied a b f (omega arith), further 1 (omega arith), rw (further 2 (omega arith), byte-copied (a + 2 + 1) (b + 2 + 1) (facing-on (facing-on f 2) 1) (omega arith)))
 
     -- a state's bytes, and where they end
-    pub end-copied : stateEnd s a ≤ at + size → Facing at at′ (stateEnd s a) (stateEnd t b)
-    unfolding stateEnd
+    pub end-copied : listEnd s a ≤ at + size → Facing at at′ (listEnd s a) (listEnd t b)
+    unfolding listEnd
     end-copied l =
         let e = two-copied (omega arith) in
         record { low = omega arith; level = omega arith }
@@ -96,6 +96,6 @@ module _ {s t : List ℕ} {at at′ size : ℕ} (c : Copied s at t at′ size) w
   facts-copied (suc n) a b f l =
       rw (fact-copied a b f (omega arith), facts-copied n (a + factSize) (b + factSize) (facing-on f factSize) (omega arith))
 
-  pub state-copied : (a b : ℕ) → Facing at at′ a b → stateEnd s a ≤ at + size → stateAt t b ≡ stateAt s a
-  unfolding stateAt stateEnd
+  pub state-copied : (a b : ℕ) → Facing at at′ a b → listEnd s a ≤ at + size → listAt t b ≡ listAt s a
+  unfolding listAt listEnd
   state-copied a b f l = rw (two-copied a b f (omega arith)) (facts-copied (two s a) (a + countSize) (b + countSize) (facing-on f countSize) l)

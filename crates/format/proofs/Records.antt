@@ -19,7 +19,7 @@ use Rattle.terms.specs.Steps.{stepAt, stepBad, repeats}
 use Rattle.limits.specs.Limits.{headSize, maxObjects, maxSteps, stepSize}
 use Rattle.format.specs.States.{cut, state}
 use Rattle.format.specs.Records.{objectsIn, stepsIn, lengthIn, headBad, object, step, objectsOf, trajectory, body, recordAt, stepRefused, closed}
-use Rattle.format.specs.Decode.{stateEnd}
+use Rattle.format.specs.Lists.{listEnd}
 use Rattle.format.proofs.States.{state-within, state-ends}
 
 module _ (s : List ℕ) (at : ℕ) (good : headBad s at ≡ false) where
@@ -73,7 +73,7 @@ module _ (sch : Schema) (ob : TypedObjects) (s : List ℕ) (end : ℕ) where
 
   -- the first step after a good state stands where the state's bytes end
   pub trajectory-parted : (n at next last : ℕ) → state 8 sch ob s end at ≡ Good next → walk (step sch ob s end) (suc n) next ≡ Good last
-      → (after : ℕ) × (step sch ob s end (stateEnd s at) ≡ Good after) × (walk (step sch ob s end) n after ≡ Good last)
+      → (after : ℕ) × (step sch ob s end (listEnd s at) ≡ Good after) × (walk (step sch ob s end) n after ≡ Good last)
   trajectory-parted n at next last e w =
       let (after, good, rest) = walk-parted (step sch ob s end) n next last w in
       (after, subst (λ (x : ℕ). step sch ob s end x ≡ Good after) (state-ends 8 sch ob s end at next e .0) good, rest)

@@ -17,7 +17,7 @@ use Rattle.terms.specs.Schema.{Schema, TypedObjects}
 use Rattle.terms.specs.Facts.{factAt, factBad, precedes, noFact}
 use Rattle.limits.specs.Limits.{countSize, factSize, maxFacts}
 use Rattle.format.specs.States.{cut, countBad, factRefused, facts, state}
-use Rattle.format.specs.Decode.{stateEnd}
+use Rattle.format.specs.Lists.{listEnd}
 use Rattle.format.proofs.Chains.{Chain, chain-parted, chain-end, chain-place}
 
 module _ (sch : Schema) (ob : TypedObjects) (s : List ℕ) (end : ℕ) where
@@ -81,8 +81,8 @@ module _ (num : ℕ) (sch : Schema) (ob : TypedObjects) (s : List ℕ) (end : �
   pub state-within : (at next : ℕ) → state num sch ob s end at ≡ Good next → next ≤ end
   state-within at next e = let g = state-good at next e in facts-within num sch ob s end (two s at) noFact (at + countSize) next (g .0) (g .2)
 
-  pub state-ends : (at next : ℕ) → state num sch ob s end at ≡ Good next → (next ≡ stateEnd s at) × (stateEnd s at ≤ end)
-  unfolding stateEnd
+  pub state-ends : (at next : ℕ) → state num sch ob s end at ≡ Good next → (next ≡ listEnd s at) × (listEnd s at ≤ end)
+  unfolding listEnd
   state-ends at next e = (state-end at next e, omega (arith, state-end at next e, state-within at next e))
 
   pub state-bounded : num ≤ maxNumber → (at : ℕ) → at ≤ end → Bounded end (state num sch ob s end at)

@@ -1,25 +1,13 @@
 -- What a book of good form holds, as values: its transitions in file order. Decoding is total, and means something where looking over is good.
-use Prim.Native.Nat.{ℕ, zero, suc, _+_, _*_}
+use Prim.Native.Nat.{ℕ, zero, suc, _+_}
 use mathlib.Core.List.{List, [], _∷_, _++_}
-use Rattle.input.specs.Bytes.{two}
 use Rattle.terms.specs.declared.Sections.{Sections}
 use Rattle.terms.specs.declared.Fact.{Fact}
 use Rattle.terms.specs.declared.Step.{Step}
-use Rattle.terms.specs.Facts.{factAt}
 use Rattle.terms.specs.Steps.{stepAt}
-use Rattle.limits.specs.Limits.{countSize, headSize, factSize, stepSize}
+use Rattle.limits.specs.Limits.{headSize, stepSize}
+use Rattle.format.specs.Lists.{listAt, listEnd}
 use Rattle.format.specs.Records.{objectsIn, stepsIn, lengthIn}
-
-unfoldable pub factsAt : List ℕ → ℕ → ℕ → List Fact
-factsAt s zero at = []
-factsAt s (suc n) at = factAt s at ∷ factsAt s n (at + factSize)
-
--- what a state's bytes read as, and where they end
-unfoldable pub stateAt : List ℕ → ℕ → List Fact
-stateAt s at = factsAt s (two s at) (at + countSize)
-
-unfoldable pub stateEnd : List ℕ → ℕ → ℕ
-stateEnd s at = at + countSize + factSize * two s at
 
 -- a step as recorded, with the facts that hold before and after it (a transition), and its offset
 pub record RecordedStep : Type 0 where
@@ -31,13 +19,13 @@ pub record RecordedStep : Type 0 where
 -- the step at an offset, with the state before it at another
 unfoldable pub recordedStep : List ℕ → ℕ → ℕ → RecordedStep
 recordedStep s pre at =
-    record { place = at; step = stepAt s at; pre = stateAt s pre; post = stateAt s (at + stepSize) }
+    record { place = at; step = stepAt s at; pre = listAt s pre; post = listAt s (at + stepSize) }
 
 -- a number of steps after the state at an offset
 unfoldable pub recordedStepsAt : List ℕ → ℕ → ℕ → List RecordedStep
 recordedStepsAt s zero at = []
 recordedStepsAt s (suc n) at =
-    let place = stateEnd s at in
+    let place = listEnd s at in
     recordedStep s at place ∷ recordedStepsAt s n (place + stepSize)
 
 -- the steps of one record (trajectory)

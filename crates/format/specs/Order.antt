@@ -17,7 +17,7 @@ use Rattle.terms.specs.Facts.{factAt, factBad, precedes, noFact}
 use Rattle.terms.specs.Steps.{stepAt, stepBad, repeats}
 use Rattle.limits.specs.Limits.{headerSize, maxObjects, maxStarts, maxEntries, maxSteps, entrySize, stepSize}
 use Rattle.format.specs.States.{state}
-use Rattle.format.specs.Decode.{stateAt, stateEnd}
+use Rattle.format.specs.Lists.{listAt, listEnd}
 
 -- the header: counts of objects, starts, goal entries, steps
 unfoldable pub objectCount : List ℕ → ℕ
@@ -121,7 +121,7 @@ orderForm sch o = do
 -- what a good order holds: the starts (initial states), each as the facts that hold; the goal entries; the plan
 unfoldable pub startsFrom : List ℕ → ℕ → ℕ → List (List Fact)
 startsFrom o zero at = []
-startsFrom o (suc n) at = stateAt o at ∷ startsFrom o n (stateEnd o at)
+startsFrom o (suc n) at = listAt o at ∷ startsFrom o n (listEnd o at)
 
 unfoldable pub starts : List ℕ → List (List Fact)
 starts o = startsFrom o (startCount o) (startAt o)

@@ -13,7 +13,7 @@ use Rattle.terms.specs.declared.Binding.{Binding}
 use Rattle.terms.specs.declared.Fact.{Fact}
 use Rattle.terms.specs.Facts.{factAt}
 use Rattle.limits.specs.Limits.{factSize, nearCeiling}
-use Rattle.format.specs.Decode.{factsAt, stateAt, stateEnd}
+use Rattle.format.specs.Lists.{factsAt, listAt, listEnd}
 use Rattle.observed.specs.Inverse.{marks, unbound, sameFacts, unboundChanged}
 use Rattle.marks.specs.declared.Cursor.{Cursor}
 use Rattle.marks.specs.Marks.{pairOf, markedAs, rest, Ahead, next, Comes}
@@ -30,9 +30,9 @@ module _ (s : List ℕ) where
   facts-first zero at h = absurd (omega arith)
   facts-first (suc n) at h = rw sub-one
 
-  pub of-state-by : (at n : ℕ) → n ≡ two s at → n < 65536 → at ≤ nearCeiling → stateEnd s at ≤ length s
-      → (rest s (record { at = at + 2; left = n }) ≡ stateAt s at) × Ahead s (record { at = at + 2; left = n })
-  unfolding rest stateAt stateEnd
+  pub of-state-by : (at n : ℕ) → n ≡ two s at → n < 65536 → at ≤ nearCeiling → listEnd s at ≤ length s
+      → (rest s (record { at = at + 2; left = n }) ≡ listAt s at) × Ahead s (record { at = at + 2; left = n })
+  unfolding rest listAt listEnd
   of-state-by at n e h k l = (rw e, record { within = omega (arith, e, l); near = omega arith })
 
   pub comes-by : (c : Cursor) (f : Fact) → 0 < c .left → Ahead s c → f ≡ factAt s (c .at) → Comes s c f

@@ -12,7 +12,7 @@ use Rattle.terms.specs.declared.Binding.{Binding}
 use Rattle.terms.specs.declared.Fact.{Fact}
 use Rattle.terms.specs.Steps.{objectOf}
 use Rattle.limits.specs.Limits.{factSize, atomsPerRelation, farCeiling}
-use Rattle.format.specs.Decode.{factsAt}
+use Rattle.format.specs.Lists.{factsAt}
 use Rattle.observed.specs.Inverse.{paramOf, placeBound, factBound, marks, atomsIn, unboundChanged}
 use Rattle.marks.specs.declared.Cursor.{Cursor}
 use Rattle.marks.specs.declared.Walk.{Walk}

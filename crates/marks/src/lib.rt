@@ -6,7 +6,7 @@ ghost use mathlib.Core.List.{[]};
 ghost use lib.ListN.{length, set};
 ghost use Rattle.limits.specs.Limits.{setSize, nearCeiling, farCeiling};
 ghost use Rattle.mask.specs.Sets.{empty};
-ghost use Rattle.format.specs.Decode.{stateAt, stateEnd};
+ghost use Rattle.format.specs.Lists.{listAt, listEnd};
 ghost use Rattle.observed.specs.Inverse.{marks, sameFact, unboundChanged};
 ghost use Rattle.marks.specs.Marks.{noDigits, givenEach, Inverts, placesOf, pairOf, markedAs, rest, next, Ahead, Comes, Turned, StepMarked};
 use terms::Binding;
@@ -122,8 +122,8 @@ struct Cursor {
 
 impl Cursor {
     fn of_state(s: &[u8], at: usize) -> Cursor
-        requires { ⌜ (at ≤ nearCeiling) × (stateEnd (now s) at ≤ length (now s)) ⌝ }
-        ensures { λ r. ⌜ (rest (now (s .entry)) r ≡ stateAt (now (s .entry)) at) × Ahead (now (s .entry)) r ⌝ }
+        requires { ⌜ (at ≤ nearCeiling) × (listEnd (now s) at ≤ length (now s)) ⌝ }
+        ensures { λ r. ⌜ (rest (now (s .entry)) r ≡ listAt (now (s .entry)) at) × Ahead (now (s .entry)) r ⌝ }
     {
         Cursor {
             at: at + limits::COUNT_SIZE,
@@ -229,10 +229,10 @@ pub fn mark_step(
     before: &mut [u8],
     after: &mut [u8],
 ) -> bool
-    requires { ⌜ (pre ≤ nearCeiling) × (post ≤ nearCeiling) × (stateEnd (now s) pre ≤ length (now s)) × (stateEnd (now s) post ≤ length (now s)) ⌝ }
+    requires { ⌜ (pre ≤ nearCeiling) × (post ≤ nearCeiling) × (listEnd (now s) pre ≤ length (now s)) × (listEnd (now s) post ≤ length (now s)) ⌝ }
     requires { ⌜ (now t ≡ noDigits) × (now before ≡ empty setSize) × (now after ≡ empty setSize) ⌝ }
     ensures { λ _. ⌜ now (t .exit) ≡ noDigits ⌝ }
-    ensures { λ r. ⌜ StepMarked (now (atoms .entry)) b (stateAt (now (s .entry)) pre) (stateAt (now (s .entry)) post) (now (before .exit)) (now (after .exit)) r ⌝ }
+    ensures { λ r. ⌜ StepMarked (now (atoms .entry)) b (listAt (now (s .entry)) pre) (listAt (now (s .entry)) post) (now (before .exit)) (now (after .exit)) r ⌝ }
 {
     invert(t, b);
     let mut w = Walk {

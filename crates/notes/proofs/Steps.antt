@@ -8,7 +8,8 @@ use borrow.Rule.Slice.PartMut.{midOf}
 use Rattle.terms.specs.declared.Step.{Step}
 use Rattle.terms.specs.Steps.{stepAt}
 use Rattle.limits.specs.Limits.{stepSize}
-use Rattle.format.specs.Decode.{stateAt, recordedStep}
+use Rattle.format.specs.Lists.{listAt}
+use Rattle.format.specs.Decode.{recordedStep}
 use Rattle.observed.specs.Observed.{bound, setAt, observedSet, noted, observeBy, observe, firstNamed}
 use Rattle.marks.specs.Marks.{StepMarked}
 use Rattle.notes.specs.Notes.{observedStep, IsObserved}
@@ -23,7 +24,7 @@ bound-part l a at e =
 pub observed-by : (s : List ℕ) (pre at : ℕ) (masks : List ℕ) (named : ℕ) (step : Step) (atoms before after new : List ℕ) (unbound : Bool) (offset : ℕ)
     → step ≡ stepAt s at
     → atoms ≡ observedSet masks (step .action .0) bound
-    → StepMarked atoms (step .binding) (stateAt s pre) (stateAt s (at + stepSize)) before after unbound
+    → StepMarked atoms (step .binding) (listAt s pre) (listAt s (at + stepSize)) before after unbound
     → new ≡ noted (step .action .0) before after masks
     → offset ≡ firstNamed named unbound at
     → IsObserved (observedStep s pre at masks named) new offset

@@ -8,7 +8,7 @@ ghost use Rattle.limits.specs.Limits.{maxLength, maxMoves, stepSize, setSize, o
 ghost use Rattle.mask.specs.Sets.{difference, empty};
 ghost use Rattle.terms.specs.Schema.{schema};
 ghost use Rattle.terms.specs.Steps.{stepAt};
-ghost use Rattle.format.specs.Decode.{stateEnd};
+ghost use Rattle.format.specs.Lists.{listEnd};
 ghost use Rattle.observed.specs.Observed.{noted, nothingSeen, firstNamed};
 ghost use Rattle.marks.specs.Marks.{noDigits};
 ghost use Rattle.notes.specs.Notes.{narrowed, widened, observedStep, IsObserved, firstSets};
@@ -94,7 +94,7 @@ pub fn observe(
 ) -> usize
     requires { ⌜ (pre ≤ maxLength) × (at ≤ maxLength) × (length (now observed) ≡ observedSize) × (now t ≡ noDigits) ⌝ }
     requires { ⌜ (1 ≤ stepAt (now s) at .action .0) × (stepAt (now s) at .action .0 ≤ maxMoves) ⌝ }
-    requires { ⌜ (stateEnd (now s) pre ≤ length (now s)) × (stateEnd (now s) (at + stepSize) ≤ length (now s)) ⌝ }
+    requires { ⌜ (listEnd (now s) pre ≤ length (now s)) × (listEnd (now s) (at + stepSize) ≤ length (now s)) ⌝ }
     ensures { λ _. ⌜ now (t .exit) ≡ noDigits ⌝ }
     ensures { λ r. ⌜ IsObserved (observedStep (now (s .entry)) pre at (now (observed .entry)) named) (now (observed .exit)) r ⌝ }
 {

@@ -6,7 +6,8 @@ use mathlib.Core.List.{List}
 use Rattle.answer.specs.declared.Answer.the-variants.{Good}
 use Rattle.limits.specs.Limits.{stepSize}
 use Rattle.format.specs.LookOver.{lookOver}
-use Rattle.format.specs.Decode.{RecordedStep, stateEnd, recordedStepsAt, stepsOfRecord, recordedStep}
+use Rattle.format.specs.Lists.{listEnd}
+use Rattle.format.specs.Decode.{RecordedStep, recordedStepsAt, stepsOfRecord, recordedStep}
 use Rattle.model.specs.Quantify.{Mem, here, there}
 use Rattle.jobs.specs.Planning.{schemaOf, stepsOfBook}
 use Rattle.observed.specs.Observed.{observeAll, nothingSeen}
@@ -21,9 +22,9 @@ use Rattle.observedright.proofs.UnboundEffects.{unbound-changed-right}
 
 -- ---- a step stands after a state, so not at 0
 steps-placed : (s : List ℕ) (n at : ℕ) {f : RecordedStep} → Mem f (recordedStepsAt s n at) → 1 ≤ f .place
-unfolding recordedStepsAt recordedStep stateEnd
+unfolding recordedStepsAt recordedStep listEnd
 steps-placed s (suc n) at here = omega arith
-steps-placed s (suc n) at (there m) = steps-placed s n (stateEnd s at + stepSize) m
+steps-placed s (suc n) at (there m) = steps-placed s n (listEnd s at + stepSize) m
 
 module _ (s : List ℕ) (n : ℕ) (good : lookOver s ≡ Good n) where
   -- Every step that is recorded in a book of good form is faithful.

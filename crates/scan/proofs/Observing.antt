@@ -16,7 +16,8 @@ use Rattle.limits.specs.Limits.{maxLength, maxMoves, headSize, stepSize}
 use Rattle.format.specs.States.{state}
 use Rattle.format.specs.LookOver.{allRecords}
 use Rattle.format.specs.Records.{objectsIn, stepsIn, lengthIn, step, recordAt}
-use Rattle.format.specs.Decode.{stateEnd, recordedStepsAt, stepsOfRecord, stepsOfRecords}
+use Rattle.format.specs.Lists.{listEnd}
+use Rattle.format.specs.Decode.{recordedStepsAt, stepsOfRecord, stepsOfRecords}
 use Rattle.format.proofs.States.{state-within, state-end, state-ends}
 use Rattle.format.proofs.Records.{head-limits, step-good, step-reach, trajectory-parted, record-good}
 use Rattle.records.specs.declared.Head.{Head}
@@ -35,10 +36,10 @@ unfolding Observable
 observable-steps sch ob s end short long few zero at mid last l e f = (l, omega (arith, state-ends 8 sch ob s end at mid e))
 observable-steps sch ob s end short long few (suc n) at mid last l e f =
     let (after, good, rest) = trajectory-parted sch ob s end n at mid last e f in
-    let (suits, different, behind) = step-good sch ob s end (stateEnd s at) after good in
-    let k = move-there sch ob (stepAt s (stateEnd s at)) suits in
-    let reach = step-reach sch ob s end (stateEnd s at) after good in
-    (l, omega arith, omega arith, k .0, omega arith, observable-steps sch ob s end short long few n (stateEnd s at + stepSize) after last (omega arith) behind rest)
+    let (suits, different, behind) = step-good sch ob s end (listEnd s at) after good in
+    let k = move-there sch ob (stepAt s (listEnd s at)) suits in
+    let reach = step-reach sch ob s end (listEnd s at) after good in
+    (l, omega arith, omega arith, k .0, omega arith, observable-steps sch ob s end short long few n (listEnd s at + stepSize) after last (omega arith) behind rest)
 
 module _ (h : Sections) (s : List ℕ) (long : length s ≤ maxLength) (few : h .moves .count ≤ maxMoves) where
   pub record-observable : (at next : ℕ) → recordAt h s at ≡ Good next → Observable s (stepsIn s at) (at + headSize + objectsIn s at)

@@ -7,7 +7,8 @@ use native.Mathlib.Omega.{arith}
 use lib.ListN.{length}
 use Rattle.terms.specs.Steps.{stepAt}
 use Rattle.limits.specs.Limits.{maxLength, maxMoves, stepSize}
-use Rattle.format.specs.Decode.{stateEnd, recordedStepsAt}
+use Rattle.format.specs.Lists.{listEnd}
+use Rattle.format.specs.Decode.{recordedStepsAt}
 use Rattle.observed.specs.Observed.{Observed, observeAll}
 use Rattle.notes.specs.Notes.{IsObserved, observedStep}
 use Rattle.scan.specs.Scan.{Observable}
@@ -22,7 +23,7 @@ module _ (s : List ℕ) (whole : Observed) where
   -- one step more
   pub step-turn : (n at mid : ℕ) (masks masks′ : List ℕ) (named named′ : ℕ)
       → 0 < n
-      → mid ≡ stateEnd s at
+      → mid ≡ listEnd s at
       → IsObserved (observedStep s at mid masks named) masks′ named′
       → observeAll (recordedStepsAt s n at) (observedAs masks named) ≡ whole
       → observeAll (recordedStepsAt s (n - 1) (mid + stepSize)) (observedAs masks′ named′) ≡ whole
@@ -39,13 +40,13 @@ module _ (s : List ℕ) (whole : Observed) where
       let j = rw e at i in
       record { masks = ap (λ h. h .masks) j; named = ap (λ h. h .named) j }
 
-pub observable-at : (s : List ℕ) (n at : ℕ) → Observable s n at → (at ≤ maxLength) × (stateEnd s at ≤ length s)
+pub observable-at : (s : List ℕ) (n at : ℕ) → Observable s n at → (at ≤ maxLength) × (listEnd s at ≤ length s)
 unfolding Observable
 observable-at s zero at h = h
 observable-at s (suc n) at h = (h .0, h .1)
 
 -- what the next step of a noteable record is
-pub observable-next : (s : List ℕ) (n at mid : ℕ) → 0 < n → mid ≡ stateEnd s at → Observable s n at
+pub observable-next : (s : List ℕ) (n at mid : ℕ) → 0 < n → mid ≡ listEnd s at → Observable s n at
     → (mid ≤ maxLength) × (1 ≤ stepAt s mid .action .0) × (stepAt s mid .action .0 ≤ maxMoves) × Observable s (n - 1) (mid + stepSize)
 unfolding Observable
 observable-next s zero at mid h e i = absurd (omega arith)

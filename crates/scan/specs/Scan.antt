@@ -9,21 +9,22 @@ use Rattle.terms.specs.declared.Sections.{Sections}
 use Rattle.terms.specs.Steps.{stepAt}
 use Rattle.limits.specs.Limits.{maxLength, maxMoves, stepSize}
 use Rattle.format.specs.LookOver.{allRecords}
-use Rattle.format.specs.Decode.{stateEnd, stepsOfRecords}
+use Rattle.format.specs.Lists.{listEnd}
+use Rattle.format.specs.Decode.{stepsOfRecords}
 use Rattle.observed.specs.Observed.{Observed, observeAll}
 use Rattle.notes.specs.Notes.{IsObserved}
 use Rattle.scan.specs.declared.Walked.{Walked}
 
 -- a state and a number of steps after it lie within a book, each step of a move that there may be
 unfoldable pub Observable : List ℕ → ℕ → ℕ → Type 0
-Observable s zero at = (at ≤ maxLength) × (stateEnd s at ≤ length s)
+Observable s zero at = (at ≤ maxLength) × (listEnd s at ≤ length s)
 Observable s (suc n) at =
     (at ≤ maxLength)
-    × (stateEnd s at ≤ length s)
-    × (stateEnd s at ≤ maxLength)
-    × (1 ≤ stepAt s (stateEnd s at) .action .0)
-    × (stepAt s (stateEnd s at) .action .0 ≤ maxMoves)
-    × Observable s n (stateEnd s at + stepSize)
+    × (listEnd s at ≤ length s)
+    × (listEnd s at ≤ maxLength)
+    × (1 ≤ stepAt s (listEnd s at) .action .0)
+    × (stepAt s (listEnd s at) .action .0 ≤ maxMoves)
+    × Observable s n (listEnd s at + stepSize)
 
 -- a number of records walked, each looked over: the answer and, where steps were observed and it is good, what is observed
 pub record RecordsScanned (h : Sections) (s : List ℕ) (n from : ℕ) (observing : Bool) (before : Observed) (bytes : List ℕ) (w : Walked) : Type 0 where

@@ -31,7 +31,7 @@ fn observe_steps(s: &[u8], n: usize, from: usize, observed: &mut [u8], named: us
     let mut first = named;
     let mut t = marks::no_digits();
     while 0 < left {
-        let step = states::state_end(s, at);
+        let step = states::list_end(s, at);
         first = notes::observe(s, at, step, &mut t, observed, first);
         at = step + limits::STEP_SIZE;
         left -= 1;

@@ -11,7 +11,7 @@ ghost use Rattle.input.specs.Bytes.{two};
 ghost use Rattle.terms.specs.Facts.{noFact};
 ghost use Rattle.terms.specs.Told.{factKey};
 ghost use Rattle.format.specs.States.{countBad, facts, state};
-ghost use Rattle.format.specs.Decode.{stateEnd};
+ghost use Rattle.format.specs.Lists.{listEnd};
 ghost use Rattle.tables.specs.Tables.{ForRightByPlace};
 ghost use Rattle.states.specs.Cursor.{Ahead, factOf, misplaced};
 
@@ -118,9 +118,9 @@ fn count(s: &[u8], at: usize) -> u16
 }
 
 // Where a state ends, whether it is good or not.
-pub fn state_end(s: &[u8], at: usize) -> usize
+pub fn list_end(s: &[u8], at: usize) -> usize
     requires { ⌜ at ≤ maxLength ⌝ }
-    ensures { λ r. ⌜ (r ≡ stateEnd (now (s .entry)) at) × (r ≤ nearCeiling) ⌝ }
+    ensures { λ r. ⌜ (r ≡ listEnd (now (s .entry)) at) × (r ≤ nearCeiling) ⌝ }
 {
     at + limits::COUNT_SIZE + limits::FACT_SIZE * input::two_at(s, at) as usize
 }

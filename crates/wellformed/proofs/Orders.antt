@@ -16,7 +16,7 @@ use Rattle.terms.specs.Facts.{factAt, factBad, noFact}
 use Rattle.terms.specs.Steps.{stepAt, stepBad, repeats, isAtom}
 use Rattle.limits.specs.Limits.{maxObjects, entrySize, stepSize}
 use Rattle.format.specs.States.{state}
-use Rattle.format.specs.Decode.{stateEnd}
+use Rattle.format.specs.Lists.{listEnd}
 use Rattle.format.specs.Order.{GoalEntry, startCount, goalCount, stepCount, startAt, goalAt, stepsAt, orderObjects, entries, planStep, orderForm, startsFrom, starts, goalFrom, goal, planFrom, plan, entryAt, planStepBad}
 use Rattle.format.proofs.Chains.{chain-parted}
 use Rattle.format.proofs.States.{state-ends}
@@ -58,7 +58,7 @@ module _ (sch : Schema) (ob : TypedObjects) (typed : RightObjects sch ob) (o : L
   starts-right end (suc n) at last e fs (there m) =
       let (next, good, rest) = walk-parted (state 16 sch ob o end) n at last e in
       let place = state-ends 16 sch ob o end at next good .0 in
-      starts-right end n (stateEnd o at) last (subst (λ (x : ℕ). walk (state 16 sch ob o end) n x ≡ Good last) place rest) fs m
+      starts-right end n (listEnd o at) last (subst (λ (x : ℕ). walk (state 16 sch ob o end) n x ≡ Good last) place rest) fs m
 
   -- the facts of good goal entries suit
   goal-right : (n : ℕ) (last : Fact) (at next : ℕ) → entries sch ob o n last at ≡ Good next
@@ -81,7 +81,7 @@ length-plan o = length-plan-from o (stepCount o) (stepsAt o)
 length-starts-from : (o : List ℕ) (n at : ℕ) → length (startsFrom o n at) ≡ n
 unfolding startsFrom
 length-starts-from o zero at = refl
-length-starts-from o (suc n) at = ap suc (length-starts-from o n (stateEnd o at))
+length-starts-from o (suc n) at = ap suc (length-starts-from o n (listEnd o at))
 
 -- and it has as many starts
 pub length-starts : (o : List ℕ) → length (starts o) ≡ startCount o

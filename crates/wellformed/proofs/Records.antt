@@ -16,7 +16,8 @@ use Rattle.limits.specs.Limits.{headSize, stepSize, maxObjects}
 use Rattle.format.specs.States.{state}
 use Rattle.format.specs.Records.{objectsIn, stepsIn, lengthIn, step, objectsOf, recordAt}
 use Rattle.format.specs.LookOver.{lookOver}
-use Rattle.format.specs.Decode.{RecordedStep, stateEnd, recordedStepsAt, stepsOfRecord, stepsOfRecords, recordedSteps, recordedStep}
+use Rattle.format.specs.Lists.{listEnd}
+use Rattle.format.specs.Decode.{RecordedStep, recordedStepsAt, stepsOfRecord, stepsOfRecords, recordedSteps, recordedStep}
 use Rattle.format.proofs.Records.{head-objects, step-good, trajectory-parted, record-good}
 use Rattle.format.proofs.Typing.{schema-right, objects-known}
 use Rattle.format.proofs.LookOver.{look-over-good}
@@ -39,11 +40,11 @@ module _ (sch : Schema) (ob : TypedObjects) (typed : RightObjects sch ob) (s : L
   unfolding recordedStepsAt recordedStep
   trajectory-right (suc n) at next last e w f here =
       let (after, good, rest) = trajectory-parted sch ob s end n at next last e w in
-      let (right, behind) = step-parted (stateEnd s at) after good in
-      record { step = right; pre = state-right 8 sch ob s end at next e; post = state-right 8 sch ob s end (stateEnd s at + stepSize) after behind }
+      let (right, behind) = step-parted (listEnd s at) after good in
+      record { step = right; pre = state-right 8 sch ob s end at next e; post = state-right 8 sch ob s end (listEnd s at + stepSize) after behind }
   trajectory-right (suc n) at next last e w f (there m) =
       let (after, good, rest) = trajectory-parted sch ob s end n at next last e w in
-      trajectory-right n (stateEnd s at + stepSize) after last (step-parted (stateEnd s at) after good .1) rest f m
+      trajectory-right n (listEnd s at + stepSize) after last (step-parted (listEnd s at) after good .1) rest f m
 
 module _ (h : Sections) (s : List ℕ) (fall : Falling (schema h s)) where
   -- A record of good form ends where its length says, has at most 16 objects, and every step recorded in it is right over them.

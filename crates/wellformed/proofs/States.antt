@@ -12,7 +12,7 @@ use Rattle.terms.specs.Schema.{Schema, TypedObjects}
 use Rattle.terms.specs.Facts.{factAt, factBad, precedes, noFact}
 use Rattle.limits.specs.Limits.{factSize}
 use Rattle.format.specs.States.{facts, state}
-use Rattle.format.specs.Decode.{factsAt, stateAt}
+use Rattle.format.specs.Lists.{factsAt, listAt}
 use Rattle.format.proofs.Chains.{chain-parted}
 use Rattle.format.proofs.States.{fact-good, facts-chain, state-good}
 use Rattle.model.specs.Quantify.{Mem, here, there}
@@ -48,8 +48,8 @@ module _ (num : ℕ) (sch : Schema) (ob : TypedObjects) (s : List ℕ) (end : �
       (order, facts-increase n (factAt s at) (at + factSize) next rest)
 
 -- A state of good form is right.
-pub state-right : (num : ℕ) (sch : Schema) (ob : TypedObjects) (s : List ℕ) (end at next : ℕ) → state num sch ob s end at ≡ Good next → RightState sch ob (stateAt s at)
-unfolding stateAt
+pub state-right : (num : ℕ) (sch : Schema) (ob : TypedObjects) (s : List ℕ) (end at next : ℕ) → state num sch ob s end at ≡ Good next → RightState sch ob (listAt s at)
+unfolding listAt
 state-right num sch ob s end at next good =
     let (reach, few, rest) = state-good num sch ob s end at next good in
     record {

@@ -4,7 +4,7 @@ use mathlib.Core.Path.{_≡_}
 use native.Mathlib.Omega.{arith}
 use Rattle.limits.specs.Limits.{maxTwo}
 use Rattle.terms.specs.Schema.{schema}
-use Rattle.format.specs.Decode.{stateEnd}
+use Rattle.format.specs.Lists.{listEnd}
 use Rattle.format.specs.Order.{stepCount, startsFrom}
 use Rattle.jobs.specs.Check.{firstFailing}
 use Rattle.checker.specs.Checker.{answerFrom, StartsGood, answerEach}
@@ -40,9 +40,9 @@ returns c =
     let t = a .before in
     each-fails _ _ _ _ _ _ _ _ (t .before .loop .inv .2) (t .loop-test .taken) (a .run-start .ensures) (c .before .is-refused .ensures) (c .if1 .taken)
 
-state-end-requires : tie.Need-state-end-requires Inv-loop μ-loop
-unfolding stateEnd
-state-end-requires c κs =
+list-end-requires : tie.Need-list-end-requires Inv-loop μ-loop
+unfolding listEnd
+list-end-requires c κs =
     let t = c .before .before .before in
     let w = next-start _ _ _ (t .before .loop .inv .0) (t .loop-test .taken) in
     omega (arith, w .0)
@@ -52,7 +52,7 @@ loop-again c =
     let i = c .before in
     let a = i .before .before in
     let t = a .before in
-    let e = c .state-end .ensures .0 in
+    let e = c .list-end .ensures .0 in
     let w = next-start _ _ _ (t .before .loop .inv .0) (t .loop-test .taken) in
     (rw e (w .2), omega arith, rw e (each-goes _ _ _ _ _ _ _ _ (t .before .loop .inv .2) (t .loop-test .taken) (a .run-start .ensures) (i .before .is-refused .ensures) (i .if1 .left)))
 
@@ -60,4 +60,4 @@ returns-2 : tie.Need-returns-2 Inv-loop μ-loop
 returns-2 c = each-ends _ _ _ _ _ _ _ _ (c .before .before .before .loop .inv .2) (omega arith) (c .before .step-count .ensures) (c .unpositioned .ensures)
 
 pub run-each-spec : {M : Type 1} → statement M
-run-each-spec = tie.close (tie.spec Inv-loop μ-loop (λ c κs. search needs) (λ c κs. search needs) loop-holds run-start-requires (λ c κs. search needs) returns state-end-requires (λ c. search needs) (λ c. search needs) (λ c. search needs) loop-again (λ c κs. search needs) (λ c. search needs) (λ c κs. search needs) returns-2)
+run-each-spec = tie.close (tie.spec Inv-loop μ-loop (λ c κs. search needs) (λ c κs. search needs) loop-holds run-start-requires (λ c κs. search needs) returns list-end-requires (λ c. search needs) (λ c. search needs) (λ c. search needs) loop-again (λ c κs. search needs) (λ c. search needs) (λ c κs. search needs) returns-2)

@@ -1,21 +1,21 @@
 -- `checker::start_of` meets its contract: the facts of the start as its count says.
 use native.Mathlib.Omega.{arith}
-use Rattle.format.specs.Decode.{stateEnd}
+use Rattle.format.specs.Lists.{listEnd}
 use Rattle.checker.proofs.Rows.{start-by}
 use borrow.Author.Needs.{needs}
 use Rattle.checker.proofs.start_of.Statement.{statement}
 use Rattle.checker.proofs.start_of.Tie as tie
 
 two-at-requires : tie.Need-two-at-requires
-unfolding stateEnd
+unfolding listEnd
 two-at-requires c κs = omega arith
 
 add-start-mask : tie.Need-add-start-mask
-unfolding stateEnd
+unfolding listEnd
 add-start-mask c = omega arith
 
 start-mask-requires : tie.Need-start-mask-requires
-unfolding stateEnd
+unfolding listEnd
 start-mask-requires c κs = (omega arith, omega arith)
 
 pub start-of-spec : {M : Type 1} → statement M

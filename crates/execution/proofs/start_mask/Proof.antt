@@ -5,7 +5,7 @@ use mathlib.Core.Path.{_≡_, sym, _∙_}
 use borrow.Author.Needs.{needs}
 use lib.ListN.{length}
 use Rattle.limits.specs.Limits.{factSize, farCeiling}
-use Rattle.format.specs.Decode.{factsAt}
+use Rattle.format.specs.Lists.{factsAt}
 use Rattle.statemask.specs.Statemask.{withFacts, startMask}
 use Rattle.execution.proofs.Start.{facts-none, facts-more}
 use Rattle.execution.proofs.start_mask.Statement.{statement}

@@ -2,7 +2,7 @@
 use mathlib.Core.Path.{_≡_, refl, sym, ap, _∙_}
 use lib.ListN.{length}
 use borrow.Author.Needs.{needs}
-use Rattle.format.specs.Decode.{stateAt}
+use Rattle.format.specs.Lists.{listAt}
 use Rattle.marks.specs.Marks.{Inverts, toCome}
 use Rattle.marks.proofs.Steps.{both-left, Stands, stands-first, stands-next, stands-end}
 use Rattle.marks.proofs.mark_step.Statement.{statement}
@@ -10,7 +10,7 @@ use Rattle.marks.proofs.mark_step.Tie as tie
 
 abbrev Inv-loop : tie.InvT-loop
 Inv-loop s t atoms b pre post before₀ after₀ w₀ before after w =
-    Stands s atoms b (stateAt s pre) (stateAt s post) w before after × Inverts b t × (length before ≡ length before₀) × (length after ≡ length after₀)
+    Stands s atoms b (listAt s pre) (listAt s post) w before after × Inverts b t × (length before ≡ length before₀) × (length after ≡ length after₀)
 
 abbrev μ-loop : tie.MeasureT-loop
 μ-loop s t atoms b pre post before₀ after₀ w₀ before after w = toCome w

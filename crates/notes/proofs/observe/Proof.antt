@@ -3,7 +3,7 @@ use mathlib.Core.Path.{ap}
 use native.Mathlib.Omega.{arith}
 use borrow.Author.Needs.{needs}
 use Rattle.terms.specs.declared.Step.{Step}
-use Rattle.format.specs.Decode.{stateEnd}
+use Rattle.format.specs.Lists.{listEnd}
 use Rattle.notes.proofs.Steps.{bound-part, observed-by}
 use Rattle.notes.proofs.observe.Statement.{statement}
 use Rattle.notes.proofs.observe.Tie as tie
@@ -14,7 +14,7 @@ set-at-requires c κs =
     (omega arith, omega arith, omega arith)
 
 mark-step-requires : tie.Need-mark-step-requires
-unfolding stateEnd
+unfolding listEnd
 mark-step-requires c κs =
     let p = c .before .before .before .before .before .before .before .before .before .before .before .before .pre in
     ((omega arith, omega arith, p .1 .1 .0, p .1 .1 .1), (p .0 .3, c .before .before .before .before .before .before .empty32 .ensures, c .before .before .before .before .before .empty322 .ensures))
@@ -37,7 +37,7 @@ returns c =
     )
 
 pub observe-spec : {M : Type 1} → statement M
-unfolding stateEnd
+unfolding listEnd
 observe-spec =
     tie.close
     (tie.spec

@@ -28,13 +28,13 @@ loop-holds c =
     let p = c .before .before .before .pre in
     (p .0, p .1, refl, c .no-digits .ensures)
 
-state-end-requires : tie.Need-state-end-requires Inv-loop μ-loop
-state-end-requires c κs = observable-at _ _ _ (c .before .loop .inv .1) .0
+list-end-requires : tie.Need-list-end-requires Inv-loop μ-loop
+list-end-requires c κs = observable-at _ _ _ (c .before .loop .inv .1) .0
 
 observe-requires : tie.Need-observe-requires Inv-loop μ-loop
 observe-requires c κs =
     let d = c .before .before .before in
-    let m = observable-next _ _ _ _ (d .loop-test .taken) (c .before .before .state-end .ensures .0) (d .before .loop .inv .1) in
+    let m = observable-next _ _ _ _ (d .loop-test .taken) (c .before .before .list-end .ensures .0) (d .before .loop .inv .1) in
     let a = observable-at _ _ _ (d .before .loop .inv .1) in
     ((omega arith, omega (arith, m .0), d .before .loop .inv .0, d .before .loop .inv .3), ((m .1, m .2), (a .1, observable-at _ _ _ (m .3) .1)))
 
@@ -43,7 +43,7 @@ loop-again c =
     let o = c .before .before .before in
     let d = o .before .before .before .before in
     let i = d .before .loop .inv in
-    let e = o .before .before .before .state-end .ensures .0 in (
+    let e = o .before .before .before .list-end .ensures .0 in (
       o .observe .kept .1 .1 .1 .1 .0 ∙ i .0,
       observable-next _ _ _ _ (d .loop-test .taken) e (i .1) .3,
       step-turn _ _ _ _ _ _ _ _ _ (d .loop-test .taken) e (o .observe .ensures .1) (i .2),
@@ -56,5 +56,5 @@ returns c = steps-done _ _ _ _ _ _ (omega arith) (c .before .loop .inv .2)
 pub observe-steps-spec : {M : Type 1} → statement M
 observe-steps-spec =
     tie.close
-    (tie.spec Inv-loop μ-loop (λ c κs. search needs) loop-holds state-end-requires (λ c. sym (digits-long _ (c .before .before .before .loop .inv .3))) observe-requires (λ c. search needs) (λ c. search needs)
+    (tie.spec Inv-loop μ-loop (λ c κs. search needs) loop-holds list-end-requires (λ c. sym (digits-long _ (c .before .before .before .loop .inv .3))) observe-requires (λ c. search needs) (λ c. search needs)
     (λ c. search needs) loop-again (λ c. search needs) returns)
