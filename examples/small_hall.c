@@ -1,6 +1,7 @@
 /*
  * The small hall of the paper from C: its book is looked over, its rules are
- * learned and printed, a plan is checked, a record is added.
+ * learned and printed, a plan is checked, a record is added, and the book is
+ * converted to a short one, learned from in that form, and converted back.
  */
 #include "changeover.h"
 
@@ -21,7 +22,7 @@ static const uint8_t hall[58] = {
     1, 1, 2, 3, 0,                                      /* roll 1 from 2 to 3 */
     0, 2, 1, 1, 3, 2, 2, 0,                             /* bank at 3, spot 2 clear */
 };
-enum { RECORD_AT = 30, RECORD_LEN = sizeof hall - RECORD_AT };
+enum { RECORD_AT = 30, RECORD_LEN = sizeof hall - RECORD_AT, STATE_AFTER_AT = 50 };
 
 static const uint8_t order[45] = {
     0, 4, 0, 1, 0, 1, 0, 2, 0, 16, 0, 20, 0, 31, 0, 35, /* counts, offsets */
@@ -80,11 +81,10 @@ static void print_rules(const uint8_t *book, const uint8_t *sheet, unsigned numb
     }
 }
 
-static int learn(void)
+static int learn(uint8_t *sheet)
 {
-    uint8_t sheet[CHANGEOVER_SHEET_MAX];
     size_t sheet_len = changeover_sheet_len(hall, sizeof hall);
-    uint64_t answer = changeover_learn(hall, sizeof hall, sheet, sheet_len);
+    uint64_t answer = changeover_learn(hall, sizeof hall, CHANGEOVER_FULL, sheet, sheet_len);
 
     if (!show("learn", answer))
         return 0;
@@ -99,8 +99,8 @@ static int check(void)
 {
     uint8_t end[CHANGEOVER_END_LEN];
 
-    if (!show("check",
-              changeover_check(hall, sizeof hall, order, sizeof order, end, sizeof end)))
+    if (!show("check", changeover_check(hall, sizeof hall, CHANGEOVER_FULL, order, sizeof order,
+                                        end, sizeof end)))
         return 0;
     for (unsigned spot = 2; spot <= 4; spot++) {
         if (changeover_in_end(end, 1, 1, spot))
@@ -121,19 +121,69 @@ static int add(void)
     memcpy(before, hall, sizeof before);
     before[7] = 0;
     before[15] = RECORD_AT;
-    if (!show("add", changeover_add(before, sizeof before, record, RECORD_LEN, out, sizeof out)))
+    if (!show("add", changeover_add(before, sizeof before, CHANGEOVER_FULL, record, RECORD_LEN,
+                                    out, sizeof out)))
         return 0;
     same = memcmp(out, hall, sizeof hall) == 0;
     printf("the new book is %s\n", same ? "the small hall" : "another");
     return same;
 }
 
+/* The state after the step, which in a short book is the list of facts that turn. */
+static void print_turned(const uint8_t *book)
+{
+    const uint8_t *list = book + STATE_AFTER_AT;
+    unsigned count = (unsigned)list[0] << 8 | list[1];
+
+    for (unsigned i = 0; i < count; i++) {
+        const uint8_t *fact = list + 2 + 3 * i;
+
+        printf("%s", i == 0 ? "facts that turn: " : ", ");
+        if (fact[0] == 1)
+            printf("bank at %u", fact[2]);
+        else
+            printf("spot %u clear", fact[1]);
+    }
+    printf("\n");
+}
+
+/*
+ * More facts turn with the step than hold after it, so the short book of this
+ * hall is the longer one. An output of CHANGEOVER_BOOK_MAX bytes is enough for
+ * any book, and the place says how many of them it takes.
+ */
+static int convert(const uint8_t *sheet)
+{
+    static uint8_t short_hall[CHANGEOVER_BOOK_MAX], back[CHANGEOVER_BOOK_MAX];
+    uint8_t short_sheet[CHANGEOVER_SHEET_MAX];
+    size_t sheet_len = changeover_sheet_len(hall, sizeof hall), len;
+    uint64_t answer = changeover_to_short(hall, sizeof hall, short_hall, sizeof short_hall);
+    int same_sheet, same_book;
+
+    if (!show("to short", answer))
+        return 0;
+    len = changeover_place(answer);
+    print_turned(short_hall);
+    if (!show("learn, short",
+              changeover_learn(short_hall, len, CHANGEOVER_SHORT, short_sheet, sheet_len)))
+        return 0;
+    same_sheet = memcmp(short_sheet, sheet, sheet_len) == 0;
+    printf("the rule sheet is %s\n", same_sheet ? "the same" : "another");
+    answer = changeover_to_full(short_hall, len, back, sizeof back);
+    if (!show("to full", answer))
+        return 0;
+    same_book = changeover_place(answer) == sizeof hall && memcmp(back, hall, sizeof hall) == 0;
+    printf("the book is %s\n", same_book ? "the small hall again" : "another");
+    return same_sheet && same_book;
+}
+
 int main(void)
 {
-    int good = show("look over", changeover_look_over(hall, sizeof hall)) && learn() &&
-               check() && add();
+    uint8_t sheet[CHANGEOVER_SHEET_MAX];
+    int good = show("look over", changeover_look_over(hall, sizeof hall, CHANGEOVER_FULL)) &&
+               learn(sheet) && check() && add() && convert(sheet);
 
-    show("look over, cut to 15 bytes", changeover_look_over(hall, 15));
-    show("look over, nothing", changeover_look_over(NULL, 0));
+    show("look over, cut to 15 bytes", changeover_look_over(hall, 15, CHANGEOVER_FULL));
+    show("look over, nothing", changeover_look_over(NULL, 0, CHANGEOVER_FULL));
     return good ? 0 : 1;
 }

@@ -74,9 +74,10 @@ static int learn(const struct bytes *book, size_t count, uint32_t steps, uint8_t
     printf("book of %u bytes, %" PRIu32 " steps\n", (unsigned)book->len, steps);
     for (size_t i = 0; i < count; i++)
         printf("    record %u: %s\n", (unsigned)(i + 1), records[i].words);
-    return expect(changeover_look_over(book->at, book->len), CHANGEOVER_SUCCESS, steps, 0) &&
-           expect(changeover_learn(book->at, book->len, sheet, sheet_len), CHANGEOVER_SUCCESS,
-                  steps, 0);
+    return expect(changeover_look_over(book->at, book->len, CHANGEOVER_FULL), CHANGEOVER_SUCCESS,
+                  steps, 0) &&
+           expect(changeover_learn(book->at, book->len, CHANGEOVER_FULL, sheet, sheet_len),
+                  CHANGEOVER_SUCCESS, steps, 0);
 }
 
 static uint64_t check(const struct bytes *book, const struct plan *plan, uint8_t *end)
@@ -84,7 +85,8 @@ static uint64_t check(const struct bytes *book, const struct plan *plan, uint8_t
     struct bytes order;
 
     make_order(&order, plan);
-    return changeover_check(book->at, book->len, order.at, order.len, end, CHANGEOVER_END_LEN);
+    return changeover_check(book->at, book->len, CHANGEOVER_FULL, order.at, order.len, end,
+                            CHANGEOVER_END_LEN);
 }
 
 /* The same plan from one of its starts alone. */
@@ -207,8 +209,8 @@ static int add(const struct bytes *book, struct bytes *longer)
     make_book(&all, COUNT(records));
     longer->len = book->len + record.len;
     printf("\na record of %u bytes is added\n", (unsigned)record.len);
-    return expect(changeover_add(book->at, book->len, record.at, record.len, longer->at,
-                                 sizeof longer->at),
+    return expect(changeover_add(book->at, book->len, CHANGEOVER_FULL, record.at, record.len,
+                                 longer->at, sizeof longer->at),
                   CHANGEOVER_SUCCESS, (uint32_t)all.len, 0) &&
            memcmp(longer->at, all.at, all.len) == 0;
 }

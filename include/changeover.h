@@ -1,27 +1,29 @@
 /*
  * Hall changeovers: looking over a book of records, learning its rule sheet,
- * checking the plan of an order, adding a record. The calls keep no state,
- * allocate nothing, need no initialisation and may be made from any number of
- * threads at once.
+ * checking the plan of an order, adding a record, converting a book to its other
+ * form. The calls keep no state, allocate nothing, need no initialisation and may
+ * be made from any number of threads at once.
  *
  * Platform: x86-64, System V calling convention, ELF. Link with libchangeover
  * (archive or shared library); of other libraries it needs memcpy and memset
  * and nothing else.
  *
  * Stack. A thread with a stack of 80 KiB can make every call, one of 32 KiB
- * every call but changeover_add. In these figures is what a call uses (at most
- * some 18 KiB, changeover_add some 63 KiB), and what the C library takes of the
- * same stack: for the thread itself (some 4.5 KiB), and for the dynamic linker,
- * which with lazy binding looks a function up when it is first called, however
- * deep in the call that is (some 3 KiB). The rest is to spare. Not in them are
- * the program's thread-local variables, its own functions and signal handlers.
+ * every call but the three that write a book, which add a record and convert. In
+ * these figures is what a call uses (at most some 19 KiB, those three some 66
+ * KiB), and what the C library takes of the same stack: for the thread itself
+ * (some 4.5 KiB), and for the dynamic linker, which with lazy binding looks a
+ * function up when it is first called, however deep in the call that is (some
+ * 3 KiB). The rest is to spare. Not in them are the program's thread-local
+ * variables, its own functions and signal handlers.
  *
  * Lent memory. Each pointer is lent for the time of the call with its length
  * in bytes; nothing outside is read or written. Inputs are only read; two
- * inputs may overlap or be the same bytes. An output must not overlap an
- * input, so a record is not added in place. Where a length is 0 the pointer may
- * be NULL. Any bytes whatever may be given: every call returns. A length that
- * no memory has, such as -1 of a read that failed, is a wrong length like others.
+ * inputs may overlap or be the same bytes. An output must not overlap an input,
+ * so a record is not added in place, and a book not converted in place. Where a
+ * length is 0 the pointer may be NULL. Any bytes whatever may be given: every call
+ * returns. A length that no memory has, such as -1 of a read that failed, is a
+ * wrong length like others.
  *
  * Words. A fact is a relation with an object in each of its places; a state is
  * the set of facts that hold. A step is a move with an object for each of its
@@ -38,17 +40,28 @@
  * bytes of books, orders and sheets; they are in share/doc/changeover, in the
  * sources in docs.
  *
+ * Forms. A book is full or short. In a full book each state lists the facts that
+ * hold. In a short one a record's first state does so too, and each later one
+ * lists the facts whose value turns: those that hold in it and not in the state
+ * before it, and those that hold in that one and no longer. Orders are the same
+ * for both. A call that reads both forms is told which one it is given: 0
+ * (CHANGEOVER_FULL) for a full book, any other number (CHANGEOVER_SHORT) for a
+ * short one. The bytes do not say it, and a book that is read in the wrong form
+ * may be good and mean something else. A good book and what it converts to have
+ * the same rule sheet, and the same answers and end sheets of learning and
+ * checking, but for the place of 11, which is an offset in the book that was read.
+ *
  * The answer packs three numbers:
  *   bits 48 to 63   number: 0 success, else the refusal below
  *   bits 32 to 47   by 19 and 20 the position of the start, from 1; else 0
  *   bits  0 to 31   place
- * A refusal leaves all lent memory as it was. The rows are tested in the order
- * of the table, in which 21 stands after 3 and 22 between the two of 14, each
- * thing of a row in file order; "rows 1 to 10" are those from 1 to 10 in it. But
- * 6 to 10 as they come up in the records: a record's head, objects, state, step
- * (9, then 10), state and so on, its tail, then the next record. And 19 and 20
- * for one start after the other: 19, 20, then the next start. The answer is the
- * first that is met.
+ * A refusal leaves all lent memory as it was. The rows are tested in the order of
+ * the table, in which 21 stands after 3, 23 before 13 and 22 between the two of
+ * 14, each thing of a row in file order; "rows 1 to 10" are those from 1 to 10 in
+ * it, 21 among them. But 6 to 10 as they come up in the records: a record's head,
+ * objects, state, step (9, then 10), state and so on, its tail, then the next
+ * record. And 19 and 20 for one start after the other: 19, 20, then the next
+ * start. The answer is the first that is met.
  *
  *   No.  met when                                          place
  *    0   success                                           see each call
@@ -62,8 +75,9 @@
  *    6   record head cut, over a limit, length under 4 or  the record's offset
  *        past the end
  *    7   object cut, or no such kind                       its offset
- *    8   state: count cut or over 256; fact cut, wrong or  offset of the count
- *        out of order                                      or the fact
+ *    8   state: count cut or over 256 (facts that turn:    offset of the count
+ *        over 512); fact cut, wrong or out of order        or the fact
+ *    8   facts that turn: over 256 facts would be left     offset of the count
  *    9   step cut; no such move; an object wrong in number its offset
  *        or kind; an unused byte not 0
  *   10   step with an object twice                         its offset
@@ -73,6 +87,7 @@
  *                                                          offset
  *   12   a bound fact was changed to one value, and after  smallest such move
  *        another step of the move has the other
+ *   23   the converted book would pass 60,000 bytes        0
  *   13   a lent output of wrong length                     0
  *   14   order header: length under 16, or objects, goal   0
  *        entries or steps over their limit
@@ -92,7 +107,8 @@
  * Cut means reaching past the end of the record, for a record's head past that
  * of the book, for a start past the offset of the goal; the place is where the
  * thing begins, which may be that end. Of two facts out of order the second is
- * named, of a goal entry its first byte.
+ * named, of a goal entry its first byte. The second row of 8 is tested when all
+ * facts of a list have turned: how many hold on the way does not matter.
  */
 #ifndef CHANGEOVER_H
 #define CHANGEOVER_H
@@ -103,16 +119,16 @@
 /*
  * The version of this interface. Another patch changes nothing that a caller
  * sees but faults mended. Another minor version adds: calls, functions, numbers
- * of refusals, and forms of books that were refused before; what was not
- * refused has the same answer, what was refused may have another number.
+ * of refusals, and books that were refused before; what was not refused has the
+ * same answer, what was refused may have another number.
  * Another major version may change the parameters of a call, the bytes of
  * books, orders and sheets and what the bits of an answer mean; the shared
  * library's soname has its number.
  */
-#define CHANGEOVER_VERSION_MAJOR 2
+#define CHANGEOVER_VERSION_MAJOR 3
 #define CHANGEOVER_VERSION_MINOR 0
 #define CHANGEOVER_VERSION_PATCH 0
-#define CHANGEOVER_VERSION_STRING "2.0.0"
+#define CHANGEOVER_VERSION_STRING "3.0.0"
 /* One number that grows with the version, for #if. */
 #define CHANGEOVER_VERSION                                                    \
     (CHANGEOVER_VERSION_MAJOR * 1000000 + CHANGEOVER_VERSION_MINOR * 1000 +   \
@@ -154,8 +170,12 @@ enum changeover_numbers {
     CHANGEOVER_NEED_UNMET = 19,
     CHANGEOVER_GOAL_MISSED = 20,
     CHANGEOVER_PARENT = 21,
-    CHANGEOVER_START_COUNT = 22
+    CHANGEOVER_START_COUNT = 22,
+    CHANGEOVER_CONVERTED_LENGTH = 23
 };
+
+/* What a call is told of its book; any number but 0 says that it is short. */
+enum changeover_form { CHANGEOVER_FULL = 0, CHANGEOVER_SHORT = 1 };
 
 /*
  * Lengths in bytes, and the limits of moves and starts. No good order is longer
@@ -173,8 +193,12 @@ enum changeover_lengths {
     CHANGEOVER_END_LEN = 512
 };
 
-/* Bytes of stack for a thread that makes any call but adding, and for one that adds. */
-enum changeover_stack { CHANGEOVER_STACK = 32 * 1024, CHANGEOVER_STACK_ADD = 80 * 1024 };
+/* Bytes of stack for a thread that neither adds nor converts, one that adds, one that converts. */
+enum changeover_stack {
+    CHANGEOVER_STACK = 32 * 1024,
+    CHANGEOVER_STACK_ADD = 80 * 1024,
+    CHANGEOVER_STACK_CONVERT = 80 * 1024
+};
 
 /* The four sets of a move's 128 bytes in a rule sheet, in their order. */
 enum changeover_set {
@@ -185,21 +209,22 @@ enum changeover_set {
 };
 
 /*
- * Looks a book over: rows 1 to 10, with 21. Writes nothing.
+ * Looks a book over: rows 1 to 10. Writes nothing.
  * Success: the place is the count of all steps in the book's records.
  */
-uint64_t changeover_look_over(const uint8_t *book, size_t book_len);
+uint64_t changeover_look_over(const uint8_t *book, size_t book_len, uint32_t form);
 
 /*
- * Learns the rule sheet of a book: rows 1 to 13, with 21. The sheet must be exactly 128
- * bytes for each move of the book, else 13; changeover_sheet_len tells how
- * many that is. On success every byte of the sheet is written, and the place
- * is the count of all steps in the book's records.
+ * Learns the rule sheet of a book: rows 1 to 13, but for 23. The sheet must be
+ * exactly 128 bytes for each move of the book, else 13; changeover_sheet_len
+ * tells how many that is. On success every byte of the sheet is written, and the
+ * place is the count of all steps in the book's records.
  */
-uint64_t changeover_learn(const uint8_t *book, size_t book_len, uint8_t *sheet, size_t sheet_len);
+uint64_t changeover_learn(const uint8_t *book, size_t book_len, uint32_t form, uint8_t *sheet,
+                          size_t sheet_len);
 
 /*
- * Checks the plan of an order by what the book's records show: all rows.
+ * Checks the plan of an order by what the book's records show: all rows but 23.
  * The book is learned anew; no rule sheet is asked for. The plan passes exactly
  * if it would pass from each start of the order alone. Else 19 or 20 with its
  * place is what the first start, in file order, that fails would give alone, and
@@ -210,21 +235,35 @@ uint64_t changeover_learn(const uint8_t *book, size_t book_len, uint8_t *sheet, 
  * being the facts that hold after the last step; if it has more, the end sheet
  * stays as it was.
  */
-uint64_t changeover_check(const uint8_t *book, size_t book_len, const uint8_t *order,
-                          size_t order_len, uint8_t *end, size_t end_len);
+uint64_t changeover_check(const uint8_t *book, size_t book_len, uint32_t form,
+                          const uint8_t *order, size_t order_len, uint8_t *end, size_t end_len);
 
 /*
- * Adds a record to a book: the old book is looked over (rows 1 to 10, with 21), then
- * the old book with the record's bytes behind it, record count and end
- * renewed; the places of the second looking over are in the new book. A new
+ * Adds a record, which is in the book's form: the old book is looked over (rows 1
+ * to 10), then the old book with the record's bytes behind it, record count and
+ * end renewed; the places of the second looking over are in the new book. A new
  * length over 60,000 is 1, a 65th record 2. Then 13 if the output is shorter
  * than the new length, which is book_len + record_len. On success the new book
  * is written to the front of the output, the bytes beyond it stay, and the
  * place is the new length. The old book is not changed. Whether the new book
  * learns (11, 12) is left to changeover_learn.
  */
-uint64_t changeover_add(const uint8_t *book, size_t book_len, const uint8_t *record,
-                        size_t record_len, uint8_t *out, size_t out_len);
+uint64_t changeover_add(const uint8_t *book, size_t book_len, uint32_t form,
+                        const uint8_t *record, size_t record_len, uint8_t *out, size_t out_len);
+
+/*
+ * changeover_to_short converts a full book to a short one, changeover_to_full a
+ * short book to a full one. The book is looked over (rows 1 to 10), then 23, then
+ * 13 if the output is shorter than the converted book; CHANGEOVER_BOOK_MAX bytes
+ * are enough for any. On success the converted book is written to the front of
+ * the output, the bytes beyond it stay, and the place is its length. It is good
+ * in its form, and converted back it is the old book, byte by byte. The old book
+ * is not changed. Whether it learns (11, 12) is left to changeover_learn. The
+ * short book is the longer one if more facts turn with its steps than hold after
+ * them.
+ */
+uint64_t changeover_to_short(const uint8_t *book, size_t book_len, uint8_t *out, size_t out_len);
+uint64_t changeover_to_full(const uint8_t *book, size_t book_len, uint8_t *out, size_t out_len);
 
 static inline enum changeover_numbers changeover_number(uint64_t answer)
 {
@@ -269,7 +308,8 @@ static inline const char *changeover_words(enum changeover_numbers number)
     case CHANGEOVER_OBJECT:
         return "object cut, or of no such kind";
     case CHANGEOVER_STATE:
-        return "state: count cut or over 256, or fact cut, wrong or out of order";
+        return "state: count cut or over its limit, fact cut, wrong or out of order, "
+               "or over 256 facts left";
     case CHANGEOVER_STEP:
         return "step cut, of no such move, or with an object or unused byte wrong";
     case CHANGEOVER_OBJECT_TWICE:
@@ -298,15 +338,17 @@ static inline const char *changeover_words(enum changeover_numbers number)
         return "a kind's parent is not smaller than the kind";
     case CHANGEOVER_START_COUNT:
         return "order header: no start, or over 16 of them";
+    case CHANGEOVER_CONVERTED_LENGTH:
+        return "the converted book would pass 60,000 bytes";
     }
     return "no such number";
 }
 
 /*
  * The length of the sheet that changeover_learn asks for: 128 times the move
- * count, which is bytes 4 and 5 of the book. 0 if the book is too short to have
- * one, or has over 32 moves; it is refused then, whatever the sheet. Nothing
- * else is tested. The length is never over CHANGEOVER_SHEET_MAX.
+ * count, which is bytes 4 and 5 of the book, in either form. 0 if the book has
+ * too few bytes for one, or has over 32 moves; it is refused then, whatever the
+ * sheet. Nothing else is tested. The length is never over CHANGEOVER_SHEET_MAX.
  */
 static inline size_t changeover_sheet_len(const uint8_t *book, size_t book_len)
 {

@@ -11,10 +11,12 @@ use std::process::Command;
 use super::list::Edit;
 
 /// A checker, as files and folders of `src`.
-const CHECKER: [&str; 9] = [
+const CHECKER: [&str; 11] = [
     "add.rs",
     "answer.rs",
+    "change.rs",
     "check.rs",
+    "convert.rs",
     "form",
     "implementation.rs",
     "learn.rs",

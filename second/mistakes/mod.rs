@@ -2,7 +2,9 @@
 
 pub mod add;
 pub mod answer;
+pub mod change;
 pub mod check;
+pub mod convert;
 pub mod form;
 pub mod implementation;
 pub mod learn;

@@ -1,17 +1,19 @@
 //! Adding a record to a book.
 
 use crate::answer::{Answer, Refusal};
+use crate::calls::Form;
 use crate::form;
 use crate::limits::{BOOK_LIMIT, RECORD_LIMIT};
 
 /// Looks over the old book, then the new one, then the output's length. On
-/// success the new book is written to the front of `output`.
+/// success the new book is written to the front of `output`. The record is in the
+/// book's form.
 ///
 /// The new book differs from the good old one in its record count, its end and
 /// the bytes behind. The rows before the new record therefore cannot be met
 /// again, but for the record count, and only the new record is walked.
-pub fn add(book: &[u8], record: &[u8], output: &mut [u8]) -> Answer {
-    let front = match form::walk(book, &mut ()) {
+pub fn add(book: &[u8], form: Form, record: &[u8], output: &mut [u8]) -> Answer {
+    let front = match form::walk(book, form, &mut ()) {
         Ok(front) => front,
         Err(refusal) => return refusal,
     };
@@ -24,7 +26,8 @@ pub fn add(book: &[u8], record: &[u8], output: &mut [u8]) -> Answer {
         return Refusal::HeaderCounts.at(0);
     }
     let new = renewed(book, record, records);
-    if let Err(refusal) = form::walk_records(&new, &front.signature, book.len(), 1, &mut ()) {
+    let walked = form::walk_records(&new, form, &front.signature, book.len(), 1, &mut ());
+    if let Err(refusal) = walked {
         return refusal;
     }
     let Some(output) = output.get_mut(..length) else {

@@ -10,7 +10,7 @@ pub struct Answer {
 }
 
 /// The rows of the paper's table, by number. 21 stands between 3 and 4, 22 between
-/// the counts and the offsets of 14.
+/// the counts and the offsets of 14, 23 directly before 13.
 #[derive(Clone, Copy, Debug, PartialEq, Eq, PartialOrd, Ord, Hash)]
 #[repr(u32)]
 pub enum Refusal {
@@ -36,6 +36,7 @@ pub enum Refusal {
     GoalMissed = 20,
     Parent = 21,
     StartCount = 22,
+    ConvertedLength = 23,
 }
 
 impl Refusal {

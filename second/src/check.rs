@@ -1,16 +1,17 @@
 //! Checking a plan from each of its starts: rows 13 to 20, and 22.
 
 use crate::answer::{Answer, Refusal};
+use crate::calls::Form;
 use crate::form::Order;
 use crate::learn::ActionModel;
-use crate::limits::{END_SHEET_LENGTH, FACT_LENGTH, GOAL_LENGTH, STEP_LENGTH};
+use crate::limits::{END_SHEET_LENGTH, GOAL_LENGTH, STEP_LENGTH};
 use crate::mask::{fact_number, FactSet};
 use crate::plan::GroundPlan;
 
 /// Every row; on a pass the place is the plan's step count. With one start the
 /// end sheet is then written.
-pub fn check(book: &[u8], order: &[u8], end_sheet: &mut [u8]) -> Answer {
-    let model = match ActionModel::learn(book) {
+pub fn check(book: &[u8], form: Form, order: &[u8], end_sheet: &mut [u8]) -> Answer {
+    let model = match ActionModel::learn(book, form) {
         Ok(model) => model,
         Err(refusal) => return refusal,
     };
@@ -38,11 +39,7 @@ pub fn check(book: &[u8], order: &[u8], end_sheet: &mut [u8]) -> Answer {
 
 /// Rows 19 and 20 for one start alone; answers the end state.
 fn passes(plan: &GroundPlan, start: &[u8], goal: &[u8]) -> Result<FactSet, Answer> {
-    let mut state = FactSet::EMPTY;
-    for fact in start.chunks_exact(FACT_LENGTH) {
-        state.insert(fact_number(fact[0], fact[1], fact[2]));
-    }
-    let end = plan.carry_out(state)?;
+    let end = plan.carry_out(FactSet::of(start))?;
     match missed_entry(goal, &end) {
         Some(entry) => Err(Refusal::GoalMissed.at(entry)),
         None => Ok(end),

@@ -5,8 +5,10 @@
 //! with those of each of its transitions.
 
 use crate::answer::{Answer, Refusal};
+use crate::calls::Form;
+use crate::change::Change;
 use crate::form::{self, Front, Observer, Signature, Transition};
-use crate::limits::{FACT_LENGTH, MOVE_LIMIT, OBJECT_LIMIT, RULES_LENGTH, SET_LENGTH};
+use crate::limits::{MOVE_LIMIT, RULES_LENGTH, SET_LENGTH};
 use crate::mask::AtomMask;
 
 /// The lifted atoms of one action, and of these the learned preconditions and
@@ -28,9 +30,9 @@ pub struct ActionModel {
 
 impl ActionModel {
     /// Rows 1 to 12 and 21.
-    pub fn learn(book: &[u8]) -> Result<Self, Answer> {
+    pub fn learn(book: &[u8], form: Form) -> Result<Self, Answer> {
         let mut trajectories = Trajectories::new();
-        let front = form::walk(book, &mut trajectories)?;
+        let front = form::walk(book, form, &mut trajectories)?;
         if let Some(step_at) = trajectories.unbound_change {
             return Err(Refusal::UnboundChange.at(step_at));
         }
@@ -45,8 +47,8 @@ impl ActionModel {
 
 /// Rows 1 to 13 and 21; on success the sheet is written and the place is the
 /// step total.
-pub fn learn(book: &[u8], sheet: &mut [u8]) -> Answer {
-    let model = match ActionModel::learn(book) {
+pub fn learn(book: &[u8], form: Form, sheet: &mut [u8]) -> Answer {
+    let model = match ActionModel::learn(book, form) {
         Ok(model) => model,
         Err(refusal) => return refusal,
     };
@@ -116,6 +118,8 @@ impl Observed {
 }
 
 struct Trajectories {
+    /// Of each relation how many.
+    places: Vec<usize>,
     observed: [Observed; MOVE_LIMIT],
     /// The first step that changed a fact which is none of its atoms.
     unbound_change: Option<usize>,
@@ -123,12 +127,14 @@ struct Trajectories {
 
 impl Trajectories {
     fn new() -> Self {
-        Self { observed: [Observed::NOTHING; MOVE_LIMIT], unbound_change: None }
+        let observed = [Observed::NOTHING; MOVE_LIMIT];
+        Self { places: Vec::new(), observed, unbound_change: None }
     }
 }
 
 impl Observer for Trajectories {
     fn begin(&mut self, signature: &Signature) {
+        self.places = signature.relations.iter().map(|relation| relation.places).collect();
         for (observed, action) in self.observed.iter_mut().zip(&signature.moves) {
             observed.atoms = signature.atoms(action);
         }
@@ -140,92 +146,9 @@ impl Observer for Trajectories {
             return;
         }
         let observed = &mut self.observed[usize::from(transition.step[0]) - 1];
-        match Change::of(transition) {
+        match Change::of(transition, observed.atoms, &self.places) {
             Some(change) if change.is_of(observed.atoms) => observed.join(&change),
             _ => self.unbound_change = Some(transition.step_at),
         }
-    }
-}
-
-/// What one transition shows, by the numbers of atoms: held throughout, added
-/// and deleted. Not each of these need be an atom of the action: a parameter's
-/// object may be of a kind below the parameter's, and suit more places.
-struct Change {
-    kept: AtomMask,
-    added: AtomMask,
-    deleted: AtomMask,
-}
-
-impl Change {
-    /// Merges the facts before and after, which are in the same order; `None`
-    /// if a fact has changed whose objects are not all the step's.
-    fn of(transition: &Transition<'_>) -> Option<Self> {
-        // Filled in place: copying what was just written in small parts stalls.
-        let mut parameters = Parameters::NONE;
-        parameters.bind(transition.step);
-        let mut change =
-            Self { kept: AtomMask::EMPTY, added: AtomMask::EMPTY, deleted: AtomMask::EMPTY };
-        let (before, _) = transition.before.as_chunks::<FACT_LENGTH>();
-        let (after, _) = transition.after.as_chunks::<FACT_LENGTH>();
-        let (mut from, mut to) = (0, 0);
-        while from < before.len() && to < after.len() {
-            let (old, new) = (before[from], after[to]);
-            if old == new {
-                if let Some(atom) = parameters.atom(old) {
-                    change.kept.insert(atom);
-                }
-                from += 1;
-                to += 1;
-            } else if old < new {
-                change.deleted.insert(parameters.atom(old)?);
-                from += 1;
-            } else {
-                change.added.insert(parameters.atom(new)?);
-                to += 1;
-            }
-        }
-        for &old in &before[from..] {
-            change.deleted.insert(parameters.atom(old)?);
-        }
-        for &new in &after[to..] {
-            change.added.insert(parameters.atom(new)?);
-        }
-        Some(change)
-    }
-
-    /// Whether all that changed is of these atoms.
-    fn is_of(&self, atoms: AtomMask) -> bool {
-        self.added.or(self.deleted).without(atoms).is_empty()
-    }
-}
-
-/// The way back from objects to parameters of one step. The binding is
-/// injective, so each object has at most one parameter.
-struct Parameters {
-    /// By object number: the parameter's share of an atom's number in the
-    /// second place, or [`UNBOUND`]. An unused place (object 0) adds 0.
-    shares: [u16; OBJECT_LIMIT + 1],
-}
-
-/// Larger than any atom's number, even after the sum with another share.
-const UNBOUND: u16 = 256;
-
-impl Parameters {
-    const NONE: Self = Self { shares: [UNBOUND; OBJECT_LIMIT + 1] };
-
-    fn bind(&mut self, step: &[u8]) {
-        for (parameter, &object) in (0..).zip(&step[1..]) {
-            self.shares[usize::from(object)] = parameter;
-        }
-        // After the loop, in which an unused parameter has object 0.
-        self.shares[0] = 0;
-    }
-
-    #[inline]
-    fn atom(&self, [relation, first, second]: [u8; FACT_LENGTH]) -> Option<usize> {
-        let first = self.shares[usize::from(first)];
-        let second = self.shares[usize::from(second)];
-        let number = 16 * (u16::from(relation) - 1) + 4 * first + second;
-        (number < UNBOUND).then_some(usize::from(number))
     }
 }

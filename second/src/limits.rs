@@ -11,6 +11,8 @@ pub const RECORD_LIMIT: usize = 64;
 pub const OBJECT_LIMIT: usize = 16;
 pub const STEP_LIMIT: usize = 64;
 pub const FACT_LIMIT: usize = 256;
+/// The facts that turn with one step of a short book.
+pub const TURN_LIMIT: usize = 512;
 pub const GOAL_LIMIT: usize = 64;
 pub const START_LIMIT: usize = 16;
 

@@ -1,8 +1,9 @@
-//! What the two programs print.
+//! What the two programs print. They read full books.
 
 use std::fmt::Write;
 
 use crate::answer::Answer;
+use crate::calls::Form;
 use crate::check::check;
 use crate::learn::{ActionModel, Rules};
 use crate::limits::END_SHEET_LENGTH;
@@ -13,7 +14,7 @@ pub const READ_LIMIT: usize = crate::limits::BOOK_LIMIT + 1;
 /// The output of the program that prints the rules of a book.
 #[must_use]
 pub fn rules(book: &[u8]) -> String {
-    let model = match ActionModel::learn(book) {
+    let model = match ActionModel::learn(book, Form::Full) {
         Ok(model) => model,
         Err(refusal) => return refused(refusal),
     };
@@ -37,7 +38,7 @@ pub fn rules(book: &[u8]) -> String {
 /// The output of the program that checks a plan.
 #[must_use]
 pub fn plan(book: &[u8], order: &[u8]) -> String {
-    match check(book, order, &mut [0; END_SHEET_LENGTH]) {
+    match check(book, Form::Full, order, &mut [0; END_SHEET_LENGTH]) {
         Answer { number: 0, place, .. } => format!("passes {place}\n"),
         refusal => refused(refusal),
     }

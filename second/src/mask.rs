@@ -1,6 +1,8 @@
 //! Sets of lifted atoms and of facts, as the bits of the paper's sheets.
 
-use crate::limits::{END_SHEET_LENGTH, OBJECT_LIMIT, PARAMETER_LIMIT, RELATION_LIMIT, SET_LENGTH};
+use crate::limits::{
+    END_SHEET_LENGTH, FACT_LENGTH, OBJECT_LIMIT, PARAMETER_LIMIT, RELATION_LIMIT, SET_LENGTH,
+};
 
 /// The facts that a state has for one relation and one first object, as bits.
 pub type Row = u16;
@@ -25,6 +27,21 @@ impl AtomMask {
         // The four bits of `first`, four apart; each then carries `second`.
         let apart = (first | first << 3 | first << 6 | first << 9) & 0x1111;
         self.0[relation] |= (apart * second) as u16;
+    }
+
+    /// The atoms of a relation and a first parameter, from 0, whose second
+    /// parameter's object, from 0, is in the row.
+    #[inline]
+    pub fn insert_seconds(
+        &mut self,
+        relation: usize,
+        first: usize,
+        row: Row,
+        objects: [u8; PARAMETER_LIMIT],
+    ) {
+        for (second, object) in objects.into_iter().enumerate() {
+            self.0[relation] |= (row >> object & 1) << (PARAMETER_LIMIT * first + second);
+        }
     }
 
     #[must_use]
@@ -91,8 +108,26 @@ pub struct FactSet([Row; RELATION_LIMIT * OBJECT_LIMIT]);
 impl FactSet {
     pub const EMPTY: Self = Self([0; RELATION_LIMIT * OBJECT_LIMIT]);
 
+    /// The bytes of facts that are of good form.
+    #[must_use]
+    pub fn of(facts: &[u8]) -> Self {
+        let mut set = Self::EMPTY;
+        for fact in facts.chunks_exact(FACT_LENGTH) {
+            set.insert(fact_number(fact[0], fact[1], fact[2]));
+        }
+        set
+    }
+
     pub fn insert(&mut self, fact: usize) {
         self.insert_all((fact / 16) as u8, 1 << (fact % 16));
+    }
+
+    /// Turns a fact's value; answers whether it holds now.
+    #[inline]
+    pub fn turn(&mut self, fact: usize) -> bool {
+        let row = &mut self.0[usize::from((fact / 16) as u8)];
+        *row ^= 1 << (fact % 16);
+        *row >> (fact % 16) & 1 == 1
     }
 
     #[inline]

@@ -1,6 +1,8 @@
 //! Learning by the paper's words, atom by atom and step by step, compared with
-//! the masks: the sheet, and the numbers and places of rows 11 and 12.
+//! the masks: the sheet, and the numbers and places of rows 11 and 12, in both forms
+//! of a book.
 
+use second::calls::Form;
 use second::gen::hall::Dynamics;
 use second::gen::{book, BookDraft, Fact, Rng, Step};
 use second::{learn, Answer, Refusal};
@@ -49,10 +51,11 @@ fn atoms(draft: &BookDraft, entry: &[u8; 6]) -> Vec<Atom> {
     atoms
 }
 
-/// The answer and, on success, the sheet.
-fn defined(draft: &BookDraft) -> (Answer, Vec<u8>) {
+/// The answer, with places as the draft is written in this form, and, on success,
+/// the sheet.
+fn defined(draft: &BookDraft, form: Form) -> (Answer, Vec<u8>) {
     let of_move: Vec<Vec<Atom>> = draft.moves.iter().map(|entry| atoms(draft, entry)).collect();
-    for (record, layout) in draft.records.iter().zip(draft.layout().records) {
+    for (record, layout) in draft.records.iter().zip(draft.in_form(form).layout().records) {
         for (index, step) in record.steps.iter().enumerate() {
             let (before, after) = (&record.states[index], &record.states[index + 1]);
             let bound: Vec<Fact> =
@@ -105,17 +108,20 @@ fn masks_learn_as_defined() {
         let shape = if rng.chance(80) { book::SMALL } else { book::MEDIUM };
         let dynamics = if rng.chance(40) { Dynamics::Follows } else { Dynamics::Slips };
         let draft = book::of_shape(&shape, dynamics, &mut rng).book;
-        let (answer, expected) = defined(&draft);
-        let mut sheet = vec![0xee; 128 * draft.moves.len()];
-        assert_eq!(learn::learn(&draft.bytes(), &mut sheet), answer, "seed {seed}");
-        if answer.number == 0 {
-            assert_eq!(sheet, expected, "seed {seed}");
+        for form in Form::BOTH {
+            let (answer, expected) = defined(&draft, form);
+            let mut sheet = vec![0xee; 128 * draft.moves.len()];
+            let book = draft.in_form(form).bytes();
+            assert_eq!(learn::learn(&book, form, &mut sheet), answer, "seed {seed}, {form:?}");
+            if answer.number == 0 {
+                assert_eq!(sheet, expected, "seed {seed}, {form:?}");
+            }
+            met[match answer.number {
+                11 => 0,
+                12 => 1,
+                _ => 2,
+            }] += 1;
         }
-        met[match answer.number {
-            11 => 0,
-            12 => 1,
-            _ => 2,
-        }] += 1;
     }
-    assert!(met.iter().all(|&times| times > 300), "{met:?}");
+    assert!(met.iter().all(|&times| times > 600), "{met:?}");
 }

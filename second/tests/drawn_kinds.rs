@@ -3,6 +3,7 @@
 
 mod shared;
 
+use second::calls::Form;
 use second::gen::hall::{Dynamics, Rule, World};
 use second::gen::{book, fullbook, tiny, BookDraft, OrderDraft, Rng, Step};
 use second::{check, form, listing, Answer};
@@ -23,7 +24,7 @@ fn parents_of_0_are_none() {
             _ => Answer { place: answer.place + without.kinds as u32, ..answer },
         };
         let (books, kinds) = ([without.bytes(), with.bytes()], without.kinds);
-        let looked = books.each_ref().map(|book| form::look_over(book));
+        let looked = books.each_ref().map(|book| form::look_over(book, Form::Full));
         assert_eq!(looked[1], shifted(looked[0]));
         let sheets = books.each_ref().map(|book| learned(book));
         assert_eq!(sheets[1], (shifted(sheets[0].0), sheets[0].1.clone()), "{kinds} kinds");
@@ -36,8 +37,8 @@ fn parents_of_0_are_none() {
             };
             let mut ends = [[0; 512]; 2];
             let [first, second] = &mut ends;
-            let answer = check::check(&books[0], &order.bytes(), first);
-            assert_eq!(answer, check::check(&books[1], &order.bytes(), second));
+            let answer = check::check(&books[0], Form::Full, &order.bytes(), first);
+            assert_eq!(answer, check::check(&books[1], Form::Full, &order.bytes(), second));
             assert_eq!(ends[0], ends[1]);
             compared[2] += usize::from(!record.steps.is_empty());
         }
@@ -90,7 +91,7 @@ fn drawn_books_and_tiny_halls_have_kinds_under_kinds() {
     let (mut books, mut halls) = (Met::default(), Met::default());
     for index in 0..2_000 {
         let mut rng = Rng::of_case(9, index);
-        books.count(&book::any_size(Dynamics::Slips, &mut rng).1.book);
+        books.count(&book::any_size(Form::Full, Dynamics::Slips, &mut rng).1);
         halls.count(&tiny::draw(&mut rng).book);
     }
     assert!(books.least() >= 200, "{books:?}");

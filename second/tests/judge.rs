@@ -3,8 +3,8 @@
 
 mod shared;
 
-use second::calls::{unpacked, Calls};
-use second::compare::{judge, judge_crowded, Capped, Run};
+use second::calls::{unpacked, Form, Job};
+use second::compare::{judge, judge_crowded, By, Capped, Run};
 use second::gen::{fullbook, tiny, BookDraft, OrderDraft, RecordDraft, Rng};
 use second::judge::{self, verdicts, Verdict};
 use second::{check, Answer, Refusal, Second};
@@ -26,45 +26,48 @@ fn learn_and_check_give_the_judges_verdict_over_256_facts() {
     assert_eq!(met.missing(), Vec::<String>::new());
 }
 
-/// Each is right but for one cheat that the paper names.
-struct Cheat(fn(Answer) -> Answer);
-
-impl Calls for Cheat {
-    fn look_over(&self, book: &[u8]) -> u64 {
-        Second.look_over(book)
-    }
-
-    fn learn(&self, book: &[u8], sheet: &mut [u8]) -> u64 {
-        Second.learn(book, sheet)
-    }
-
-    fn check(&self, book: &[u8], order: &[u8], end: &mut [u8]) -> u64 {
-        self.0(unpacked(Second.check(book, order, end))).packed()
-    }
-
-    fn add(&self, book: &[u8], record: &[u8], out: &mut [u8]) -> u64 {
-        Second.add(book, record, out)
-    }
-}
-
 #[test]
 fn cheats_are_found() {
     let run = Run { seed: 3, count: 500 };
-    let stops_at_step_1 = Cheat(|answer| match answer.number {
+    let stops_at_step_1 = |answer: Answer| match answer.number {
         19 => Answer { place: 1, ..answer },
         _ => answer,
-    });
-    let refuses_every_plan = Cheat(|answer| match answer.number {
+    };
+    let refuses_every_plan = |answer: Answer| match answer.number {
         0 => Refusal::NeedUnmet.at(1),
         _ => answer,
-    });
-    let passes_every_plan = Cheat(|answer| match answer.number {
+    };
+    let passes_every_plan = |answer: Answer| match answer.number {
         19 | 20 => Answer::success(1),
         _ => answer,
-    });
-    for cheat in [stops_at_step_1, refuses_every_plan, passes_every_plan] {
-        assert!(judge(run, &cheat).is_err());
+    };
+    let cheats: [fn(Answer) -> Answer; 3] =
+        [stops_at_step_1, refuses_every_plan, passes_every_plan];
+    for (cheat, form) in cheats.into_iter().flat_map(|cheat| [0, 1].map(|form| (cheat, form))) {
+        // Right but for one cheat that the paper names, with books of one form.
+        let calls = By(|job: Job, book: &[u8], told: u32, other: &[u8], out: &mut [u8]| {
+            let answer = unpacked(job.run(&Second, book, told, other, out));
+            let cheats = job == Job::Check && told == form;
+            if cheats { cheat(answer) } else { answer }.packed()
+        });
+        assert!(judge(run, &calls).is_err());
     }
+}
+
+/// He decodes a short book by himself: his verdicts are those on its full twin.
+#[test]
+fn the_judge_says_the_same_of_both_forms() {
+    let mut differ = 0;
+    for index in 0..1_500 {
+        let plan = tiny::draw(&mut Rng::of_case(6, index));
+        let order = plan.order.bytes();
+        let [full, short] = Form::BOTH.map(|form| plan.book.in_form(form).bytes());
+        let said = verdicts(&full, Form::Full, &order);
+        assert_eq!(said, verdicts(&short, Form::Short, &order), "hall {index}");
+        // Read as if it were full, the short one mostly says something else.
+        differ += usize::from(full != short && said != verdicts(&short, Form::Full, &order));
+    }
+    assert!(differ > 200, "{differ}");
 }
 
 /// Tiny halls can't tell a checker with room for 256 facts; the others do.
@@ -99,7 +102,7 @@ fn the_judge_has_room_for_over_256_facts() {
             goal: vec![(holds, [2, 0, 0])],
             steps: vec![step; steps],
         };
-        let judged = judge::judge(&book.bytes(), &order.bytes()).swap_remove(0);
+        let judged = judge::judge(&book.bytes(), Form::Full, &order.bytes()).swap_remove(0);
         (judged.verdict, judged.most)
     };
     let end = start.iter().copied().chain([[2, 0, 0]]).collect();
@@ -117,8 +120,8 @@ fn idle_objects_change_no_verdict() {
         let mut plan = tiny::draw(&mut Rng::of_case(5, index));
         let (book, order) = (plan.book.bytes(), plan.order.bytes());
         plan.order.objects.resize(if plan.book.kinds > 0 { 16 } else { 0 }, 1);
-        let idle = verdicts(&book, &plan.order.bytes());
-        assert_eq!(verdicts(&book, &order), idle, "hall {index}");
+        let idle = verdicts(&book, Form::Full, &plan.order.bytes());
+        assert_eq!(verdicts(&book, Form::Full, &order), idle, "hall {index}");
     }
 }
 
@@ -133,8 +136,11 @@ fn held_after_is_no_effect() {
                     0001 000d 0000 0100000000 0000");
     // From a start without the fact to a goal without it.
     let order = hex("0000 0001 0001 0001 0010 0010 0012 0016 0000 00010000 0100000000");
-    assert_eq!(verdicts(&book, &order), [Verdict::Passes { steps: 1, end: Vec::new() }]);
+    assert_eq!(
+        verdicts(&book, Form::Full, &order),
+        [Verdict::Passes { steps: 1, end: Vec::new() }]
+    );
     let mut end = [0xff; 512];
-    assert_eq!(check::check(&book, &order, &mut end), Answer::success(1));
+    assert_eq!(check::check(&book, Form::Full, &order, &mut end), Answer::success(1));
     assert_eq!(end, [0; 512]);
 }

@@ -2,6 +2,7 @@
 
 mod shared;
 
+use second::calls::Form;
 use second::judge::{verdicts, Verdict};
 use second::{add, form, listing, Answer, Refusal};
 use shared::{hex, learned, order, passes, refused, set};
@@ -39,7 +40,7 @@ fn roll_and_unrecorded_load() -> Vec<u8> {
 fn a_wagon_is_learned_from() {
     for record in [WAGON_ROLLS, LOADED_ROLLS] {
         let book = with_record(record);
-        assert_eq!(form::look_over(&book), Answer::success(1));
+        assert_eq!(form::look_over(&book, Form::Full), Answer::success(1));
         assert_eq!(learned(&book), (Answer::success(1), roll_and_unrecorded_load()));
     }
     let text = "moves 2 records 1 steps 1\n1 1 1 2 H R\n1 1 1 3 N A\n1 2 2 0 N A\n1 2 3 0 H R\n\
@@ -57,7 +58,7 @@ fn a_wagon_is_planned_with() {
     let [wagon, bank] = [3, 1].map(|kind| order(&[kind, 2, 2, 2], &start, &goal, &rolls));
     passes(&book, &wagon, 2, &[3, 256 + 16, 256 + 32, 512]);
     let end = vec![[1, 1, 4], [2, 2, 0], [2, 3, 0], [3, 1, 0]];
-    assert_eq!(verdicts(&book, &wagon), [Verdict::Passes { steps: 2, end }]);
+    assert_eq!(verdicts(&book, Form::Full, &wagon), [Verdict::Passes { steps: 2, end }]);
     // A bank cannot be loaded: the fourth start fact.
     refused(&book, &bank, Refusal::Start.at(22 + 3 * 3));
     // Nor its goal be so, nor move 2 be for it.
@@ -71,12 +72,12 @@ fn a_wagon_is_planned_with() {
 #[test]
 fn row_11_by_a_parameter_too_wide() {
     let book = with_record(LOAD_LOST);
-    assert_eq!(form::look_over(&book), Answer::success(1));
+    assert_eq!(form::look_over(&book, Form::Full), Answer::success(1));
     let step_at = 43 + 4 + 3 + 2 + 9;
     assert_eq!(learned(&book).0, Refusal::UnboundChange.at(step_at));
     let order = order(&[3], &[], &[], &[]);
     refused(&book, &order, Refusal::UnboundChange.at(step_at));
-    assert_eq!(verdicts(&book, &order), [Verdict::Impossible]);
+    assert_eq!(verdicts(&book, Form::Full, &order), [Verdict::Impossible]);
     // The wagon's own parameter does.
     let (answer, sheet) = learned(&with_record(WAGON_LOADED));
     assert_eq!(answer, Answer::success(1));
@@ -89,11 +90,11 @@ fn row_11_by_a_parameter_too_wide() {
 #[test]
 fn a_place_that_names_the_lower_kind() {
     let state = |kind: u8| with_record(&format!("01000 00A {kind:02x} 0001 030100"));
-    assert_eq!(form::look_over(&state(3)), Answer::success(0));
-    assert_eq!(form::look_over(&state(1)), Refusal::State.at(43 + 5 + 2));
+    assert_eq!(form::look_over(&state(3), Form::Full), Answer::success(0));
+    assert_eq!(form::look_over(&state(1), Form::Full), Refusal::State.at(43 + 5 + 2));
     let step = |kind: u8| with_record(&format!("0101000E {kind:02x} 0000 0201000000 0000"));
-    assert_eq!(form::look_over(&step(3)), Answer::success(1));
-    assert_eq!(form::look_over(&step(1)), Refusal::Step.at(43 + 5 + 2));
+    assert_eq!(form::look_over(&step(3), Form::Full), Answer::success(1));
+    assert_eq!(form::look_over(&step(1), Form::Full), Refusal::Step.at(43 + 5 + 2));
 }
 
 /// A move that takes a bank and a wagon: one wagon for both is 10, one bank 9.
@@ -105,8 +106,8 @@ fn one_object_for_two_kinds() {
                       0101000E {kind:02x} 0000 0101010000 0000"
         ))
     };
-    assert_eq!(form::look_over(&book(2)), Refusal::ObjectTwice.at(24 + 5 + 2));
-    assert_eq!(form::look_over(&book(1)), Refusal::Step.at(24 + 5 + 2));
+    assert_eq!(form::look_over(&book(2), Form::Full), Refusal::ObjectTwice.at(24 + 5 + 2));
+    assert_eq!(form::look_over(&book(1), Form::Full), Refusal::Step.at(24 + 5 + 2));
 }
 
 /// Kind 3 lies below 2 and 2 below 1. Relation 1 is over kind 1, relation 2 over
@@ -117,7 +118,7 @@ fn two_steps_up() {
     let book = hex("0003 0002 0002 0001 0013 001B 0027 0046 | 00 01 02 | \
                     01010000 01030000 | 010300000000 010100000000 | \
                     0202001F 0303 0002 010100 010200 0101000000 0001 010200 0202000000 0000");
-    assert_eq!(form::look_over(&book), Answer::success(2));
+    assert_eq!(form::look_over(&book, Form::Full), Answer::success(2));
     let sets = [
         // Both relations' facts are bound to the parameter of kind 3.
         [vec![0], vec![16], vec![], vec![0]],
@@ -155,7 +156,7 @@ fn parents(parents: &[u8]) -> Vec<u8> {
 
 #[test]
 fn row_21() {
-    let looked = |given: &[u8]| form::look_over(&parents(given));
+    let looked = |given: &[u8]| form::look_over(&parents(given), Form::Full);
     for good in [&[0, 0][..], &[0, 1], &[0, 0, 1], &[0, 1, 2], &[0, 1, 1, 0, 4], &[0; 8]] {
         assert_eq!(looked(good), Answer::success(0), "{good:?}");
     }
@@ -181,7 +182,7 @@ fn row_21_between_3_and_4() {
         for &(at, new) in changes {
             book[at] = new;
         }
-        form::look_over(&book)
+        form::look_over(&book, Form::Full)
     };
     assert_eq!(changed(&[(18, 3), (19, 3)]), Refusal::Parent.at(18));
     assert_eq!(changed(&[(18, 3), (15, 70)]), Refusal::HeaderOffsets.at(0));
@@ -201,7 +202,7 @@ fn where_the_relations_begin() {
         }
         book.extend(hex(between));
         book.extend(hex(front));
-        form::look_over(&book)
+        form::look_over(&book, Form::Full)
     };
     assert_eq!(book(16, ""), Answer::success(0));
     assert_eq!(book(18, "00 01"), Answer::success(0));
@@ -215,7 +216,7 @@ fn where_the_relations_begin() {
     let mut longer = hex("0002 0002 0001 0001 0012 001A 0020 003A");
     longer.extend(hex(front));
     longer.extend([0; 28]);
-    assert_eq!(form::look_over(&longer), Refusal::Parent.at(16));
+    assert_eq!(form::look_over(&longer, Form::Full), Refusal::Parent.at(16));
 }
 
 /// Adding keeps the parents, and looks the record over by them.
@@ -223,14 +224,14 @@ fn where_the_relations_begin() {
 fn adding_to_a_book_with_parents() {
     let old = with_record(WAGON_ROLLS);
     let mut new = vec![0; 99];
-    assert_eq!(add::add(&old, &hex(WAGON_ROLLS), &mut new), Answer::success(99));
+    assert_eq!(add::add(&old, Form::Full, &hex(WAGON_ROLLS), &mut new), Answer::success(99));
     let mut expected = [old.clone(), hex(WAGON_ROLLS)].concat();
     (expected[7], expected[15]) = (2, 99);
     assert_eq!(new, expected);
     let bank_loaded = hex("0100000A 01 0001 030100");
-    assert_eq!(add::add(&old, &bank_loaded, &mut new), Refusal::State.at(71 + 7));
+    assert_eq!(add::add(&old, Form::Full, &bank_loaded, &mut new), Refusal::State.at(71 + 7));
     assert_eq!(new, expected, "a refusal leaves lent memory untouched");
     let mut wrong = old;
     wrong[17] = 2;
-    assert_eq!(add::add(&wrong, &bank_loaded, &mut new), Refusal::Parent.at(17));
+    assert_eq!(add::add(&wrong, Form::Full, &bank_loaded, &mut new), Refusal::Parent.at(17));
 }

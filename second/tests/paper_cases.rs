@@ -2,6 +2,7 @@
 
 mod shared;
 
+use second::calls::Form;
 use second::gen::{fullbook, Rng};
 use second::{add, form, learn, listing, Answer, Refusal};
 use shared::{hex, passes, refused, set};
@@ -39,13 +40,13 @@ const fn clear(spot: usize) -> usize {
 fn m1_listing() {
     let text = "moves 1 records 1 steps 1\n1 1 1 2 H R\n1 1 1 3 N A\n1 2 2 0 N A\n1 2 3 0 H R\n";
     assert_eq!(listing::rules(&small_hall()), text);
-    assert_eq!(form::look_over(&small_hall()), Answer::success(1));
+    assert_eq!(form::look_over(&small_hall(), Form::Full), Answer::success(1));
 }
 
 #[test]
 fn m1_sheet() {
     let mut sheet = vec![0xff; 128];
-    assert_eq!(learn::learn(&small_hall(), &mut sheet), Answer::success(1));
+    assert_eq!(learn::learn(&small_hall(), Form::Full, &mut sheet), Answer::success(1));
     // Atoms 1 and 2 are "bank at spot", 20 and 24 "spot clear".
     assert_eq!(sheet, [[1, 24], [2, 20], [2, 20], [1, 24]].map(|atoms| set(32, &atoms)).concat());
 }
@@ -110,19 +111,19 @@ fn m8_object_twice() {
 fn m9_conflict() {
     let record = hex("03010016 010202 0002 010102 020300 0101020300 0000");
     let mut book = vec![0; 80];
-    assert_eq!(add::add(&small_hall(), &record, &mut book), Answer::success(80));
+    assert_eq!(add::add(&small_hall(), Form::Full, &record, &mut book), Answer::success(80));
     assert_eq!(book[7], 2);
     refused(&book, &order(&START, &[AT_4], &ROLLS), Refusal::EffectConflict.at(1));
     assert_eq!(listing::rules(&book), "refused 12 1\n");
     let mut sheet = vec![7; 128];
-    assert_eq!(learn::learn(&book, &mut sheet), Refusal::EffectConflict.at(1));
+    assert_eq!(learn::learn(&book, Form::Full, &mut sheet), Refusal::EffectConflict.at(1));
     assert_eq!(sheet, vec![7; 128]);
 }
 
 #[test]
 fn m10_cut_to_15_bytes() {
     let book = &small_hall()[..15];
-    assert_eq!(form::look_over(book), Refusal::Length.at(0));
+    assert_eq!(form::look_over(book, Form::Full), Refusal::Length.at(0));
     assert_eq!(listing::rules(book), "refused 1 0\n");
     assert_eq!(listing::plan(&[], &[]), "refused 1 0\n");
 }
@@ -130,8 +131,11 @@ fn m10_cut_to_15_bytes() {
 #[test]
 fn limits_of_length() {
     let mut rng = Rng::new(1);
-    assert_eq!(form::look_over(&fullbook::of_length(60_000, &mut rng)).number, 0);
-    assert_eq!(form::look_over(&fullbook::of_length(60_001, &mut rng)), Refusal::Length.at(0));
+    assert_eq!(form::look_over(&fullbook::of_length(60_000, &mut rng), Form::Full).number, 0);
+    assert_eq!(
+        form::look_over(&fullbook::of_length(60_001, &mut rng), Form::Full),
+        Refusal::Length.at(0)
+    );
 }
 
 #[test]
@@ -150,12 +154,12 @@ fn limits_of_facts() {
         let end = (book.len() as u16).to_be_bytes();
         book[14..16].copy_from_slice(&end);
         let answer = if facts == 256 { Answer::success(0) } else { Refusal::State.at(count_at) };
-        assert_eq!(form::look_over(&book), answer);
+        assert_eq!(form::look_over(&book, Form::Full), answer);
     }
 }
 
 #[test]
-fn full_books_have_the_lengths_they_are_named_by() {
+fn books_that_are_timed_have_the_lengths_they_are_named_by() {
     let mut rng = Rng::new(3);
     for (draft, length, steps) in [
         (fullbook::dense(&mut rng), 59_741, 75),
@@ -165,6 +169,6 @@ fn full_books_have_the_lengths_they_are_named_by() {
         let book = draft.bytes();
         assert_eq!(book.len(), length);
         let mut sheet = vec![0; 128 * draft.moves.len()];
-        assert_eq!(learn::learn(&book, &mut sheet), Answer::success(steps));
+        assert_eq!(learn::learn(&book, Form::Full, &mut sheet), Answer::success(steps));
     }
 }

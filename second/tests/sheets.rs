@@ -1,13 +1,14 @@
 //! What the rule sheet does not depend on, and memory left untouched.
 
+use second::calls::{unpacked, Form, Job};
 use second::gen::hall::Dynamics;
 use second::gen::mixed::BookStream;
 use second::gen::{book, BookDraft, Rng};
-use second::{add, check, learn};
+use second::{learn, Second};
 
 fn sheet(draft: &BookDraft) -> (u32, Vec<u8>) {
     let mut sheet = vec![0; 128 * draft.moves.len()];
-    let answer = learn::learn(&draft.bytes(), &mut sheet);
+    let answer = learn::learn(&draft.bytes(), draft.form, &mut sheet);
     (answer.number, sheet)
 }
 
@@ -82,24 +83,39 @@ fn other_moves_do_not_matter() {
     assert!(compared > 500, "{compared}");
 }
 
+/// The two forms of a book give the same sheet, and the same number without one.
+#[test]
+fn the_form_does_not_matter() {
+    let mut met = [0; 2];
+    for seed in 0..3_000 {
+        let mut rng = Rng::new(seed);
+        let dynamics = if rng.chance(30) { Dynamics::Follows } else { Dynamics::Slips };
+        let draft = book::of_shape(&book::SMALL, dynamics, &mut rng).book;
+        assert_eq!(sheet(&draft), sheet(&draft.twin()), "seed {seed}");
+        met[usize::from(sheet(&draft).0 == 0)] += usize::from(draft.steps() > 0);
+    }
+    assert!(met.iter().all(|&times| times > 500), "{met:?}");
+}
+
 #[test]
 fn refusals_leave_lent_memory_untouched() {
-    let stream = BookStream::new(11);
-    let mut refused = 0;
-    for index in 0..4_000 {
-        let case = stream.case(index);
-        for length in [0, 128, 512, 700] {
-            let mut lent = vec![0x3c; length];
-            let answers = [
-                learn::learn(&case.book, &mut lent),
-                check::check(&case.book, &[], &mut lent),
-                add::add(&case.book, &[1, 2, 3], &mut lent),
-            ];
-            if answers[0].number != 0 {
-                refused += 1;
-                assert!(lent.iter().all(|&byte| byte == 0x3c));
+    for form in Form::BOTH {
+        let stream = BookStream::new(form, 11);
+        let mut refused = 0;
+        for index in 0..2_000 {
+            let case = stream.case(index);
+            for (job, length) in Job::ALL.into_iter().zip([0, 128, 512, 700, 700, 700]) {
+                if !job.forms().contains(&form) {
+                    continue;
+                }
+                let mut lent = vec![0x3c; length];
+                let packed = job.run(&Second, &case.book, case.form, &[1, 2, 3], &mut lent);
+                if unpacked(packed).number != 0 {
+                    refused += 1;
+                    assert!(lent.iter().all(|&byte| byte == 0x3c), "{} {index}", job.name());
+                }
             }
         }
+        assert!(refused > 5_000, "{refused}");
     }
-    assert!(refused > 1_000, "{refused}");
 }

@@ -2,6 +2,7 @@
 
 mod shared;
 
+use second::calls::Form;
 use second::gen::{order, several, Rng};
 use second::judge::{verdicts, Verdict};
 use second::{check, listing, Answer, Refusal};
@@ -29,7 +30,7 @@ fn order_of(starts: &[&str]) -> Vec<u8> {
 
 fn checked(starts: &[&str]) -> (Answer, bool) {
     let mut end = [0xa5; 512];
-    let answer = check::check(&small_hall(), &order_of(starts), &mut end);
+    let answer = check::check(&small_hall(), Form::Full, &order_of(starts), &mut end);
     (answer, end != [0xa5; 512])
 }
 
@@ -56,7 +57,7 @@ fn the_position_is_packed_and_not_printed() {
 
 #[test]
 fn the_judge_speaks_of_each_start() {
-    let said = verdicts(&small_hall(), &order_of(&[STOPS_AT_2, PASSES, STOPS_AT_1]));
+    let said = verdicts(&small_hall(), Form::Full, &order_of(&[STOPS_AT_2, PASSES, STOPS_AT_1]));
     let end = vec![[1, 1, 4], [2, 2, 0], [2, 3, 0]];
     let (second, first) = (Verdict::Stops { step: 2 }, Verdict::Stops { step: 1 });
     assert_eq!(said, [second, Verdict::Passes { steps: 2, end }, first]);
@@ -71,7 +72,7 @@ fn the_sequence_of_starts_does_not_decide_a_pass() {
         let mut plan = order::draw(&mut rng);
         let book = plan.book.bytes();
         let mut number = || {
-            let answer = check::check(&book, &plan.order.bytes(), &mut [0; 512]);
+            let answer = check::check(&book, Form::Full, &plan.order.bytes(), &mut [0; 512]);
             rng.shuffle(&mut plan.order.starts);
             answer.number
         };
@@ -88,7 +89,7 @@ fn drawn_starts_are_answered_as_aimed() {
     for (index, kind) in several::Starts::ALL.into_iter().cycle().take(700).enumerate() {
         let (plan, aimed) = several::case(kind, &mut Rng::of_case(4, index));
         let mut end = [0xa5; 512];
-        let answer = check::check(&plan.book.bytes(), &plan.order.bytes(), &mut end);
+        let answer = check::check(&plan.book.bytes(), Form::Full, &plan.order.bytes(), &mut end);
         assert_eq!(answer, aimed, "{}", kind.label());
         assert!(plan.order.starts.len() > 1 && end == [0xa5; 512]);
     }

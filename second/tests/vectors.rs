@@ -9,7 +9,8 @@ use std::sync::LazyLock;
 #[path = "../mistakes/list.rs"]
 mod list;
 
-use second::calls::{unpacked, Calls, Job};
+use second::calls::{unpacked, Form, Job};
+use second::compare::By;
 use second::vectors::{all, missing, parse, print, run, Vector};
 use second::{Answer, Second};
 
@@ -20,7 +21,7 @@ fn the_file_is_what_is_printed() {
     let file = concat!(env!("CARGO_MANIFEST_DIR"), "/../tests/vectors/vectors.txt");
     let text = std::fs::read_to_string(file).expect("the file is there");
     assert!(text == print(&ALL), "run `vectors print` and store what it prints");
-    assert!(text.len() < 700_000, "{} bytes", text.len());
+    assert!(text.len() < 1_100_000, "{} bytes", text.len());
 }
 
 #[test]
@@ -35,6 +36,9 @@ fn text_and_back() {
         ("learn", "fly"),
         ("number 1\n", ""),
         ("place", "plaice"),
+        ("number 1\n", "form\nnumber 1\n"),
+        ("number 1\n", "form short\nnumber 1\n"),
+        ("number 1\n", "form 4294967296\nnumber 1\n"),
         ("end 1\n", ""),
         ("end 1", "end 2"),
     ] {
@@ -57,45 +61,25 @@ fn this_implementation_passes() {
     assert_eq!(failures, Vec::<String>::new());
 }
 
-/// This implementation with one answer changed, for one job.
-struct Wrong<F> {
-    job: Job,
-    change: F,
-}
-
-impl<F: Fn(Answer) -> Answer> Wrong<F> {
-    fn answer(&self, job: Job, packed: u64) -> u64 {
-        let answer = unpacked(packed);
-        if job == self.job { (self.change)(answer) } else { answer }.packed()
-    }
-}
-
-impl<F: Fn(Answer) -> Answer> Calls for Wrong<F> {
-    fn look_over(&self, book: &[u8]) -> u64 {
-        self.answer(Job::LookOver, Second.look_over(book))
-    }
-
-    fn learn(&self, book: &[u8], sheet: &mut [u8]) -> u64 {
-        self.answer(Job::Learn, Second.learn(book, sheet))
-    }
-
-    fn check(&self, book: &[u8], order: &[u8], end: &mut [u8]) -> u64 {
-        self.answer(Job::Check, Second.check(book, order, end))
-    }
-
-    fn add(&self, book: &[u8], record: &[u8], out: &mut [u8]) -> u64 {
-        self.answer(Job::Add, Second.add(book, record, out))
-    }
-}
-
-fn found(job: Job, change: impl Fn(Answer) -> Answer) -> bool {
-    !run(&ALL, &Wrong { job, change }).1.is_empty()
+/// Whether the vectors find this implementation with the answers of one job changed,
+/// on books of one form.
+fn found(job: Job, form: Form, change: impl Fn(Answer) -> Answer) -> bool {
+    let calls = By(|made: Job, book: &[u8], told: u32, other: &[u8], output: &mut [u8]| {
+        let answer = unpacked(made.run(&Second, book, told, other, output));
+        let is_of_form = (told == 0) == (form == Form::Full);
+        if made == job && is_of_form { change(answer) } else { answer }.packed()
+    });
+    !run(&ALL, &calls).1.is_empty()
 }
 
 #[test]
 fn a_wrong_number_place_or_position_is_found() {
     for job in Job::ALL {
-        for number in job.numbers() {
+        for (&form, number) in job
+            .forms()
+            .iter()
+            .flat_map(|form| job.numbers().into_iter().map(move |number| (form, number)))
+        {
             let of_number = |answer: Answer| answer.number == number;
             let place = |answer: Answer| Answer {
                 place: answer.place + u32::from(of_number(answer)),
@@ -112,8 +96,9 @@ fn a_wrong_number_place_or_position_is_found() {
                 position: answer.position + u32::from(of_number(answer)),
                 ..answer
             };
-            assert!(found(job, place) && found(job, other), "{} {number}", job.name());
-            assert!(found(job, position), "{} {number}", job.name());
+            assert!(found(job, form, place), "place of {} {form:?} {number}", job.name());
+            assert!(found(job, form, other), "{} {form:?} {number}", job.name());
+            assert!(found(job, form, position), "position of {} {form:?} {number}", job.name());
         }
     }
 }
@@ -129,37 +114,29 @@ fn a_cheat_is_found() {
         19 => Answer { place: 1, ..answer },
         _ => answer,
     };
-    assert!(found(Job::Check, passes_all) && found(Job::Check, stops_at_1));
-    assert!(found(Job::LookOver, |answer| if answer.number == 0 {
-        Answer::success(1)
-    } else {
-        answer
-    }));
+    let one_step = |answer: Answer| match answer.number {
+        0 => Answer::success(1),
+        _ => answer,
+    };
+    for form in Form::BOTH {
+        assert!(found(Job::Check, form, passes_all) && found(Job::Check, form, stops_at_1));
+        assert!(found(Job::LookOver, form, one_step));
+    }
 }
 
+/// As if the output were cleared before its length is looked at.
 #[test]
 fn a_written_byte_is_found() {
-    struct Writes;
-    impl Calls for Writes {
-        fn look_over(&self, book: &[u8]) -> u64 {
-            Second.look_over(book)
-        }
-        fn learn(&self, book: &[u8], sheet: &mut [u8]) -> u64 {
-            let answer = Second.learn(book, sheet);
-            // As if the sheet were cleared before its length is looked at.
-            if answer >> 48 == 13 {
-                sheet.fill(0);
+    for job in [Job::Learn, Job::Check, Job::Add, Job::ToShort, Job::ToFull] {
+        let calls = By(|made: Job, book: &[u8], told: u32, other: &[u8], output: &mut [u8]| {
+            let packed = made.run(&Second, book, told, other, output);
+            if made == job && unpacked(packed).number == 13 {
+                output.fill(0);
             }
-            answer
-        }
-        fn check(&self, book: &[u8], order: &[u8], end: &mut [u8]) -> u64 {
-            Second.check(book, order, end)
-        }
-        fn add(&self, book: &[u8], record: &[u8], out: &mut [u8]) -> u64 {
-            Second.add(book, record, out)
-        }
+            packed
+        });
+        assert!(!run(&ALL, &calls).1.is_empty(), "{}", job.name());
     }
-    assert!(!run(&ALL, &Writes).1.is_empty());
 }
 
 /// A plan's state has no limit, so a checker that keeps 256 facts is found: some
@@ -178,7 +155,7 @@ fn plans_go_beyond_256_facts() {
 fn every_mistake_stands_in_the_sources_once() {
     let here = Path::new(env!("CARGO_MANIFEST_DIR"));
     let mistakes = list::all(&here.join("mistakes")).expect("the list can be read");
-    assert!(mistakes.len() >= 600, "{}", mistakes.len());
+    assert!(mistakes.len() >= 750, "{}", mistakes.len());
     for mistake in &mistakes {
         for edit in &mistake.edits {
             let source = std::fs::read_to_string(here.join("src").join(&edit.file));
@@ -195,7 +172,7 @@ fn every_row_has_its_mistakes() {
     let here = Path::new(env!("CARGO_MANIFEST_DIR"));
     let mistakes = list::all(&here.join("mistakes")).expect("the list can be read");
     let about = |what: &str| mistakes.iter().any(|mistake| mistake.about.starts_with(what));
-    for row in 1..=22 {
+    for row in 1..=23 {
         assert!(about(&format!("row {row}, condition")), "{row}");
         assert!(about(&format!("row {row}, place")), "{row}");
         assert!(row == 20 || about(&format!("row {row} before row")), "{row}");

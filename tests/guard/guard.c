@@ -1,9 +1,9 @@
 /*
- * Runs the four calls on cases read from standard input (see second/src/bin/
- * cases.rs), every input and output lent between forbidden pages: flush with
- * the page behind, then with the page before, then with NULL where a length is
- * 0. Inputs may not be written. Any touch outside ends the test, as does an
- * answer whose number, place or position is not that of the case, or an output
+ * Runs the calls on cases read from standard input (see second/src/bin/cases.rs),
+ * with books of both forms, every input and output lent between forbidden pages:
+ * flush with the page behind, then with the page before, then with NULL where a
+ * length is 0. Inputs may not be written. Any touch outside ends the test, as does
+ * an answer whose number, place or position is not that of the case, or an output
  * byte changed that must stay.
  */
 #define _DEFAULT_SOURCE /* for sigaction with -std=c11 */
@@ -17,11 +17,13 @@
 #include <sys/wait.h>
 #include <unistd.h>
 
-enum { LOOK_OVER, LEARN, CHECK, ADD, JOBS };
-enum { ROOM = 80000, LEAST_REFUSED = 20000 };
+enum { LOOK_OVER, LEARN, CHECK, ADD, TO_SHORT, TO_FULL, JOBS };
+static const char *const names[JOBS] = {"look over", "learn",    "check",
+                                        "add",       "to short", "to full"};
+enum { ROOM = 80000, LEAST_REFUSED = 30000 };
 
 struct one_case {
-    uint32_t job, book_len, other_len, out_len, number, place, position;
+    uint32_t job, form, book_len, other_len, out_len, number, place, position;
     const uint8_t *book, *other; /* other: the order or the record */
 };
 
@@ -84,13 +86,17 @@ static uint64_t call(const struct one_case *c, const uint8_t *book, const uint8_
 {
     switch (c->job) {
     case LOOK_OVER:
-        return changeover_look_over(book, c->book_len);
+        return changeover_look_over(book, c->book_len, c->form);
     case LEARN:
-        return changeover_learn(book, c->book_len, out, c->out_len);
+        return changeover_learn(book, c->book_len, c->form, out, c->out_len);
     case CHECK:
-        return changeover_check(book, c->book_len, other, c->other_len, out, c->out_len);
+        return changeover_check(book, c->book_len, c->form, other, c->other_len, out, c->out_len);
+    case ADD:
+        return changeover_add(book, c->book_len, c->form, other, c->other_len, out, c->out_len);
+    case TO_SHORT:
+        return changeover_to_short(book, c->book_len, out, c->out_len);
     default:
-        return changeover_add(book, c->book_len, other, c->other_len, out, c->out_len);
+        return changeover_to_full(book, c->book_len, out, c->out_len);
     }
 }
 
@@ -105,7 +111,7 @@ static size_t may_change(const struct one_case *c)
 {
     if (c->number != 0 || c->job == LOOK_OVER || (c->job == CHECK && starts_of(c) > 1))
         return 0;
-    return c->job == ADD ? c->place : c->out_len;
+    return c->job >= ADD ? c->place : c->out_len;
 }
 
 static int is_expected(const struct one_case *c, uint64_t answer)
@@ -118,7 +124,7 @@ static int is_expected(const struct one_case *c, uint64_t answer)
 static int lends_nothing(const struct one_case *c)
 {
     return c->book_len == 0 || (c->job != LOOK_OVER && c->out_len == 0) ||
-           (c->job >= CHECK && c->other_len == 0);
+           ((c->job == CHECK || c->job == ADD) && c->other_len == 0);
 }
 
 static void run(const struct one_case *c, enum flush flush, int null)
@@ -163,7 +169,7 @@ static void read_all(uint8_t *into, size_t length)
 static int read_case(struct one_case *c)
 {
     static uint8_t book[ROOM], other[ROOM];
-    uint8_t head[28];
+    uint8_t head[32];
     int first = getchar();
 
     if (first == EOF)
@@ -171,12 +177,13 @@ static int read_case(struct one_case *c)
     head[0] = (uint8_t)first;
     read_all(head + 1, sizeof head - 1);
     c->job = number_at(head);
-    c->book_len = number_at(head + 4);
-    c->other_len = number_at(head + 8);
-    c->out_len = number_at(head + 12);
-    c->number = number_at(head + 16);
-    c->place = number_at(head + 20);
-    c->position = number_at(head + 24);
+    c->form = number_at(head + 4);
+    c->book_len = number_at(head + 8);
+    c->other_len = number_at(head + 12);
+    c->out_len = number_at(head + 16);
+    c->number = number_at(head + 20);
+    c->place = number_at(head + 24);
+    c->position = number_at(head + 28);
     read_all(book, c->book_len);
     read_all(other, c->other_len);
     c->book = book;
@@ -203,35 +210,60 @@ static void prepare(void)
     test_the_guards();
 }
 
+/* What was met, by call and by whether its book is short; the converters know theirs. */
+static struct {
+    unsigned refused, good;
+} met[JOBS][2];
+static unsigned all_refused, nulls;
+static unsigned several, later; /* good from several starts, refused by one behind the first */
+
+static void run_case(const struct one_case *c)
+{
+    int is_short = c->job == TO_FULL || c->form != CHANGEOVER_FULL;
+    unsigned *count = c->number == 0 ? &met[c->job][is_short].good : &met[c->job][is_short].refused;
+
+    snprintf(where, sizeof where, "%s, %s book, %s, case %u\n", names[c->job],
+             is_short ? "short" : "full", c->number == 0 ? "good" : "refused", *count);
+    run(c, FLUSH_WITH_END, 0);
+    run(c, FLUSH_WITH_START, 0);
+    if (lends_nothing(c)) {
+        run(c, FLUSH_WITH_END, 1);
+        nulls++;
+    }
+    ++*count;
+    all_refused += c->number != 0;
+    several += c->job == CHECK && c->number == 0 && starts_of(c) > 1;
+    later += c->position > 1;
+}
+
+/* Whether each call met a good book and a refused one, in each form that it reads. */
+static int all_met(void)
+{
+    int all = 1;
+
+    for (int job = 0; job < JOBS; job++)
+        for (int is_short = job == TO_FULL; is_short <= (job != TO_SHORT); is_short++) {
+            unsigned refused = met[job][is_short].refused, good = met[job][is_short].good;
+
+            printf("%s, %s books: %u refused, %u good\n", names[job],
+                   is_short ? "short" : "full", refused, good);
+            all = all && refused > 0 && good > 0;
+        }
+    return all;
+}
+
 int main(void)
 {
-    static const char *const names[JOBS] = {"look over", "learn", "check", "add"};
-    unsigned refused[JOBS] = {0}, good[JOBS] = {0}, nulls = 0, all_refused = 0;
-    unsigned several = 0, later = 0; /* good from several starts, refused by one behind the first */
     struct one_case c;
+    int all;
 
     prepare();
-    while (read_case(&c)) {
-        snprintf(where, sizeof where, "%s, case %u\n", names[c.job], good[c.job] + refused[c.job]);
-        run(&c, FLUSH_WITH_END, 0);
-        run(&c, FLUSH_WITH_START, 0);
-        if (lends_nothing(&c)) {
-            run(&c, FLUSH_WITH_END, 1);
-            nulls++;
-        }
-        ++*(c.number == 0 ? &good[c.job] : &refused[c.job]);
-        all_refused += c.number != 0;
-        several += c.job == CHECK && c.number == 0 && starts_of(&c) > 1;
-        later += c.position > 1;
-    }
+    while (read_case(&c))
+        run_case(&c);
     free(pattern);
-    for (int job = 0; job < JOBS; job++) {
-        printf("%s: %u refused, %u good\n", names[job], refused[job], good[job]);
-        if (refused[job] == 0 || good[job] == 0)
-            return 1;
-    }
-    printf("nothing outside was touched; %u cases with NULL, %u good from several starts, "
-           "%u refused by a later start\n",
-           nulls, several, later);
-    return all_refused >= LEAST_REFUSED && nulls > 0 && several > 0 && later > 0 ? 0 : 1;
+    all = all_met();
+    printf("nothing outside was touched; %u cases refused, %u with NULL, %u good from several "
+           "starts, %u refused by a later start\n",
+           all_refused, nulls, several, later);
+    return all && all_refused >= LEAST_REFUSED && nulls > 0 && several > 0 && later > 0 ? 0 : 1;
 }

@@ -22,6 +22,7 @@ int whose_fault(uint64_t answer)
     case CHANGEOVER_OBJECT_TWICE:
     case CHANGEOVER_UNBOUND_CHANGE:
     case CHANGEOVER_CONFLICT:
+    case CHANGEOVER_CONVERTED_LENGTH:
         return 1;
     case CHANGEOVER_OUTPUT_LENGTH:
         return 2;

@@ -40,7 +40,9 @@ static int failed;
 
 static size_t promised(void)
 {
-    return job == ADD ? CHANGEOVER_STACK_ADD : CHANGEOVER_STACK;
+    if (job == ADD)
+        return CHANGEOVER_STACK_ADD;
+    return job == TO_SHORT || job == TO_FULL ? CHANGEOVER_STACK_CONVERT : CHANGEOVER_STACK;
 }
 
 static void *nothing(void *lent)

@@ -14,8 +14,9 @@
 #include <stdlib.h>
 #include <string.h>
 
-enum job { LOOK_OVER, LEARN, CHECK, ADD, JOBS };
-static const char *const job_names[JOBS] = {"look_over", "learn", "check", "add"};
+enum job { LOOK_OVER, LEARN, CHECK, ADD, TO_SHORT, TO_FULL, JOBS };
+static const char *const job_names[JOBS] = {"look_over", "learn",    "check",
+                                            "add",       "to_short", "to_full"};
 
 enum { ROOM = 1 << 17, LINE = 1 << 12 };
 struct bytes {
@@ -28,7 +29,7 @@ static struct {
     char name[LINE];
     int wanted[JOBS];
     struct bytes book, order, record, after;
-    unsigned long output, number, place, position;
+    unsigned long form, output, number, place, position;
 } vector;
 
 /* The keys whose value is bytes. */
@@ -44,7 +45,8 @@ static const struct {
 static const struct {
     const char *key;
     unsigned long *to, most, left_out;
-} number_keys[] = {{"output", &vector.output, ROOM, 0},
+} number_keys[] = {{"form", &vector.form, UINT32_MAX, CHANGEOVER_FULL},
+                   {"output", &vector.output, ROOM, 0},
                    {"number", &vector.number, UINT16_MAX, ULONG_MAX},
                    {"place", &vector.place, UINT32_MAX, ULONG_MAX},
                    {"position", &vector.position, UINT16_MAX, 0}};
@@ -68,16 +70,21 @@ static const struct bytes *other_input(int job)
 static uint64_t call(int job, const uint8_t *book, const uint8_t *other, uint8_t *out)
 {
     size_t book_len = vector.book.len, other_len = other_input(job)->len, out_len = vector.output;
+    uint32_t form = (uint32_t)vector.form;
 
     switch (job) {
     case LOOK_OVER:
-        return changeover_look_over(book, book_len);
+        return changeover_look_over(book, book_len, form);
     case LEARN:
-        return changeover_learn(book, book_len, out, out_len);
+        return changeover_learn(book, book_len, form, out, out_len);
     case CHECK:
-        return changeover_check(book, book_len, other, other_len, out, out_len);
+        return changeover_check(book, book_len, form, other, other_len, out, out_len);
+    case ADD:
+        return changeover_add(book, book_len, form, other, other_len, out, out_len);
+    case TO_SHORT:
+        return changeover_to_short(book, book_len, out, out_len);
     default:
-        return changeover_add(book, book_len, other, other_len, out, out_len);
+        return changeover_to_full(book, book_len, out, out_len);
     }
 }
 

@@ -8,15 +8,16 @@ use Rattle.limits.specs.Limits.{maxLength}
 use Rattle.jobs.specs.Add.{added, add}
 use Rattle.answer.specs.Bounds.{Bounded, bounded-good, bounded-then, bounded-row}
 use Rattle.lookover.proofs.Laws.{look-over-bounded}
+use Rattle.format.specs.Form.{Form}
 
-pub add-bounded : (s r : List ℕ) (size : ℕ) → Bounded maxLength (add s r size)
+pub add-bounded : (form : Form) (s r : List ℕ) (size : ℕ) → Bounded maxLength (add form s r size)
 unfolding add
-add-bounded s r size =
-    bounded-then maxLength _ _ (look-over-bounded s)
+add-bounded form s r size =
+    bounded-then maxLength _ _ (look-over-bounded form s)
     (λ n e i.
     bounded-row maxLength _ _ _ _ (omega arith) (omega arith)
     (λ f.
-    bounded-then maxLength _ _ (look-over-bounded (added s r))
+    bounded-then maxLength _ _ (look-over-bounded form (added s r))
     (λ m g j.
     bounded-row maxLength _ _ _ _ (omega arith) (omega arith)
     (λ k. bounded-good maxLength _ (ltb-false maxLength (length s + length r) f)))))

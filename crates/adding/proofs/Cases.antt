@@ -11,9 +11,12 @@ use Rattle.terms.specs.Sections.{sectionsOf}
 use Rattle.terms.specs.Schema.{outOfRange, parentAt, relationAt, moveAt, schema, typedObjects, suitsWithin, kindSuits, objectBad}
 use Rattle.terms.specs.Facts.{factAt, factBad, precedes, noFact}
 use Rattle.terms.specs.Steps.{objectOf, stepAt, argumentBad, stepBad, samePair, repeats}
+use Rattle.format.specs.Lists.{factsAt, listAt}
+use Rattle.format.specs.Toggled.{toggle, toggled}
+use Rattle.format.specs.Form.{full, mostListed, stateAfter}
 use Rattle.format.specs.Header.{lengthBad, countsBad, offsetsBad, kindBad, relationBad, moveBad, relation, move, sections}
-use Rattle.format.specs.States.{cut, countBad, factRefused, facts, state}
-use Rattle.format.specs.Records.{objectsIn, stepsIn, lengthIn, headBad, object, stepRefused, step, objectsOf, trajectory, closed, body, recordAt}
+use Rattle.format.specs.States.{cut, countBad, factRefused, facts, list, nextState}
+use Rattle.format.specs.Records.{objectsIn, stepsIn, lengthIn, headBad, object, stepRefused, step, steps, objectsOf, trajectory, closed, body, recordAt}
 use Rattle.format.specs.LookOver.{stepTotal, allRecords, lookOverBy, lookOver}
 use Rattle.output.specs.Written.{twoBytes}
 use Rattle.jobs.specs.Add.{added, add, addBytes}
@@ -25,10 +28,10 @@ recorded = drop 30 book
 
 -- the output is long enough, or just long enough, or a byte short; a record cut short is refused in the new book; a byte of the output
 -- beyond the new book stays
-pub cases : (add book6 recorded 59 ≡ Good 58)
-    × (add book6 recorded 58 ≡ Good 58)
-    × (add book6 recorded 57 ≡ Refused 13 0)
-    × (add book6 (take 2 recorded) 58 ≡ Refused 6 30)
-    × (addBytes book6 recorded (replicate 59 0xff) ≡ book ++ (0xff ∷ []))
-unfolding _>>=_ refuse walk byteAt two sectionsOf outOfRange parentAt relationAt moveAt schema typedObjects suitsWithin kindSuits objectBad factAt factBad precedes noFact objectOf stepAt argumentBad stepBad samePair repeats lengthBad countsBad offsetsBad kindBad relationBad moveBad relation move sections cut countBad factRefused facts state objectsIn stepsIn lengthIn headBad object stepRefused step objectsOf trajectory closed body recordAt stepTotal allRecords lookOverBy lookOver kept twoBytes added add addBytes
+pub cases : (add full book6 recorded 59 ≡ Good 58)
+    × (add full book6 recorded 58 ≡ Good 58)
+    × (add full book6 recorded 57 ≡ Refused 13 0)
+    × (add full book6 (take 2 recorded) 58 ≡ Refused 6 30)
+    × (addBytes full book6 recorded (replicate 59 0xff) ≡ book ++ (0xff ∷ []))
+unfolding _>>=_ refuse walk byteAt two sectionsOf outOfRange parentAt relationAt moveAt schema typedObjects suitsWithin kindSuits objectBad factAt factBad precedes noFact objectOf stepAt argumentBad stepBad samePair repeats lengthBad countsBad offsetsBad kindBad relationBad moveBad relation move sections cut countBad factRefused facts list nextState factsAt listAt toggle toggled mostListed stateAfter objectsIn stepsIn lengthIn headBad object stepRefused step steps objectsOf trajectory closed body recordAt stepTotal allRecords lookOverBy lookOver kept twoBytes added add addBytes
 cases = (refl, refl, refl, refl, refl)

@@ -16,6 +16,7 @@ use Rattle.answer.specs.Walk.{walk}
 use Rattle.answer.specs.Entries.{entries-all}
 use Rattle.terms.specs.Sections.{sectionsOf}
 use Rattle.limits.specs.Limits.{headerSize, maxLength, maxKinds, maxRelations, maxMoves, maxRecords, relationSize, moveSize}
+use Rattle.format.specs.Form.{Form}
 use Rattle.format.specs.Header.{lengthBad, countsBad, offsetsBad, parentBad, relationBad, moveBad, parent, relation, move, sections}
 use Rattle.jobs.specs.Add.{added}
 use Rattle.format.proofs.Header.{parent-entry, relation-entry, move-entry}
@@ -31,9 +32,9 @@ start-in at kinds (inl e) = rw (eq-eqb at headerSize e)
 start-in at kinds (inr e) = or-right (eqb at headerSize) _ (eq-eqb at (headerSize + kinds) e)
 
 -- for an old book of good form
-module _ (s r : List ℕ) (n : ℕ) (was : LookedOver s n) (most : length s + length r ≤ maxLength) where
+module _ (form : Form) (s r : List ℕ) (n : ℕ) (was : LookedOver form s n) (most : length s + length r ≤ maxLength) where
   behind-header : Copied s headerSize (added s r) headerSize (length s - headerSize)
-  behind-header = kept s r n was most headerSize (omega arith) (long s r n was most)
+  behind-header = kept form s r n was most headerSize (omega arith) (long form s r n was most)
 
   parents-good : (i : ℕ) → i < sectionsOf s .relations .at - headerSize → parentBad (added s r) (headerSize + 1 * i) ≡ false
   unfolding parentBad
@@ -61,8 +62,8 @@ module _ (s r : List ℕ) (n : ℕ) (was : LookedOver s n) (most : length s + le
   length-unmet : lengthBad (added s r) ≡ false
   unfolding lengthBad
   length-unmet =
-      let l = length-added s r (long s r n was most) in
-      let m = long s r n was most in
+      let l = length-added s r (long form s r n was most) in
+      let m = long form s r n was most in
       rw (le-ltb (length (added s r)) headerSize (omega arith), le-ltb maxLength (length (added s r)) (omega arith))
 
   counts-row : countsBad (oneMore (sectionsOf s) (length s + length r)) ≡ ltb maxRecords (sectionsOf s .records .count + 1)
@@ -77,7 +78,7 @@ module _ (s r : List ℕ) (n : ℕ) (was : LookedOver s n) (most : length s + le
       let o = was .sections .offsets in
       let h = sectionsOf s in
       let w = o .within in
-      let l = length-added s r (long s r n was most) in
+      let l = length-added s r (long form s r n was most) in
       let b = o .moves in
       rw (
         start-in (h .relations .at) (h .kinds) (o .relations),

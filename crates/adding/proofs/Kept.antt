@@ -15,6 +15,7 @@ use Rattle.terms.specs.Agree.{SameSchema}
 use Rattle.terms.proofs.Atoms.{parent-some, parent-none}
 use Rattle.terms.proofs.Agree.{same-by-bytes}
 use Rattle.limits.specs.Limits.{headerSize, maxLength}
+use Rattle.format.specs.Form.{Form}
 use Rattle.format.specs.Records.{stepsIn, recordAt}
 use Rattle.format.specs.LookOver.{stepTotal}
 use Rattle.format.specs.Decode.{stepsOfRecord, stepsOfRecords, recordedSteps}
@@ -28,7 +29,7 @@ use Rattle.adding.specs.ReadBack.{oneMore}
 use Rattle.adding.proofs.Formed.{length-added}
 use Rattle.adding.proofs.NewBook.{not-renewed, byte-kept, byte-added, header-added}
 
-module _ (s r : List ℕ) (old : ℕ) (was : LookedOver s old) (most : length s + length r ≤ maxLength) where
+module _ (form : Form) (s r : List ℕ) (old : ℕ) (was : LookedOver form s old) (most : length s + length r ≤ maxLength) where
   pub long : headerSize ≤ length s
   long = was .sections .size .least
 
@@ -94,27 +95,27 @@ module _ (s r : List ℕ) (old : ℕ) (was : LookedOver s old) (most : length s 
   old-part : Copied s (sectionsOf s .records .at) (added s r) (sectionsOf s .records .at) (length s - sectionsOf s .records .at)
   old-part = kept (sectionsOf s .records .at) from (was .sections .offsets .within)
 
-  records-kept : walk (recordAt (sectionsOf (added s r)) (added s r)) (sectionsOf s .records .count) (sectionsOf s .records .at) ≡ Good (length s)
+  records-kept : walk (recordAt form (sectionsOf (added s r)) (added s r)) (sectionsOf s .records .count) (sectionsOf s .records .at) ≡ Good (length s)
   unfolding schemaOf schema
   records-kept =
       let w = was .sections .offsets .within in
-      records-copied old-part (sectionsOf s) (sectionsOf (added s r)) (sym kinds-kept) schema-kept (schema-right (sectionsOf s) s _ (was .sections) .falling) _ (length s) (length s) (omega arith) (omega arith) (was .records)
+      records-copied old-part form (sectionsOf s) (sectionsOf (added s r)) (sym kinds-kept) schema-kept (schema-right (sectionsOf s) s _ (was .sections) .falling) _ (length s) (length s) (omega arith) (omega arith) (was .records)
 
   -- the new record comes after them, and so do its steps
-  pub record-last : walk (recordAt (sectionsOf (added s r)) (added s r)) (sectionsOf (added s r) .records .count) (sectionsOf (added s r) .records .at)
-      ≡ recordAt (sectionsOf (added s r)) (added s r) (length s)
+  pub record-last : walk (recordAt form (sectionsOf (added s r)) (added s r)) (sectionsOf (added s r) .records .count) (sectionsOf (added s r) .records .at)
+      ≡ recordAt form (sectionsOf (added s r)) (added s r) (length s)
   record-last =
-      ap₂ (λ (m start : ℕ). walk (recordAt (sectionsOf (added s r)) (added s r)) m start) count-more start-same ∙ walk-last _ _ _ _ records-kept
+      ap₂ (λ (m start : ℕ). walk (recordAt form (sectionsOf (added s r)) (added s r)) m start) count-more start-same ∙ walk-last _ _ _ _ records-kept
 
   pub steps-last : (stepTotal (added s r) (sectionsOf (added s r) .records .count) (sectionsOf (added s r) .records .at) ≡ old + stepsIn r 0)
-      × (recordedSteps (sectionsOf (added s r)) (added s r) ≡ recordedSteps (sectionsOf s) s ++ stepsOfRecord (added s r) (length s))
+      × (recordedSteps form (sectionsOf (added s r)) (added s r) ≡ recordedSteps form (sectionsOf s) s ++ stepsOfRecord form (added s r) (length s))
   unfolding recordedSteps
   steps-last =
       let w = was .sections .offsets .within in
       let n = sectionsOf s .records .count in
       let at = sectionsOf s .records .at in
-      let (total, same) = all-recorded-copied old-part (λ p. p) (λ p. p) (λ i. refl) (sectionsOf s) n (length s) (was .records) (omega arith) in
-      let (total′, filed′) = recorded-last (sectionsOf (added s r)) (added s r) n at (length s) records-kept in (
+      let (total, same) = all-recorded-copied old-part (λ p. p) (λ p. p) (λ i. refl) form (sectionsOf s) n (length s) (was .records) (omega arith) in
+      let (total′, filed′) = recorded-last form (sectionsOf (added s r)) (added s r) n at (length s) records-kept in (
         rw (count-more, start-same) (omega (arith, total, total′, was .total, steps-added)),
-        rw (count-more, start-same) (filed′ ∙ rw (← placed-same (stepsOfRecords (added s r) n at), ← same, placed-same (stepsOfRecords s n at))),
+        rw (count-more, start-same) (filed′ ∙ rw (← placed-same (stepsOfRecords form (added s r) n at), ← same, placed-same (stepsOfRecords form s n at))),
       )

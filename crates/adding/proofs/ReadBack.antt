@@ -12,6 +12,7 @@ use Rattle.answer.specs.declared.Answer.the-variants.{Good}
 use Rattle.answer.specs.Laws.{passed, parted}
 use Rattle.terms.specs.Sections.{sectionsOf}
 use Rattle.limits.specs.Limits.{headerSize, maxLength}
+use Rattle.format.specs.Form.{Form}
 use Rattle.format.specs.Records.{stepsIn, recordAt}
 use Rattle.format.specs.LookOver.{lookOver}
 use Rattle.format.specs.Decode.{stepsOfRecord}
@@ -28,18 +29,18 @@ use Rattle.adding.proofs.Kept.{header, kinds-kept, schema-kept, steps-l
 use Rattle.adding.proofs.OneRecord.{only-the-record}
 
 -- what a success says: no row from 1 to 10 is met by either book, and neither are 1 and 13 by the new length
-record Success (s r : List ℕ) (size n : ℕ) : Type 0 where
+record Success (form : Form) (s r : List ℕ) (size n : ℕ) : Type 0 where
   old : ℕ
-  was : lookOver s ≡ Good old
+  was : lookOver form s ≡ Good old
   most : length s + length r ≤ maxLength
   new : ℕ
-  is : lookOver (added s r) ≡ Good new
+  is : lookOver form (added s r) ≡ Good new
   room : length s + length r ≤ size
   place : n ≡ length s + length r
 
-succeeded : (s r : List ℕ) (size n : ℕ) → add s r size ≡ Good n → Success s r size n
+succeeded : (form : Form) (s r : List ℕ) (size n : ℕ) → add form s r size ≡ Good n → Success form s r size n
 unfolding add
-succeeded s r size n e =
+succeeded form s r size n e =
     let p = parted _ _ _ e in
     let q = passed _ _ _ _ _ (p .2) in
     let u = parted _ _ _ (q .1) in
@@ -56,36 +57,36 @@ succeeded s r size n e =
     }
 
 -- the steps of the record are those that its bytes say by themselves
-as-recorded : (s r : List ℕ) → headerSize ≤ length s → recordAt (sectionsOf (added s r)) (added s r) (length s) ≡ Good (length s + length r)
-    → stepsOfRecord (added s r) (length s) ≡ movedBy (length s) (stepsOfRecord r 0)
+as-recorded : (form : Form) (s r : List ℕ) → headerSize ≤ length s → recordAt form (sectionsOf (added s r)) (added s r) (length s) ≡ Good (length s + length r)
+    → stepsOfRecord form (added s r) (length s) ≡ movedBy (length s) (stepsOfRecord form r 0)
 unfolding movedBy placedBy
-as-recorded s r long good =
+as-recorded form s r long good =
     let alone : Copied (added s r) (length s) r 0 (length r) = record { within = omega arith; bytes = λ i l. rw zero-add (sym (byte-added s r long i)) } in
-    sym (placed-same (stepsOfRecord (added s r) (length s)))
-    ∙ recorded-copied alone (λ p. p) (λ p. length s + p) (λ i. omega arith) (sectionsOf (added s r)) (length s + length r) good (omega arith)
+    sym (placed-same (stepsOfRecord form (added s r) (length s)))
+    ∙ recorded-copied alone (λ p. p) (λ p. length s + p) (λ i. omega arith) form (sectionsOf (added s r)) (length s + length r) good (omega arith)
 
 -- the record is good to the end of the book, and its steps come after the old ones
-module _ (s r : List ℕ) (old new : ℕ) (was : lookOver s ≡ Good old) (is : lookOver (added s r) ≡ Good new) (most : length s + length r ≤ maxLength) where
-  record-good : (recordAt (sectionsOf (added s r)) (added s r) (length s) ≡ Good (length s + length r)) × (new ≡ old + stepsIn r 0)
+module _ (form : Form) (s r : List ℕ) (old new : ℕ) (was : lookOver form s ≡ Good old) (is : lookOver form (added s r) ≡ Good new) (most : length s + length r ≤ maxLength) where
+  record-good : (recordAt form (sectionsOf (added s r)) (added s r) (length s) ≡ Good (length s + length r)) × (new ≡ old + stepsIn r 0)
   unfolding lookRecord
   record-good =
-      let p = passed _ _ _ _ _ (sym (only-the-record s r old was most) ∙ is) in
+      let p = passed _ _ _ _ _ (sym (only-the-record form s r old was most) ∙ is) in
       let q = parted _ _ _ (p .1) in
       let u = passed _ _ _ _ _ (q .2) in
       let v = u .1 in
-      let l = length-added s r (look-over-good s old was .sections .size .least) in
-      let w = record-within _ _ _ _ (q .1) .1 in
+      let l = length-added s r (look-over-good form s old was .sections .size .least) in
+      let w = record-within _ _ _ _ _ (q .1) .1 in
       let x : length s + length r ≤ q .0 = ltb-false _ _ (u .0) in
       let y : q .0 ≡ length s + length r = omega arith in
       (rw y at (q .1), cc)
 
 -- Where adding succeeds, the new book is of good form and holds what the old one held, then the record as it was filed.
 pub read-back : AddedIsReadBack
-read-back s r size n e =
-    let g = succeeded s r size n e in
-    let was = look-over-good s _ (g .was) in
+read-back form s r size n e =
+    let g = succeeded form s r size n e in
+    let was = look-over-good form s _ (g .was) in
     let long = was .sections .size .least in
-    let new = record-good s r _ _ (g .was) (g .is) (g .most) in
+    let new = record-good form s r _ _ (g .was) (g .is) (g .most) in
     record {
       place = g .place;
       size = length-added s r long ∙ sym (g .place);
@@ -93,21 +94,21 @@ read-back s r size n e =
       was = g .was;
       is = rw (← new .1) (g .is);
       kept = byte-kept s r long;
-      header = rw (g .place) (header s r _ was (g .most));
-      kinds = kinds-kept s r _ was (g .most);
-      schema = schema-kept s r _ was (g .most);
+      header = rw (g .place) (header form s r _ was (g .most));
+      kinds = kinds-kept form s r _ was (g .most);
+      schema = schema-kept form s r _ was (g .most);
       behind = bytes-behind s r long;
       whole = rw (g .place) (new .0);
-      steps = steps-last s r _ was (g .most) .1;
-      asRecorded = as-recorded s r long (new .0);
+      steps = steps-last form s r _ was (g .most) .1;
+      asRecorded = as-recorded form s r long (new .0);
     }
 
 -- The new book is in the lent output, whose bytes beyond it stay.
 pub stored : AddedIsStored
 unfolding addBytes kept
-stored s r out n e =
-    let g = succeeded s r (length out) n e in
-    let long = look-over-good s _ (g .was) .sections .size .least in
+stored form s r out n e =
+    let g = succeeded form s r (length out) n e in
+    let long = look-over-good form s _ (g .was) .sections .size .least in
     let size : length (added s r) ≡ n = length-added s r long ∙ sym (g .place) in
     let room = g .room in
     let place = g .place in
@@ -120,4 +121,4 @@ stored s r out n e =
 -- A refusal leaves the lent output as it was.
 pub untouched : RefusedIsUntouched
 unfolding addBytes kept
-untouched s r out k p e = rw e
+untouched form s r out k p e = rw e

@@ -9,17 +9,18 @@ use Rattle.answer.specs.declared.Answer.the-variants.{Good}
 use Rattle.answer.specs.Answer.{_>>=_, refuse}
 use Rattle.terms.specs.Sections.{sectionsOf}
 use Rattle.limits.specs.Limits.{maxLength, maxRecords}
+use Rattle.format.specs.Form.{Form}
 use Rattle.format.specs.Records.{stepsIn, recordAt}
 use Rattle.format.specs.LookOver.{lookOver}
 use Rattle.jobs.specs.Add.{added}
 
 -- row 2, then rows 6 to 10 of the record alone, then the book's tail; `n` is the count of the old book's steps
-unfoldable pub lookRecord : List ℕ → List ℕ → ℕ → Answer
-lookRecord s r n = do
+unfoldable pub lookRecord : Form → List ℕ → List ℕ → ℕ → Answer
+lookRecord form s r n = do
   _ ← refuse (ltb maxRecords (sectionsOf s .records .count + 1)) 2 0
-  last ← recordAt (sectionsOf (added s r)) (added s r) (length s)
+  last ← recordAt form (sectionsOf (added s r)) (added s r) (length s)
   _ ← refuse (ltb last (length s + length r)) 6 last
   Good (n + stepsIn r 0)
 
 abbrev pub OnlyTheRecord : Type 0
-OnlyTheRecord = (s r : List ℕ) (n : ℕ) → lookOver s ≡ Good n → length s + length r ≤ maxLength → lookOver (added s r) ≡ lookRecord s r n
+OnlyTheRecord = (form : Form) (s r : List ℕ) (n : ℕ) → lookOver form s ≡ Good n → length s + length r ≤ maxLength → lookOver form (added s r) ≡ lookRecord form s r n

@@ -5,7 +5,8 @@ use Prim.Native.Nat.{ℕ}
 use lib.ListN.{length}
 use Rattle.answer.specs.declared.Answer.{Answer}
 use Rattle.jobs.specs.Add.{add, addBytes}
+use Rattle.format.specs.Form.{Form}
 
-pub record Outcome (s r old new : List ℕ) (a : Answer) : Type 0 where
-  pub says : a ≡ add s r (length old)
-  pub bytes : new ≡ addBytes s r old
+pub record Outcome (form : Form) (s r old new : List ℕ) (a : Answer) : Type 0 where
+  pub says : a ≡ add form s r (length old)
+  pub bytes : new ≡ addBytes form s r old

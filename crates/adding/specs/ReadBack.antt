@@ -10,6 +10,7 @@ use Rattle.input.specs.Bytes.{byteAt}
 use Rattle.terms.specs.declared.Sections.{Sections}
 use Rattle.terms.specs.Sections.{sectionsOf}
 use Rattle.terms.specs.Agree.{SameSchema}
+use Rattle.format.specs.Form.{Form}
 use Rattle.format.specs.Records.{stepsIn, recordAt}
 use Rattle.format.specs.LookOver.{lookOver}
 use Rattle.format.specs.Decode.{RecordedStep, stepsOfRecord, recordedSteps}
@@ -36,14 +37,14 @@ unfoldable pub movedBy : ℕ → List RecordedStep → List RecordedStep
 movedBy k = map (λ f. record { place = k + f .place; step = f .step; pre = f .pre; post = f .post })
 
 -- `s` the old book, `r` the bytes of the record, n the place of the success
-pub record ReadBack (s r : List ℕ) (n : ℕ) : Type 0 where
+pub record ReadBack (form : Form) (s r : List ℕ) (n : ℕ) : Type 0 where
   -- the place is the new length
   pub place : n ≡ length s + length r
   pub size : length (added s r) ≡ n
   -- the old book was of good form, and the new one is: its steps are the old ones and those of the record
   pub old : ℕ
-  pub was : lookOver s ≡ Good old
-  pub is : lookOver (added s r) ≡ Good (old + stepsIn r 0)
+  pub was : lookOver form s ≡ Good old
+  pub is : lookOver form (added s r) ≡ Good (old + stepsIn r 0)
   -- the old book's bytes stand where they stood, but for the record count and the end
   pub kept : (i : ℕ) → i < length s → renewed i ≡ false → byteAt (added s r) i ≡ byteAt s i
   pub header : sectionsOf (added s r) ≡ oneMore (sectionsOf s) n
@@ -51,24 +52,24 @@ pub record ReadBack (s r : List ℕ) (n : ℕ) : Type 0 where
   pub schema : SameSchema (schemaOf s) (schemaOf (added s r))
   -- the record's bytes stand after them, unchanged, and are one record of good form to their end
   pub behind : drop (length s) (added s r) ≡ r
-  pub whole : recordAt (sectionsOf (added s r)) (added s r) (length s) ≡ Good n
+  pub whole : recordAt form (sectionsOf (added s r)) (added s r) (length s) ≡ Good n
   -- all recorded steps are the old book's, then the record's ..
-  pub steps : recordedSteps (sectionsOf (added s r)) (added s r) ≡ recordedSteps (sectionsOf s) s ++ stepsOfRecord (added s r) (length s)
+  pub steps : recordedSteps form (sectionsOf (added s r)) (added s r) ≡ recordedSteps form (sectionsOf s) s ++ stepsOfRecord form (added s r) (length s)
   -- .. and these are what the record's bytes say by themselves, with their places in the new book
-  pub asRecorded : stepsOfRecord (added s r) (length s) ≡ movedBy (length s) (stepsOfRecord r 0)
+  pub asRecorded : stepsOfRecord form (added s r) (length s) ≡ movedBy (length s) (stepsOfRecord form r 0)
 
 -- a record that was added is read back as it was filed
 abbrev pub AddedIsReadBack : Type 0
-AddedIsReadBack = (s r : List ℕ) (size n : ℕ) → add s r size ≡ Good n → ReadBack s r n
+AddedIsReadBack = (form : Form) (s r : List ℕ) (size n : ℕ) → add form s r size ≡ Good n → ReadBack form s r n
 
 -- what a call's lent output holds afterwards: the new book and then its own bytes, or what it held
-pub record Stored (s r out : List ℕ) (n : ℕ) : Type 0 where
-  pub book : take n (addBytes s r out) ≡ added s r
-  pub beyond : drop n (addBytes s r out) ≡ drop n out
-  pub size : length (addBytes s r out) ≡ length out
+pub record Stored (form : Form) (s r out : List ℕ) (n : ℕ) : Type 0 where
+  pub book : take n (addBytes form s r out) ≡ added s r
+  pub beyond : drop n (addBytes form s r out) ≡ drop n out
+  pub size : length (addBytes form s r out) ≡ length out
 
 abbrev pub AddedIsStored : Type 0
-AddedIsStored = (s r out : List ℕ) (n : ℕ) → add s r (length out) ≡ Good n → Stored s r out n
+AddedIsStored = (form : Form) (s r out : List ℕ) (n : ℕ) → add form s r (length out) ≡ Good n → Stored form s r out n
 
 abbrev pub RefusedIsUntouched : Type 0
-RefusedIsUntouched = (s r out : List ℕ) (k p : ℕ) → add s r (length out) ≡ Refused k p → addBytes s r out ≡ out
+RefusedIsUntouched = (form : Form) (s r out : List ℕ) (k p : ℕ) → add form s r (length out) ≡ Refused k p → addBytes form s r out ≡ out

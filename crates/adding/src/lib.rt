@@ -1,4 +1,4 @@
-// Adding a record to a book: the fourth job. The new book is formed beside the lent output and its record looked over there, so that a refusal
+// Adding a record to a book of either form, the record being in the book's form: the fourth job. The new book is formed beside the lent output and its record looked over there, so that a refusal
 // leaves the output untouched. Uses answer, input, limits, output, terms, lookover and the definitions of jobs. Each record of the new book is read once.
 use answer::Answer;
 use terms::Sections;
@@ -35,11 +35,11 @@ fn room_behind(book: &[u8]) -> usize
 }
 
 // The job, by way of memory in which the new book is formed. Behind a good old book only the record count and the record itself can be refused.
-fn add_by(new: &mut [u8], book: &[u8], bytes: &[u8], out: &mut [u8]) -> Answer
+fn add_by(new: &mut [u8], book: &[u8], short: bool, bytes: &[u8], out: &mut [u8]) -> Answer
     requires { ⌜ maxLength ≤ length (now new) ⌝ }
-    ensures { λ r. ⌜ Outcome (now (book .entry)) (now (bytes .entry)) (now (out .entry)) (now (out .exit)) r ⌝ }
+    ensures { λ r. ⌜ Outcome short (now (book .entry)) (now (bytes .entry)) (now (out .entry)) (now (out .exit)) r ⌝ }
 {
-    let old = lookover::look_over(book);
+    let old = lookover::look_over(book, short);
     if answer::is_refused(old) {
         return old;
     }
@@ -52,7 +52,7 @@ fn add_by(new: &mut [u8], book: &[u8], bytes: &[u8], out: &mut [u8]) -> Answer
         return Answer::Refused(2, 0);
     }
     form(new, book, bytes);
-    let looked = lookover::last_record(&new[..size], book.len());
+    let looked = lookover::last_record(&new[..size], short, book.len());
     if answer::is_refused(looked) {
         return looked;
     }
@@ -64,9 +64,9 @@ fn add_by(new: &mut [u8], book: &[u8], bytes: &[u8], out: &mut [u8]) -> Answer
 }
 
 // The old book is looked over, then the new length, the new book and the room in `out`; each may refuse.
-pub fn add(book: &[u8], bytes: &[u8], out: &mut [u8]) -> Answer
-    ensures { λ r. ⌜ Outcome (now (book .entry)) (now (bytes .entry)) (now (out .entry)) (now (out .exit)) r ⌝ }
+pub fn add(book: &[u8], short: bool, bytes: &[u8], out: &mut [u8]) -> Answer
+    ensures { λ r. ⌜ Outcome short (now (book .entry)) (now (bytes .entry)) (now (out .entry)) (now (out .exit)) r ⌝ }
 {
     let mut new = [0u8; limits::MAX_LENGTH];
-    add_by(&mut new, book, bytes, out)
+    add_by(&mut new, book, short, bytes, out)
 }

@@ -62,7 +62,8 @@ fn relation_atoms(book: &[u8], h: Sections, kinds: &[u32; 256], r: Relation) -> 
     pairs(fillers(book, h, kinds, r, 1), fillers(book, h, kinds, r, 2))
 }
 
-fn store_word(set: &mut [u8; 32], n: usize, bits: u32)
+// Sixteen bits from bound fact n on, the first of a relation.
+pub fn store_word(set: &mut [u8; 32], n: usize, bits: u32)
     requires { ⌜ n + 16 ≤ maxAtoms ⌝ }
     ensures { λ _. ⌜ now (set .exit) ≡ storedWord (now (set .entry)) n bits ⌝ }
 {
@@ -72,7 +73,7 @@ fn store_word(set: &mut [u8; 32], n: usize, bits: u32)
 }
 
 // From here on there are no bound facts.
-fn atoms_end(relations: u16) -> usize
+pub fn atoms_end(relations: u16) -> usize
     ensures { λ r. ⌜ (r ≡ atomsEnd relations) × (r ≤ maxAtoms) ⌝ }
 {
     if limits::MAX_RELATIONS < relations {

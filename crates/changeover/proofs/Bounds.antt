@@ -2,10 +2,11 @@
 use Prim.Native.Nat.{ℕ, zero, suc, _+_, _≤_, _<_}
 use mathlib.Core.Path.{_≡_, refl, sym, ap, subst}
 use mathlib.Core.Logic.{_⊎_, inl, inr}
-use mathlib.Core.Bool.{true, false}
+use mathlib.Core.Bool.{true, false, not}
 use mathlib.Core.List.{List, [], _∷_}
 use native.Mathlib.Omega.{arith}
 use lib.ListN.{length, length-map}
+use borrow.Author.Tests.{ltb-false}
 use Rattle.truth.specs.Bools.{clash}
 use Rattle.answer.specs.declared.Answer.{Answer}
 use Rattle.answer.specs.declared.Answer.the-variants.{Good, Refused}
@@ -14,13 +15,17 @@ use Rattle.answer.specs.Answer.{isRefused, number, unpositioned, thenAt}
 use Rattle.answer.specs.Laws.{passed, parted, bind-assoc}
 use Rattle.answer.specs.Positions.{then-answer}
 use Rattle.terms.specs.Sections.{sectionsOf}
-use Rattle.terms.specs.Schema.{Schema}
+use Rattle.terms.specs.declared.Fact.{Fact}
+use Rattle.terms.specs.Schema.{Schema, TypedObjects}
 use Rattle.limits.specs.Limits.{maxLength, maxMoves, maxSteps, maxStarts, maxEntries, stepSize, entrySize}
 use Rattle.format.specs.LookOver.{lookOver}
+use Rattle.format.specs.Form.{Form, stateAfter}
 use Rattle.format.specs.Lists.{listEnd}
+use Rattle.format.specs.Records.{lengthIn, steps}
 use Rattle.format.specs.Decode.{RecordedStep, recordedStepsAt, stepsOfRecord, recordedStep}
 use Rattle.format.specs.Order.{stepCount, goalCount, goal, goalFrom, orderForm}
 use Rattle.answer.specs.Bounds.{Bounded, bounded-good, bounded-then, bounded-row, bounded-wider}
+use Rattle.format.proofs.Records.{head-limits, step-reach, steps-parted, record-good}
 use Rattle.format.proofs.LookOver.{look-over-good}
 use Rattle.lookover.proofs.Laws.{look-over-bounded}
 use Rattle.model.specs.Quantify.{Mem, here, there, first, least}
@@ -33,22 +38,23 @@ use Rattle.model.proofs.Lockstep.{run-within}
 use Rattle.jobs.specs.Planning.{domain, schemaOf, stepsOfBook, transitionsOf, startStates, goalOf, planOf}
 use Rattle.jobs.specs.Learn.{unboundEffects, conflictAnswer, conflictingMove, learnable, learn}
 use Rattle.jobs.specs.Add.{add}
+use Rattle.jobs.specs.Convert.{converted, convert}
 use Rattle.jobs.specs.Check.{planRun, orderRun, goalAnswer, runAnswer, startAnswer, startsAnswer, beforePlan, check}
 use Rattle.jobs.proofs.Starts.{failing-all, failing-some, failing-position}
 use Rattle.wellformed.proofs.Headers.{moves-few}
 use Rattle.wellformed.proofs.Records.{recorded-somewhere}
 use Rattle.wellformed.proofs.Orders.{length-plan, length-start-states}
 use Rattle.format.proofs.OrderForm.{order-good, order-bounded}
-use Rattle.scan.specs.Scan.{Observable}
-use Rattle.scan.proofs.Observing.{record-observable}
 use Rattle.adding.proofs.Bounds.{add-bounded}
 use Rattle.changeover.proofs.Laws.{Fits, fits-by}
 
 -- ---- row 11: the place of a step lies within the book
-steps-placed : (s : List ℕ) (n at : ℕ) {f : RecordedStep} → Observable s n at → Mem f (recordedStepsAt s n at) → f .place ≤ maxLength
-unfolding Observable recordedStepsAt recordedStep
-steps-placed s (suc n) at h here = h .2
-steps-placed s (suc n) at h (there m) = steps-placed s n (listEnd s at + stepSize) (h .5) m
+steps-placed : (form : Form) (sch : Schema) (ob : TypedObjects) (s : List ℕ) (end : ℕ) (n : ℕ) (before : List Fact) (at last : ℕ) {f : RecordedStep}
+    → steps form sch ob s end n before at ≡ Good last → Mem f (recordedStepsAt form s n before at) → f .place ≤ end
+unfolding recordedStepsAt recordedStep
+steps-placed form sch ob s end (suc n) before at last e here = omega (arith, step-reach form sch ob s end before at _ (steps-parted form sch ob s end n before at last e .0))
+steps-placed form sch ob s end (suc n) before at last e (there m) =
+    steps-placed form sch ob s end n (stateAfter form s before (at + stepSize)) (listEnd s (at + stepSize)) last (steps-parted form sch ob s end n before at last e .1) m
 
 unbound-effects-bounded : (sch : Schema) (fs : List RecordedStep) → ((f : RecordedStep) → Mem f fs → f .place ≤ maxLength) → Bounded maxLength (unboundEffects sch fs)
 unfolding unboundEffects
@@ -65,25 +71,26 @@ conflicting-bounded sch ts few = go (least (sch .moves) (conflicting (domain sch
     go zero law = omega arith
     go (suc a) law = (omega arith, omega (arith, law .0))
 
-learnable-bounded : (s : List ℕ) → Bounded maxLength (learnable s)
+learnable-bounded : (form : Form) (s : List ℕ) → Bounded maxLength (learnable form s)
 unfolding learnable stepsOfRecord
-learnable-bounded s =
-    bounded-then maxLength _ _ (look-over-bounded s)
+learnable-bounded form s =
+    bounded-then maxLength _ _ (look-over-bounded form s)
     (λ total e l.
-    let g = look-over-good s total e in
+    let g = look-over-good form s total e in
     bounded-then maxLength _ _
-    (unbound-effects-bounded (schemaOf s) (stepsOfBook s)
+    (unbound-effects-bounded (schemaOf s) (stepsOfBook form s)
     (λ f m.
-    let (from, next, good, k) = recorded-somewhere s total e m in
-    steps-placed s _ _ (record-observable (sectionsOf s) s (g .sections .size .most) (g .sections .counts .moves) from next good) k))
+    let (from, next, good, k) = recorded-somewhere form s total e m in
+    let r = record-good form (sectionsOf s) s from next good in
+    omega (arith, steps-placed form _ _ s (from + lengthIn s from) _ _ _ _ (r .steps) k, head-limits s from (r .head) .2, g .sections .size .most)))
     (λ n i j.
-    bounded-then maxLength _ _ (conflicting-bounded (schemaOf s) (transitionsOf s) (moves-few s total e))
+    bounded-then maxLength _ _ (conflicting-bounded (schemaOf s) (transitionsOf form s) (moves-few form s total e))
     (λ n i j. bounded-good maxLength total l)))
 
-learn-bounded : (s : List ℕ) (size : ℕ) → Bounded maxLength (learn s size)
+learn-bounded : (form : Form) (s : List ℕ) (size : ℕ) → Bounded maxLength (learn form s size)
 unfolding learn
-learn-bounded s size =
-    bounded-then maxLength _ _ (learnable-bounded s)
+learn-bounded form s size =
+    bounded-then maxLength _ _ (learnable-bounded form s)
     (λ total e l. bounded-row maxLength _ 13 0 _ (omega arith) (omega arith) (λ f. bounded-good maxLength total l))
 
 -- ---- rows 19 and 20: a step of the plan, an entry of the goal
@@ -101,10 +108,10 @@ unfolding planOf
 plan-count s o = simp length-map (length-plan o)
 
 -- of a plan from any start, with any goal
-plan-bounded : (s : List ℕ) (start : State) (plan : List GroundAction) (goal : List GoalLiteral) (steps : ℕ)
-    → steps ≤ maxSteps → length plan ≤ maxSteps → length goal ≤ maxEntries → Bounded maxLength (runAnswer steps goal (planRun s start plan))
+plan-bounded : (form : Form) (s : List ℕ) (start : State) (plan : List GroundAction) (goal : List GoalLiteral) (steps : ℕ)
+    → steps ≤ maxSteps → length plan ≤ maxSteps → length goal ≤ maxEntries → Bounded maxLength (runAnswer steps goal (planRun form s start plan))
 unfolding planRun runAnswer goalAnswer Bounded
-plan-bounded s start plan goal steps few short least = go (planRun s start plan) (λ k e. run-within _ _ plan start 1 k e .1)
+plan-bounded form s start plan goal steps few short least = go (planRun form s start plan) (λ k e. run-within _ _ plan start 1 k e .1)
   where
     go : (r : Run) → ((k : ℕ) → r ≡ stopped k → k < 1 + length plan) → Bounded maxLength (runAnswer steps goal r)
     go (stopped k) stop = (omega arith, let h = stop k refl in omega arith)
@@ -115,16 +122,16 @@ plan-bounded s start plan goal steps few short least = go (planRun s start plan)
         reach (suc i) h = (omega arith, omega arith)
 
 -- ---- the position: that of a start, and of a refusal by 19 or 20
-start-bounded : (s o : List ℕ) (n : ℕ) (start : State) → orderForm (schemaOf s) o ≡ Good n → Bounded maxLength (startAnswer s o start)
+start-bounded : (form : Form) (s o : List ℕ) (n : ℕ) (start : State) → orderForm (schemaOf s) o ≡ Good n → Bounded maxLength (startAnswer form s o start)
 unfolding startAnswer orderRun
-start-bounded s o n start form =
-    let h = order-good (schemaOf s) o n form .header in
-    plan-bounded s start (planOf (schemaOf s) o) (goalOf o) (stepCount o) (h .steps) (rw (plan-count s o) (h .steps)) (rw (goal-count o) (h .entries))
+start-bounded form s o n start ordered =
+    let h = order-good (schemaOf s) o n ordered .header in
+    plan-bounded form s start (planOf (schemaOf s) o) (goalOf o) (stepCount o) (h .steps) (rw (plan-count s o) (h .steps)) (rw (goal-count o) (h .entries))
 
 -- a start fails by 19 or 20
-start-row : (s o : List ℕ) (start : State) → isRefused (startAnswer s o start) ≡ true → (number (startAnswer s o start) ≡ 19) ⊎ (number (startAnswer s o start) ≡ 20)
+start-row : (form : Form) (s o : List ℕ) (start : State) → isRefused (startAnswer form s o start) ≡ true → (number (startAnswer form s o start) ≡ 19) ⊎ (number (startAnswer form s o start) ≡ 20)
 unfolding startAnswer runAnswer goalAnswer isRefused number
-start-row s o start e = go (orderRun s o start) e
+start-row form s o start e = go (orderRun form s o start) e
   where
     go : (r : Run) → isRefused (runAnswer (stepCount o) (goalOf o) r) ≡ true → (number (runAnswer (stepCount o) (goalOf o) r) ≡ 19) ⊎ (number (runAnswer (stepCount o) (goalOf o) r) ≡ 20)
     go (stopped k) e = inl refl
@@ -134,63 +141,76 @@ start-row s o start e = go (orderRun s o start) e
         reach zero e = clash false e refl
         reach (suc i) e = inr refl
 
-starts-bounded : (s o : List ℕ) (n : ℕ) → orderForm (schemaOf s) o ≡ Good n → Bounded maxLength (startsAnswer s o .answer) × (startsAnswer s o .position ≤ 1 + maxStarts)
+starts-bounded : (form : Form) (s o : List ℕ) (n : ℕ) → orderForm (schemaOf s) o ≡ Good n → Bounded maxLength (startsAnswer form s o .answer) × (startsAnswer form s o .position ≤ 1 + maxStarts)
 unfolding startsAnswer
-starts-bounded s o n form =
-    let h = order-good (schemaOf s) o n form .header in
-    let w = failing-position (startAnswer s o) (stepCount o) 1 (startStates o) in
-    (failing-all (startAnswer s o) (stepCount o) (Bounded maxLength) (bounded-good maxLength _ (omega (arith, h .steps))) 1 (startStates o) (λ start m. start-bounded s o n start form), omega (arith, w, length-start-states o, h .starts))
+starts-bounded form s o n ordered =
+    let h = order-good (schemaOf s) o n ordered .header in
+    let w = failing-position (startAnswer form s o) (stepCount o) 1 (startStates o) in
+    (failing-all (startAnswer form s o) (stepCount o) (Bounded maxLength) (bounded-good maxLength _ (omega (arith, h .steps))) 1 (startStates o) (λ start m. start-bounded form s o n start ordered), omega (arith, w, length-start-states o, h .starts))
 
-starts-row : (s o : List ℕ) → (startsAnswer s o .position ≡ 0) ⊎ ((number (startsAnswer s o .answer) ≡ 19) ⊎ (number (startsAnswer s o .answer) ≡ 20))
+starts-row : (form : Form) (s o : List ℕ) → (startsAnswer form s o .position ≡ 0) ⊎ ((number (startsAnswer form s o .answer) ≡ 19) ⊎ (number (startsAnswer form s o .answer) ≡ 20))
 unfolding startsAnswer
-starts-row s o = failing-some (startAnswer s o) (stepCount o) (λ a. (number a ≡ 19) ⊎ (number a ≡ 20)) (start-row s o) 1 (startStates o)
+starts-row form s o = failing-some (startAnswer form s o) (stepCount o) (λ a. (number a ≡ 19) ⊎ (number a ≡ 20)) (start-row form s o) 1 (startStates o)
 
 -- what rows 1 to 18 let pass has an order of good form
-form-good : (s o : List ℕ) (size n : ℕ) → beforePlan s o size ≡ Good n → orderForm (schemaOf s) o ≡ Good n
+form-good : (form : Form) (s o : List ℕ) (size n : ℕ) → beforePlan form s o size ≡ Good n → orderForm (schemaOf s) o ≡ Good n
 unfolding beforePlan
-form-good s o size n e = let (total, learns, rest) = parted (learnable s) n _ e in passed _ 13 0 n _ rest .1
+form-good form s o size n e = let (total, learns, rest) = parted (learnable form s) n _ e in passed _ 13 0 n _ rest .1
 
-check-bounded : (s o : List ℕ) (size : ℕ) → Bounded maxLength (check s o size .answer)
+check-bounded : (form : Form) (s o : List ℕ) (size : ℕ) → Bounded maxLength (check form s o size .answer)
 unfolding check beforePlan
-check-bounded s o size =
-    subst (λ (x : Answer). Bounded maxLength x) (sym (then-answer (beforePlan s o size) (startsAnswer s o)))
-    (subst (λ (x : Answer). Bounded maxLength x) (sym (bind-assoc (learnable s) _ _))
-    (bounded-then maxLength _ _ (learnable-bounded s)
+check-bounded form s o size =
+    subst (λ (x : Answer). Bounded maxLength x) (sym (then-answer (beforePlan form s o size) (startsAnswer form s o)))
+    (subst (λ (x : Answer). Bounded maxLength x) (sym (bind-assoc (learnable form s) _ _))
+    (bounded-then maxLength _ _ (learnable-bounded form s)
     (λ total e l.
     subst (λ (x : Answer). Bounded maxLength x) (sym (bind-assoc _ _ _))
     (bounded-row maxLength _ 13 0 _ (omega arith) (omega arith)
     (λ f.
     bounded-then maxLength _ _ (bounded-wider _ maxLength _ (omega arith) (order-bounded (schemaOf s) o))
-    (λ n i j. starts-bounded s o n i .0))))))
+    (λ n i j. starts-bounded form s o n i .0))))))
 
 abbrev Positions : Positioned → Type 0
 Positions r = (r .position ≤ 1 + maxStarts) × ((r .position ≡ 0) ⊎ ((number (r .answer) ≡ 19) ⊎ (number (r .answer) ≡ 20)))
 
 -- the position of a check is small enough to be packed, and 0 unless by 19 or 20
-check-position : (s o : List ℕ) (size : ℕ) → Positions (check s o size)
+check-position : (form : Form) (s o : List ℕ) (size : ℕ) → Positions (check form s o size)
 unfolding check thenAt unpositioned
-check-position s o size = go (beforePlan s o size) refl
+check-position form s o size = go (beforePlan form s o size) refl
   where
-    go : (a : Answer) → beforePlan s o size ≡ a → Positions (thenAt a (startsAnswer s o))
-    go (Good n) e = (starts-bounded s o n (form-good s o size n e) .1, starts-row s o)
+    go : (a : Answer) → beforePlan form s o size ≡ a → Positions (thenAt a (startsAnswer form s o))
+    go (Good n) e = (starts-bounded form s o n (form-good form s o size n e) .1, starts-row form s o)
     go (Refused m p) e = (omega arith, inl refl)
 
-pub look-over-fits : (s : List ℕ) → Fits (lookOver s) 0
-look-over-fits s = fits-by maxLength _ 0 (look-over-bounded s) (omega arith) (omega arith)
+pub look-over-fits : (form : Form) (s : List ℕ) → Fits (lookOver form s) 0
+look-over-fits form s = fits-by maxLength _ 0 (look-over-bounded form s) (omega arith) (omega arith)
 
-pub learn-fits : (s : List ℕ) (size : ℕ) → Fits (learn s size) 0
-learn-fits s size = fits-by maxLength _ 0 (learn-bounded s size) (omega arith) (omega arith)
+pub learn-fits : (form : Form) (s : List ℕ) (size : ℕ) → Fits (learn form s size) 0
+learn-fits form s size = fits-by maxLength _ 0 (learn-bounded form s size) (omega arith) (omega arith)
 
-pub check-fits : (s o : List ℕ) (size : ℕ) → Fits (check s o size .answer) (check s o size .position)
-check-fits s o size = fits-by maxLength _ _ (check-bounded s o size) (omega arith) (omega (arith, check-position s o size .0))
+pub check-fits : (form : Form) (s o : List ℕ) (size : ℕ) → Fits (check form s o size .answer) (check form s o size .position)
+check-fits form s o size = fits-by maxLength _ _ (check-bounded form s o size) (omega arith) (omega (arith, check-position form s o size .0))
 
-pub check-elsewhere : (s o : List ℕ) (size : ℕ) → (number (check s o size .answer) ≡ 19 → ⊥) → (number (check s o size .answer) ≡ 20 → ⊥) → check s o size .position ≡ 0
-check-elsewhere s o size not19 not20 = go (check-position s o size .1)
+pub check-elsewhere : (form : Form) (s o : List ℕ) (size : ℕ) → (number (check form s o size .answer) ≡ 19 → ⊥) → (number (check form s o size .answer) ≡ 20 → ⊥) → check form s o size .position ≡ 0
+check-elsewhere form s o size not19 not20 = go (check-position form s o size .1)
   where
-    go : (check s o size .position ≡ 0) ⊎ ((number (check s o size .answer) ≡ 19) ⊎ (number (check s o size .answer) ≡ 20)) → check s o size .position ≡ 0
+    go : (check form s o size .position ≡ 0) ⊎ ((number (check form s o size .answer) ≡ 19) ⊎ (number (check form s o size .answer) ≡ 20)) → check form s o size .position ≡ 0
     go (inl e) = e
     go (inr (inl e)) = absurd (not19 e)
     go (inr (inr e)) = absurd (not20 e)
 
-pub add-fits : (s r : List ℕ) (size : ℕ) → Fits (add s r size) 0
-add-fits s r size = fits-by maxLength _ 0 (add-bounded s r size) (omega arith) (omega arith)
+pub add-fits : (form : Form) (s r : List ℕ) (size : ℕ) → Fits (add form s r size) 0
+add-fits form s r size = fits-by maxLength _ 0 (add-bounded form s r size) (omega arith) (omega arith)
+
+-- rows 1 to 10, then 23 and 13
+convert-bounded : (to : Form) (s : List ℕ) (size : ℕ) → Bounded maxLength (convert to s size)
+unfolding convert
+convert-bounded to s size =
+    bounded-then maxLength _ _ (look-over-bounded (not to) s)
+    (λ total e l.
+    bounded-row maxLength _ 23 0 _ (omega arith) (omega arith)
+    (λ f.
+    bounded-row maxLength _ 13 0 _ (omega arith) (omega arith) (λ g. bounded-good maxLength _ (ltb-false maxLength (length (converted to s)) f))))
+
+pub convert-fits : (to : Form) (s : List ℕ) (size : ℕ) → Fits (convert to s size) 0
+convert-fits to s size = fits-by maxLength _ 0 (convert-bounded to s size) (omega arith) (omega arith)

@@ -15,6 +15,7 @@ use Rattle.terms.specs.declared.Step.{Step}
 use Rattle.terms.specs.Schema.{Schema, TypedObjects}
 use Rattle.terms.specs.Steps.{objectOf, stepAt, argumentBad}
 use Rattle.limits.specs.Limits.{maxMoves, maxObjects, stepSize, observedSize}
+use Rattle.format.specs.Form.{Form}
 use Rattle.format.specs.LookOver.{lookOver}
 use Rattle.format.specs.Order.{GoalEntry, startCount, stepCount, startAt, stepsAt, orderForm, starts, goal, plan, planFrom}
 use Rattle.model.specs.Quantify.{Mem, here, there}
@@ -59,11 +60,11 @@ ruled sch ts l seen a h h′ =
     }
 
 -- a book that learns has no conflict
-clean : (s : List ℕ) (n m : ℕ) → lookOver s ≡ Good n → learnable s ≡ Good m → inconsistentIn s ≡ false
-clean s n m good e = go (decide (inconsistentIn s))
+clean : (form : Form) (s : List ℕ) (n m : ℕ) → lookOver form s ≡ Good n → learnable form s ≡ Good m → inconsistentIn form s ≡ false
+clean form s n m good e = go (decide (inconsistentIn form s))
   where
-    go : (inconsistentIn s ≡ true) ⊎ (inconsistentIn s ≡ false) → inconsistentIn s ≡ false
-    go (inl h) = let (num, p, q, r) = learnable-inconsistent s n good h in good-refused m num p (sym e ∙ q)
+    go : (inconsistentIn form s ≡ true) ⊎ (inconsistentIn form s ≡ false) → inconsistentIn form s ≡ false
+    go (inl h) = let (num, p, q, r) = learnable-inconsistent form s n good h in good-refused m num p (sym e ∙ q)
     go (inr h) = h
 
 -- a step of the plan is one of its members
@@ -77,13 +78,13 @@ mem-plan o (suc n) at (suc i) h =
     let e : at + stepSize * suc i ≡ at + stepSize + stepSize * i = omega arith in
     rw e (there (mem-plan o n (at + stepSize) i (omega arith)))
 
-module _ (s : List ℕ) (n m : ℕ) (good : lookOver s ≡ Good n) (learns : learnable s ≡ Good m) where
+module _ (form : Form) (s : List ℕ) (n m : ℕ) (good : lookOver form s ≡ Good n) (learns : learnable form s ≡ Good m) where
   -- steps that are right over some objects, from any start that the mask has bits for
   module _ (ob : TypedObjects) (few : ob .count ≤ maxObjects) (steps : List Step) (right : (st : Step) → Mem st steps → RightStep (schemaOf s) ob st) where
     moves-known : (st : Step) → Mem st steps → (1 ≤ st .action .0) × (st .action .0 ≤ maxMoves)
     moves-known st i =
         let (a, b) = move-known (schemaOf s) ob st (right st i) in
-        let c = moves-few s n good in
+        let c = moves-few form s n good in
         (a, omega arith)
 
     objects-few : (st : Step) → Mem st steps → (p : Param) → 1 ≤ p .0 → p .0 ≤ 4 → objectOf (st .binding) p .0 ≤ maxObjects
@@ -92,16 +93,16 @@ module _ (s : List ℕ) (n m : ℕ) (good : lookOver s ≡ Good n) (learns : lea
         let most = object-most (schemaOf s) ob _ (objectOf (st .binding) p) _ (argument-right (schemaOf s) ob st (right st i) (p .0) low high) in
         omega arith
 
-    executing : Executing (domain (schemaOf s)) (learnedFrom s) (schemaOf s) (observedOf s .masks) steps
+    executing : Executing (domain (schemaOf s)) (learnedFrom form s) (schemaOf s) (observedOf form s .masks) steps
     unfolding observedOf learnedFrom transitionsOf domain groundAction
     executing =
         let sch = schemaOf s in
-        let seen = seen-observed sch (moves-few s n good) (stepsOfBook s) (recorded-faithful s n good) in
-        let size = relations-few s n good in
+        let seen = seen-observed sch (moves-few form s n good) (stepsOfBook form s) (recorded-faithful form s n good) in
+        let size = relations-few form s n good in
         record {
           few = omega arith;
-          valid = learned-consistent (domain sch) (transitionsOf s) (formed s n good) (clean s n m good learns) .valid;
-          ruled = λ st i. let (a, b) = moves-known st i in ruled sch (transitionsOf s) _ seen (st .action .0) a b;
+          valid = learned-consistent (domain sch) (transitionsOf form s) (formed form s n good) (clean form s n m good learns) .valid;
+          ruled = λ st i. let (a, b) = moves-known st i in ruled sch (transitionsOf form s) _ seen (st .action .0) a b;
           inMask =
               λ st i.
               record {
@@ -116,25 +117,25 @@ module _ (s : List ℕ) (n m : ℕ) (good : lookOver s ≡ Good n) (learns : lea
     module _ (start : List Fact) (under : Under (holding start)) where
       -- rows 19 and 20, and the end sheet where no step stops
       plan-answer : (count : ℕ) (goals : List GoalEntry)
-          → runAnswer count (map goalEntry goals) (planRun s (holding start) (map (groundAction (schemaOf s)) steps)) ≡ executedAnswer count goals (execute (schemaOf s) (observedOf s .masks) steps (startMask start) 1)
+          → runAnswer count (map goalEntry goals) (planRun form s (holding start) (map (groundAction (schemaOf s)) steps)) ≡ executedAnswer count goals (execute (schemaOf s) (observedOf form s .masks) steps (startMask start) 1)
       unfolding planRun
-      plan-answer count goals = execute-answer (domain (schemaOf s)) (learnedFrom s) (schemaOf s) (observedOf s .masks) steps executing start under count goals
+      plan-answer count goals = execute-answer (domain (schemaOf s)) (learnedFrom form s) (schemaOf s) (observedOf form s .masks) steps executing start under count goals
 
-      plan-sheet : execute (schemaOf s) (observedOf s .masks) steps (startMask start) 1 .stop ≡ 0
-          → execute (schemaOf s) (observedOf s .masks) steps (startMask start) 1 .mask ≡ endSheet (planRun s (holding start) (map (groundAction (schemaOf s)) steps))
+      plan-sheet : execute (schemaOf s) (observedOf form s .masks) steps (startMask start) 1 .stop ≡ 0
+          → execute (schemaOf s) (observedOf form s .masks) steps (startMask start) 1 .mask ≡ endSheet (planRun form s (holding start) (map (groundAction (schemaOf s)) steps))
       unfolding planRun
-      plan-sheet e = agrees-sheet _ _ (execute-start (domain (schemaOf s)) (learnedFrom s) (schemaOf s) (observedOf s .masks) steps executing start under) e
+      plan-sheet e = agrees-sheet _ _ (execute-start (domain (schemaOf s)) (learnedFrom form s) (schemaOf s) (observedOf form s .masks) steps executing start under) e
 
   -- what an order of good form supplies
   module _ (o : List ℕ) (k : ℕ) (order : orderForm (schemaOf s) o ≡ Good k) where
     right : RightOrder (schemaOf s) o
-    right = order-right (schemaOf s) (right-schema s n good .falling) o k order
+    right = order-right (schemaOf s) (right-schema form s n good .falling) o k order
 
     start-in-mask : (start : List Fact) → Mem start (starts o) → Under (holding start)
     unfolding startStates
     start-in-mask start i f h =
-        let size = relations-few s n good in
-        start-under (schemaOf s) (right-schema s n good .falling) o k order (holding start) (mem-map-in holding (starts o) i) f (omega arith)
+        let size = relations-few form s n good in
+        start-under (schemaOf s) (right-schema form s n good .falling) o k order (holding start) (mem-map-in holding (starts o) i) f (omega arith)
 
     -- the starts are good, and end within the order
     pub starts-good : StartsGood o (startCount o) (startAt o)
@@ -159,11 +160,11 @@ module _ (s : List ℕ) (n m : ℕ) (good : lookOver s ≡ Good n) (learns : lea
 
     -- rows 19 and 20 from a start, and its end sheet where no step stops
     module _ (start : List Fact) (i : Mem start (starts o)) where
-      pub start-executed : startAnswer s o (holding start) ≡ answerFrom (schemaOf s) (observedOf s .masks) o start
+      pub start-executed : startAnswer form s o (holding start) ≡ answerFrom (schemaOf s) (observedOf form s .masks) o start
       unfolding startAnswer orderRun goalOf planOf answerFrom executedFrom
       start-executed = plan-answer (orderTyped o) (right .few) (plan o) (right .steps) start (start-in-mask start i) (stepCount o) (goal o)
 
-      pub start-sheet : executedFrom (schemaOf s) (observedOf s .masks) o start .stop ≡ 0
-          → executedFrom (schemaOf s) (observedOf s .masks) o start .mask ≡ endSheet (orderRun s o (holding start))
+      pub start-sheet : executedFrom (schemaOf s) (observedOf form s .masks) o start .stop ≡ 0
+          → executedFrom (schemaOf s) (observedOf form s .masks) o start .mask ≡ endSheet (orderRun form s o (holding start))
       unfolding orderRun planOf executedFrom
       start-sheet = plan-sheet (orderTyped o) (right .few) (plan o) (right .steps) start (start-in-mask start i)

@@ -18,6 +18,7 @@ use Rattle.terms.specs.declared.Sections.{Sections}
 use Rattle.terms.specs.declared.Fact.{Fact}
 use Rattle.terms.specs.Sections.{sectionsOf}
 use Rattle.terms.specs.Schema.{Schema, schema}
+use Rattle.format.specs.Form.{Form}
 use Rattle.format.specs.LookOver.{lookOver}
 use Rattle.format.specs.Lists.{factsAt, listAt}
 use Rattle.format.specs.Order.{startCount, startAt, stepCount, stepsAt, orderForm, starts, goal, plan}
@@ -46,60 +47,60 @@ unfolding answerFrom executedFrom
 answer-by sch l o state new start r e out = rw e at (out .says)
 
 -- ---- rows 14 to 20
-module _ (s o old : List ℕ) (h : Sections) (observed : List ℕ) (ready : Ready s h observed old) (a : Answer) (b : Bool) (form : a ≡ orderForm (schema h s) o) (told : b ≡ isRefused a) where
+module _ (form : Form) (s o old : List ℕ) (h : Sections) (observed : List ℕ) (ready : Ready form s h observed old) (a : Answer) (b : Bool) (ordered : a ≡ orderForm (schema h s) o) (told : b ≡ isRefused a) where
   form-own : a ≡ orderForm (schemaOf s) o
-  form-own = rw (schema-own s h (ready .own)) at form
+  form-own = rw (schema-own s h (ready .own)) at ordered
 
   -- rows 14 to 18
-  pub at-order : b ≡ true → (p : Positioned) → p ≡ unpositioned a → OrderOutcome s o old old p
+  pub at-order : b ≡ true → (p : Positioned) → p ≡ unpositioned a → OrderOutcome form s o old old p
   unfolding fromOrder unpositioned
   at-order r p q =
-      let says : p ≡ fromOrder s o = q ∙ ap unpositioned form-own ∙ then-refused (orderForm (schemaOf s) o) _ (sym (ap isRefused form-own) ∙ sym told ∙ r) in
+      let says : p ≡ fromOrder form s o = q ∙ ap unpositioned form-own ∙ then-refused (orderForm (schemaOf s) o) _ (sym (ap isRefused form-own) ∙ sym told ∙ r) in
       record { says = says; bytes = refused-kept _ a _ old (sym (ap (λ (x : Positioned). x .answer) q) ∙ ap (λ (x : Positioned). x .answer) says) (sym told ∙ r) }
 
   module _ (passed : b ≡ false) where
-    formed : (n : ℕ) × (lookOver s ≡ Good n)
-    formed = form-good s _ (ready .learns)
+    formed : (n : ℕ) × (lookOver form s ≡ Good n)
+    formed = form-good form s _ (ready .learns)
 
     order : orderForm (schemaOf s) o ≡ Good (valueOf a)
     order = sym form-own ∙ is-good a (sym told ∙ passed)
 
     pub order-executable : Executable observed o (stepCount o) (stepsAt o)
-    order-executable = executable s (formed .0) _ (formed .1) (ready .learns) o _ order observed (ready .room)
+    order-executable = executable form s (formed .0) _ (formed .1) (ready .learns) o _ order observed (ready .room)
 
     pub order-starts : StartsGood o (startCount o) (startAt o)
-    order-starts = starts-good s (formed .0) _ (formed .1) (ready .learns) o _ order
+    order-starts = starts-good form s (formed .0) _ (formed .1) (ready .learns) o _ order
 
     module _ (new : List ℕ) (r : Positioned) (out : StartsOutcome (schema h s) observed o old new r) where
-      ran : StartsOutcome (schemaOf s) (observedOf s .masks) o old new r
+      ran : StartsOutcome (schemaOf s) (observedOf form s .masks) o old new r
       ran = rw (schema-own s h (ready .own), ready .observes) at out
 
       -- masks answer from each start as the learned model does
-      each-start : answerEach (schemaOf s) (observedOf s .masks) o ≡ startsAnswer s o
+      each-start : answerEach (schemaOf s) (observedOf form s .masks) o ≡ startsAnswer form s o
       unfolding answerEach startsAnswer startStates
       each-start =
-          failing-same (answerFrom (schemaOf s) (observedOf s .masks) o) (λ start. startAnswer s o (holding start)) (stepCount o) 1 (starts o)
-          (λ start m. sym (start-executed s (formed .0) _ (formed .1) (ready .learns) o _ order start m))
-          ∙ sym (failing-map holding (startAnswer s o) (stepCount o) 1 (starts o))
+          failing-same (answerFrom (schemaOf s) (observedOf form s .masks) o) (λ start. startAnswer form s o (holding start)) (stepCount o) 1 (starts o)
+          (λ start m. sym (start-executed form s (formed .0) _ (formed .1) (ready .learns) o _ order start m))
+          ∙ sym (failing-map holding (startAnswer form s o) (stepCount o) 1 (starts o))
 
-      says : r ≡ fromOrder s o
+      says : r ≡ fromOrder form s o
       unfolding fromOrder
       says = ran .says ∙ each-start ∙ sym (then-by _ _ _ order)
 
       abbrev mask : List Fact → List ℕ
-      mask start = executedFrom (schemaOf s) (observedOf s .masks) o start .mask
+      mask start = executedFrom (schemaOf s) (observedOf form s .masks) o start .mask
 
       -- the mask of the only start is its end sheet, where no step stops
-      kept-sheet : (xs : List (List Fact)) → starts o ≡ xs → (x : Answer) → x ≡ firstFailing (answerFrom (schemaOf s) (observedOf s .masks) o) (stepCount o) 1 xs .answer
-          → kept x (endAfter mask xs old) old ≡ kept x (endAfter (λ start. endSheet (orderRun s o (holding start))) xs old) old
+      kept-sheet : (xs : List (List Fact)) → starts o ≡ xs → (x : Answer) → x ≡ firstFailing (answerFrom (schemaOf s) (observedOf form s .masks) o) (stepCount o) 1 xs .answer
+          → kept x (endAfter mask xs old) old ≡ kept x (endAfter (λ start. endSheet (orderRun form s o (holding start))) xs old) old
       unfolding kept endAfter
       kept-sheet [] e x w = refl
       kept-sheet (start ∷ other ∷ rest) e x w = refl
       kept-sheet (start ∷ []) e (Refused m p) w = refl
       kept-sheet (start ∷ []) e (Good m) w =
-          start-sheet s (formed .0) _ (formed .1) (ready .learns) o _ order start (rw e here) (only-goes (schemaOf s) (observedOf s .masks) o start m (sym w))
+          start-sheet form s (formed .0) _ (formed .1) (ready .learns) o _ order start (rw e here) (only-goes (schemaOf s) (observedOf form s .masks) o start m (sym w))
 
-      pub at-run : OrderOutcome s o old new r
+      pub at-run : OrderOutcome form s o old new r
       unfolding answerEach startStates
       at-run =
           record {
@@ -107,38 +108,38 @@ module _ (s o old : List ℕ) (h : Sections) (observed : List ℕ) (ready : Read
             bytes =
                 ran .bytes
                 ∙ kept-sheet (starts o) refl (r .answer) (ap (λ (x : Positioned). x .answer) (ran .says))
-                ∙ rw (says, end-map holding (λ start. endSheet (orderRun s o start)) (starts o) old);
+                ∙ rw (says, end-map holding (λ start. endSheet (orderRun form s o start)) (starts o) old);
           }
 
 -- ---- the whole check
-module _ (s observed : List ℕ) (a : Answer) (b : Bool) (noted : BookObserved s observed a) (told : b ≡ isRefused a) where
-  learns : b ≡ false → learnable s ≡ Good (valueOf (learnable s))
+module _ (form : Form) (s observed : List ℕ) (a : Answer) (b : Bool) (noted : BookObserved form s observed a) (told : b ≡ isRefused a) where
+  learns : b ≡ false → learnable form s ≡ Good (valueOf (learnable form s))
   learns passed = is-good _ (sym (ap isRefused (noted .says)) ∙ sym told ∙ passed)
 
-  pub ready-by : b ≡ false → (old : List ℕ) → length old ≡ endSheetSize → (h : Sections) → h ≡ sectionsOf s → length observed ≡ observedSize → Ready s h observed old
+  pub ready-by : b ≡ false → (old : List ℕ) → length old ≡ endSheetSize → (h : Sections) → h ≡ sectionsOf s → length observed ≡ observedSize → Ready form s h observed old
   ready-by passed old size h own room =
       record { own = own; learns = learns passed; observes = noted .observes _ (is-good a (sym told ∙ passed)); room = room; size = size }
 
   module _ (o old : List ℕ) where
     -- rows 1 to 12
-    pub at-book : b ≡ true → (p : Positioned) → p ≡ unpositioned a → CheckOutcome s o old old p
+    pub at-book : b ≡ true → (p : Positioned) → p ≡ unpositioned a → CheckOutcome form s o old old p
     unfolding check checkBytes beforePlan unpositioned
     at-book r p q =
-        let before : a ≡ beforePlan s o (length old) = noted .says ∙ stays (learnable s) _ (sym (ap isRefused (noted .says)) ∙ sym told ∙ r) in
-        let says : p ≡ check s o (length old) = q ∙ ap unpositioned before ∙ then-refused (beforePlan s o (length old)) _ (sym (ap isRefused before) ∙ sym told ∙ r) in
+        let before : a ≡ beforePlan form s o (length old) = noted .says ∙ stays (learnable form s) _ (sym (ap isRefused (noted .says)) ∙ sym told ∙ r) in
+        let says : p ≡ check form s o (length old) = q ∙ ap unpositioned before ∙ then-refused (beforePlan form s o (length old)) _ (sym (ap isRefused before) ∙ sym told ∙ r) in
         record { says = says; bytes = refused-kept _ a _ old (sym (ap (λ (x : Positioned). x .answer) q) ∙ ap (λ (x : Positioned). x .answer) says) (sym told ∙ r) }
 
     -- row 13
-    pub at-size : b ≡ false → (length old ≡ endSheetSize → ⊥) → (p : Positioned) → p ≡ unpositioned (Refused 13 0) → CheckOutcome s o old old p
+    pub at-size : b ≡ false → (length old ≡ endSheetSize → ⊥) → (p : Positioned) → p ≡ unpositioned (Refused 13 0) → CheckOutcome form s o old old p
     unfolding check checkBytes beforePlan refuse _>>=_ thenAt isRefused unpositioned
     at-size passed h p q =
-        let says : p ≡ check s o (length old) = rw (q, learns passed, ne-eqb (length old) endSheetSize h) in
+        let says : p ≡ check form s o (length old) = rw (q, learns passed, ne-eqb (length old) endSheetSize h) in
         record { says = says; bytes = refused-kept _ (Refused 13 0) _ old (sym (ap (λ (x : Positioned). x .answer) q) ∙ ap (λ (x : Positioned). x .answer) says) refl }
 
     -- rows 14 to 20
-    pub at-rest : b ≡ false → length old ≡ endSheetSize → (new : List ℕ) (r : Positioned) → OrderOutcome s o old new r → CheckOutcome s o old new r
+    pub at-rest : b ≡ false → length old ≡ endSheetSize → (new : List ℕ) (r : Positioned) → OrderOutcome form s o old new r → CheckOutcome form s o old new r
     unfolding check beforePlan fromOrder checkBytes
     at-rest passed size new r out =
-        let rest : check s o (length old) ≡ fromOrder s o =
-        ap (λ (x : Answer). thenAt x (startsAnswer s o)) (bind-good _ _ _ (learns passed) ∙ refuse-unmet _ 13 0 _ (ap not (eq-eqb (length old) endSheetSize size))) in
+        let rest : check form s o (length old) ≡ fromOrder form s o =
+        ap (λ (x : Answer). thenAt x (startsAnswer form s o)) (bind-good _ _ _ (learns passed) ∙ refuse-unmet _ 13 0 _ (ap not (eq-eqb (length old) endSheetSize size))) in
         record { says = out .says ∙ sym rest; bytes = rw rest (out .bytes) }

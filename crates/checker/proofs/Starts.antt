@@ -15,13 +15,13 @@ use Rattle.truth.specs.Bools.{clash, decide}
 use Rattle.answer.specs.Laws.{kept-same, refused-good, refused-kept}
 use Rattle.answer.specs.Turns.{is-good}
 use Rattle.answer.specs.Walk.{walk, walk-parted}
-use Rattle.limits.specs.Limits.{maxLength}
+use Rattle.limits.specs.Limits.{maxLength, maxFacts}
 use Rattle.terms.specs.declared.Fact.{Fact}
 use Rattle.terms.specs.Schema.{Schema}
 use Rattle.format.specs.States.{state}
 use Rattle.format.specs.Lists.{listAt, listEnd}
 use Rattle.format.specs.Order.{goalAt, startCount, startAt, stepCount, startsFrom, starts, goal, plan}
-use Rattle.format.proofs.States.{state-ends}
+use Rattle.format.proofs.States.{list-ends}
 use Rattle.jobs.specs.Check.{firstFailing, endAfter}
 use Rattle.jobs.proofs.Starts.{failing-none, failing-here, failing-later, end-several}
 use Rattle.statemask.specs.Statemask.{execute, startMask}
@@ -45,7 +45,7 @@ pub next-start : (o : List ℕ) (n at : ℕ) → StartsGood o n at → 0 < n
 next-start o zero at g h = absurd (omega arith)
 next-start o (suc n) at g h =
     let (next, good, rest) = walk-parted (state 16 (g .sch) (g .ob) o (goalAt o)) n at (goalAt o) (g .good) in
-    let (place, end) = state-ends 16 (g .sch) (g .ob) o (goalAt o) at next good in (
+    let (place, end) = list-ends maxFacts 16 (g .sch) (g .ob) o (goalAt o) at next good in (
       omega (arith, g .near),
       omega (arith, g .within),
       record {

@@ -14,6 +14,7 @@ use Rattle.terms.specs.declared.Sections.{Sections}
 use Rattle.terms.specs.declared.Fact.{Fact}
 use Rattle.terms.specs.Sections.{sectionsOf}
 use Rattle.terms.specs.Schema.{Schema, TypedObjects}
+use Rattle.format.specs.Form.{Form}
 use Rattle.format.specs.States.{state}
 use Rattle.format.specs.Order.{GoalEntry, goalAt, stepCount, orderForm, starts, goal, plan}
 use Rattle.jobs.specs.Planning.{schemaOf, startStates}
@@ -53,23 +54,23 @@ pub record StartsOutcome (sch : Schema) (l o old new : List ℕ) (r : Positioned
   pub bytes : new ≡ kept (r .answer) (endAfter (λ start. executedFrom sch l o start .mask) (starts o) old) old
 
 -- rows 14 to 20
-unfoldable pub fromOrder : List ℕ → List ℕ → Positioned
-fromOrder s o = thenAt (orderForm (schemaOf s) o) (startsAnswer s o)
+unfoldable pub fromOrder : Form → List ℕ → List ℕ → Positioned
+fromOrder form s o = thenAt (orderForm (schemaOf s) o) (startsAnswer form s o)
 
 -- rows 1 to 13 are not met: the header that was read, what is observed, and the lent end sheet
-pub record Ready (s : List ℕ) (h : Sections) (observed end : List ℕ) : Type 0 where
+pub record Ready (form : Form) (s : List ℕ) (h : Sections) (observed end : List ℕ) : Type 0 where
   pub own : h ≡ sectionsOf s
-  pub learns : learnable s ≡ Good (valueOf (learnable s))
-  pub observes : observed ≡ observedOf s .masks
+  pub learns : learnable form s ≡ Good (valueOf (learnable form s))
+  pub observes : observed ≡ observedOf form s .masks
   pub room : length observed ≡ observedSize
   pub size : length end ≡ endSheetSize
 
 -- rows 14 to 20 with a lent end sheet: the answer with its position, and every byte of the sheet afterwards
-pub record OrderOutcome (s o old new : List ℕ) (r : Positioned) : Type 0 where
-  pub says : r ≡ fromOrder s o
-  pub bytes : new ≡ kept (fromOrder s o .answer) (endAfter (λ start. endSheet (orderRun s o start)) (startStates o) old) old
+pub record OrderOutcome (form : Form) (s o old new : List ℕ) (r : Positioned) : Type 0 where
+  pub says : r ≡ fromOrder form s o
+  pub bytes : new ≡ kept (fromOrder form s o .answer) (endAfter (λ start. endSheet (orderRun form s o start)) (startStates o) old) old
 
 -- a check with a lent end sheet: the answer with its position, and every byte of the sheet afterwards
-pub record CheckOutcome (s o old new : List ℕ) (r : Positioned) : Type 0 where
-  pub says : r ≡ check s o (length old)
-  pub bytes : new ≡ checkBytes s o old
+pub record CheckOutcome (form : Form) (s o old new : List ℕ) (r : Positioned) : Type 0 where
+  pub says : r ≡ check form s o (length old)
+  pub bytes : new ≡ checkBytes form s o old

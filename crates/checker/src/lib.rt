@@ -121,9 +121,16 @@ fn run_order(book: &[u8], h: Sections, observed: &[u8], o: &[u8], end: &mut [u8]
 }
 
 // Rows 14 to 20 for a book that learns, with an end sheet of its size.
-fn check_order(s: &[u8], h: Sections, observed: &[u8], o: &[u8], end: &mut [u8]) -> Positioned
-    requires { ⌜ Ready (now s) h (now observed) (now end) ⌝ }
-    ensures { λ r. ⌜ OrderOutcome (now (s .entry)) (now (o .entry)) (now (end .entry)) (now (end .exit)) r ⌝ }
+fn check_order(
+    s: &[u8],
+    short: bool,
+    h: Sections,
+    observed: &[u8],
+    o: &[u8],
+    end: &mut [u8],
+) -> Positioned
+    requires { ⌜ Ready short (now s) h (now observed) (now end) ⌝ }
+    ensures { λ r. ⌜ OrderOutcome short (now (s .entry)) (now (o .entry)) (now (end .entry)) (now (end .exit)) r ⌝ }
 {
     let a = orders::order_form(s, h, o);
     if answer::is_refused(a) {
@@ -132,17 +139,17 @@ fn check_order(s: &[u8], h: Sections, observed: &[u8], o: &[u8], end: &mut [u8])
     run_order(s, h, observed, o, end)
 }
 
-pub fn check(s: &[u8], o: &[u8], end: &mut [u8]) -> Positioned
-    ensures { λ r. ⌜ CheckOutcome (now (s .entry)) (now (o .entry)) (now (end .entry)) (now (end .exit)) r ⌝ }
+pub fn check(s: &[u8], short: bool, o: &[u8], end: &mut [u8]) -> Positioned
+    ensures { λ r. ⌜ CheckOutcome short (now (s .entry)) (now (o .entry)) (now (end .entry)) (now (end .exit)) r ⌝ }
 {
     let h = Sections::read(s);
     let mut observed = [0u8; limits::OBSERVED_SIZE];
-    let a = learner::observe_book(s, h, &mut observed);
+    let a = learner::observe_book(s, short, h, &mut observed);
     if answer::is_refused(a) {
         return answer::unpositioned(a);
     }
     if end.len() != limits::END_SHEET_SIZE {
         return answer::unpositioned(Answer::Refused(13, 0));
     }
-    check_order(s, h, &observed, o, end)
+    check_order(s, short, h, &observed, o, end)
 }

@@ -32,13 +32,13 @@ domain-same S T h right right′ =
 -- Books of good form with equal relations and moves, and the same parents, have schemas that say the same.
 pub same-sections-same-schema : SameSectionsSameSchema
 unfolding schemaOf schema
-same-sections-same-schema s t m n good good′ same =
-    let h = look-over-good s m good .sections .offsets in
-    let k = look-over-good t n good′ .sections .offsets in
+same-sections-same-schema f g s t m n good good′ same =
+    let h = look-over-good f s m good .sections .offsets in
+    let k = look-over-good g t n good′ .sections .offsets in
     same-by-bytes (sectionsOf s) (sectionsOf t) s t (same .parents) (same .relations) (same .moves)
     (λ i l. same .bytes i (omega arith))
     (λ i l. further (relationSize * sectionsOf s .relations .count + i) _ _ (omega (arith, h .moves)) (omega (arith, k .moves, same .relations)) (omega arith))
   where
     further : (i x y : ℕ) → x ≡ sectionsOf s .relations .at + i → y ≡ sectionsOf t .relations .at + i
         → i < relationSize * sectionsOf s .relations .count + moveSize * sectionsOf s .moves .count → byteAt s x ≡ byteAt t y
-    further i x y e f l = rw (e, f) (same .bytes i l)
+    further i x y e e′ l = rw (e, e′) (same .bytes i l)

@@ -13,6 +13,7 @@ use Rattle.answer.specs.declared.Answer.the-variants.{Good}
 use Rattle.truth.specs.Bools.{clash, not-self, is-false}
 use Rattle.answer.specs.Laws.{bind-good, refuse-unmet}
 use Rattle.terms.specs.Steps.{isAtom}
+use Rattle.format.specs.Form.{Form}
 use Rattle.format.specs.Decode.{RecordedStep}
 use Rattle.format.specs.LookOver.{lookOver}
 use Rattle.model.specs.Quantify.{Mem}
@@ -28,100 +29,100 @@ use Rattle.wellformed.proofs.Learnable.{inconsistentIn, learnable-inconsistent}
 use Rattle.demand.proofs.Demand3.{demand3}
 use Rattle.demand.proofs.Recorded.{sight-of-recorded, recorded-of-sight}
 
-module _ (s : List ℕ) (b : Bool) (a n : ℕ) where
+module _ (form : Form) (s : List ℕ) (b : Bool) (a n : ℕ) where
   -- ---- what is learned, told of the steps as they are recorded
-  need-recorded : learnedFrom s .precondition b a n ≡ true
-      ↔ ((isAtom (schemaOf s) a n ≡ true) × ((f : RecordedStep) → Mem f (stepsOfBook s) → f .step .action .0 ≡ a → valueIn s f (f .pre) n ≡ b))
+  need-recorded : learnedFrom form s .precondition b a n ≡ true
+      ↔ ((isAtom (schemaOf s) a n ≡ true) × ((f : RecordedStep) → Mem f (stepsOfBook form s) → f .step .action .0 ≡ a → valueIn s f (f .pre) n ≡ b))
   unfolding learnedFrom domain
   need-recorded = (
     λ e.
-        let (atom, never) = need-out (domain (schemaOf s)) (transitionsOf s) b a n e in (
+        let (atom, never) = need-out (domain (schemaOf s)) (transitionsOf form s) b a n e in (
           atom,
           λ f m q.
               not-eq-not {a = valueIn s f (f .pre) n} {b = b} .0
               (λ w.
               clash _
-              (before-in (transitionsOf s) a n (not b) _
-              (sight-of-recorded s a n (not b) _ (record { recordedSteps = f; member = m; action = q; was = w; got = refl })))
+              (before-in (transitionsOf form s) a n (not b) _
+              (sight-of-recorded form s a n (not b) _ (record { recordedSteps = f; member = m; action = q; was = w; got = refl })))
               never),
         ),
     λ (atom, always).
-        need-in (domain (schemaOf s)) (transitionsOf s) b a n atom
+        need-in (domain (schemaOf s)) (transitionsOf form s) b a n atom
         (is-false _
         (λ e.
-        let (y, sight) = before-out (transitionsOf s) a n (not b) e in
-        let h = recorded-of-sight s a n (not b) y sight in
+        let (y, sight) = before-out (transitionsOf form s) a n (not b) e in
+        let h = recorded-of-sight form s a n (not b) y sight in
         not-self b (sym (always (h .recordedSteps) (h .member) (h .action)) ∙ h .was))),
   )
 
-  effect-recorded : learnedFrom s .effect b a n ≡ true
+  effect-recorded : learnedFrom form s .effect b a n ≡ true
       ↔ ((isAtom (schemaOf s) a n ≡ true)
-      × ((f : RecordedStep) × Mem f (stepsOfBook s) × (f .step .action .0 ≡ a) × (valueIn s f (f .pre) n ≡ not b) × (valueIn s f (f .post) n ≡ b)))
+      × ((f : RecordedStep) × Mem f (stepsOfBook form s) × (f .step .action .0 ≡ a) × (valueIn s f (f .pre) n ≡ not b) × (valueIn s f (f .post) n ≡ b)))
   unfolding learnedFrom domain
   effect-recorded = (
     λ e.
-        let (atom, turns) = effect-out (domain (schemaOf s)) (transitionsOf s) b a n e in
-        let h = recorded-of-sight s a n (not b) b (turned-out (transitionsOf s) a n b turns) in
+        let (atom, turns) = effect-out (domain (schemaOf s)) (transitionsOf form s) b a n e in
+        let h = recorded-of-sight form s a n (not b) b (turned-out (transitionsOf form s) a n b turns) in
         (atom, (h .recordedSteps, h .member, h .action, h .was, h .got)),
     λ (atom, (f, m, q, w, g)).
-        effect-in (domain (schemaOf s)) (transitionsOf s) b a n atom
-        (turned-in (transitionsOf s) a n b (sight-of-recorded s a n (not b) b (record { recordedSteps = f; member = m; action = q; was = w; got = g }))),
+        effect-in (domain (schemaOf s)) (transitionsOf form s) b a n atom
+        (turned-in (transitionsOf form s) a n b (sight-of-recorded form s a n (not b) b (record { recordedSteps = f; member = m; action = q; was = w; got = g }))),
   )
 
 -- ---- the bits
-module _ (s : List ℕ) (a n : ℕ) (low : 1 ≤ a) (high : a ≤ schemaOf s .moves) (small : n < 256) where
-  need-none : (b : Bool) → isAtom (schemaOf s) a n ≡ false → learnedFrom s .precondition b a n ≡ false
+module _ (form : Form) (s : List ℕ) (a n : ℕ) (low : 1 ≤ a) (high : a ≤ schemaOf s .moves) (small : n < 256) where
+  need-none : (b : Bool) → isAtom (schemaOf s) a n ≡ false → learnedFrom form s .precondition b a n ≡ false
   unfolding learnedFrom learned domain
   need-none b e = rw e
 
-  effect-none : (b : Bool) → isAtom (schemaOf s) a n ≡ false → learnedFrom s .effect b a n ≡ false
+  effect-none : (b : Bool) → isAtom (schemaOf s) a n ≡ false → learnedFrom form s .effect b a n ≡ false
   unfolding learnedFrom learned domain
   effect-none b e = rw e
 
-  bits : (m : ℕ) → lookOver s ≡ Good m → inconsistentIn s ≡ false → (b : Bool) → Bits s b a n
+  bits : (m : ℕ) → lookOver form s ≡ Good m → inconsistentIn form s ≡ false → (b : Bool) → Bits form s b a n
   unfolding learnedFrom
   bits m good clean b =
-      let need = learned-need-bit s a n low high small b in
-      let effect = learned-effect-bit s a n low high small b in
+      let need = learned-need-bit form s a n low high small b in
+      let effect = learned-effect-bit form s a n low high small b in
       record {
-        needed-by-some = rw need (precondition-iff-some (domain (schemaOf s)) (transitionsOf s) (formed s m good) clean b a n);
-        needed-by-record = rw need (need-recorded s b a n);
-        given-by-every = rw effect (effect-iff-every (domain (schemaOf s)) (transitionsOf s) (formed s m good) clean b a n);
-        given-by-record = rw effect (effect-recorded s b a n);
+        needed-by-some = rw need (precondition-iff-some (domain (schemaOf s)) (transitionsOf form s) (formed form s m good) clean b a n);
+        needed-by-record = rw need (need-recorded form s b a n);
+        given-by-every = rw effect (effect-iff-every (domain (schemaOf s)) (transitionsOf form s) (formed form s m good) clean b a n);
+        given-by-record = rw effect (effect-recorded form s b a n);
         of-none = λ e. (need ∙ need-none b e, effect ∙ effect-none b e);
       }
 
 -- ---- the whole
-module _ (s : List ℕ) (n : ℕ) (good : lookOver s ≡ Good n) (total : ℕ) (accepted : learnable s ≡ Good total) where
-  accepted-clean : inconsistentIn s ≡ false
+module _ (form : Form) (s : List ℕ) (n : ℕ) (good : lookOver form s ≡ Good n) (total : ℕ) (accepted : learnable form s ≡ Good total) where
+  accepted-clean : inconsistentIn form s ≡ false
   accepted-clean =
       is-false _
       (λ e.
-      let (num, p, q, h) = learnable-inconsistent s n good e in
+      let (num, p, q, h) = learnable-inconsistent form s n good e in
       let z : _≡_ {A = ℕ} 0 1 = cc in
       omega arith)
 
-  written : (lent : List ℕ) → length lent ≡ ruleSize * schemaOf s .moves → learnBytes s lent ≡ ruleSheet s
+  written : (lent : List ℕ) → length lent ≡ ruleSize * schemaOf s .moves → learnBytes form s lent ≡ ruleSheet form s
   unfolding learnBytes kept learn
   written lent long =
-      let e : learn s (length lent) ≡ Good total =
-      bind-good (learnable s) _ total accepted ∙ refuse-unmet _ 13 0 _ (rw (eq-eqb (length lent) (ruleSize * schemaOf s .moves) long))
+      let e : learn form s (length lent) ≡ Good total =
+      bind-good (learnable form s) _ total accepted ∙ refuse-unmet _ 13 0 _ (rw (eq-eqb (length lent) (ruleSize * schemaOf s .moves) long))
       in
       rw e
 
-  long : length (ruleSheet s) ≡ ruleSize * schemaOf s .moves
+  long : length (ruleSheet form s) ≡ ruleSize * schemaOf s .moves
   unfolding ruleSheet
-  long = length-rows (learnedFrom s) (schemaOf s .moves) 1
+  long = length-rows (learnedFrom form s) (schemaOf s .moves) 1
 
 -- Demand 2.
 pub demand2 : Demand2
-demand2 s n good =
+demand2 form s n good =
     record {
-      refused = demand3 s n good .learning;
+      refused = demand3 form s n good .learning;
       learned = λ total accepted.
           record {
-            long = long s n good total accepted;
-            written = written s n good total accepted;
-            bits = λ b a k low high small. bits s a k low high small n good (accepted-clean s n good total accepted) b;
+            long = long form s n good total accepted;
+            written = written form s n good total accepted;
+            bits = λ b a k low high small. bits form s a k low high small n good (accepted-clean form s n good total accepted) b;
           };
     }

@@ -18,6 +18,7 @@ use Rattle.answer.specs.Positions.{then-refused, then-by, then-answer}
 use Rattle.answer.specs.Table.{table, rowFrom, row, upTo, MetFrom}
 use Rattle.answer.specs.Refusals.{from-earlier, from-good, from-row, from-bind}
 use Rattle.mask.proofs.Whole.{length-maskOf, test-maskOf}
+use Rattle.format.specs.Form.{Form}
 use Rattle.format.specs.LookOver.{lookOver}
 use Rattle.format.specs.Order.{stepCount, orderForm}
 use Rattle.model.specs.Quantify.{Mem, here, first}
@@ -61,171 +62,171 @@ late (Good n) from h = not-passed (Good n) h refl
 late (Refused num p) from (inl e) = clash (upTo 13 11) (rw e at (from num p refl)) refl
 late (Refused num p) from (inr e) = clash (upTo 13 12) (rw e at (from num p refl)) refl
 
-module _ (s : List ℕ) (n : ℕ) (good : lookOver s ≡ Good n) where
-  judge : Exact (domain (schemaOf s)) (FitsBook s) (inconsistentIn s) (checked (domain (schemaOf s)) (transitionsOf s))
-  judge = exact (domain (schemaOf s)) (transitionsOf s) (formed s n good)
+module _ (form : Form) (s : List ℕ) (n : ℕ) (good : lookOver form s ≡ Good n) where
+  judge : Exact (domain (schemaOf s)) (FitsBook form s) (inconsistentIn form s) (checked (domain (schemaOf s)) (transitionsOf form s))
+  judge = exact (domain (schemaOf s)) (transitionsOf form s) (formed form s n good)
 
   -- ---- 11 or 12
   -- an answer that begins with learning, and has only later rows after it
-  exactly : (a : Answer) (k : ℕ → Answer) → a ≡ (learnable s >>= k) → MetFrom 13 (k n) → Impossible a ↔ NoneFits s
+  exactly : (a : Answer) (k : ℕ → Answer) → a ≡ (learnable form s >>= k) → MetFrom 13 (k n) → Impossible a ↔ NoneFits form s
   exactly a k e from = (
-    λ h. judge .unfit .0 (is-true _ (λ clean. late (k n) from (rw (e ∙ bind-good (learnable s) k n (learnable-clean s n good clean)) at h))),
+    λ h. judge .unfit .0 (is-true _ (λ clean. late (k n) from (rw (e ∙ bind-good (learnable form s) k n (learnable-clean form s n good clean)) at h))),
     λ none.
-        let (num, p, q, h) = learnable-inconsistent s n good (judge .unfit .1 none) in
-        refused-impossible a num p (e ∙ bind-refused (learnable s) k num p q) h,
+        let (num, p, q, h) = learnable-inconsistent form s n good (judge .unfit .1 none) in
+        refused-impossible a num p (e ∙ bind-refused (learnable form s) k num p q) h,
   )
 
-  learning : (size : ℕ) → Impossible (learn s size) ↔ NoneFits s
+  learning : (size : ℕ) → Impossible (learn form s size) ↔ NoneFits form s
   unfolding learn table rowFrom row upTo
-  learning size = exactly (learn s size) _ refl (from-row 13 _ 13 0 _ refl (from-good 13 n))
+  learning size = exactly (learn form s size) _ refl (from-row 13 _ 13 0 _ refl (from-good 13 n))
 
   module _ (o : List ℕ) (size : ℕ) where
-    checking : Impossible (check s o size .answer) ↔ NoneFits s
+    checking : Impossible (check form s o size .answer) ↔ NoneFits form s
     unfolding check beforePlan startsAnswer startAnswer table rowFrom row upTo
     checking =
-        exactly (check s o size .answer) _ (then-answer (beforePlan s o size) (startsAnswer s o) ∙ bind-assoc (learnable s) _ _)
+        exactly (check form s o size .answer) _ (then-answer (beforePlan form s o size) (startsAnswer form s o) ∙ bind-assoc (learnable form s) _ _)
         (from-bind 13 _ _ (from-row 13 _ 13 0 _ refl (from-earlier 13 14 _ refl (order-met (schemaOf s) o)))
-        (λ y. from-failing (stepCount o) (goalOf o) (orderRun s o) 1 (startStates o)))
+        (λ y. from-failing (stepCount o) (goalOf o) (orderRun form s o) 1 (startStates o)))
 
     -- and where checking answers so, it is about no start
-    inconsistent-check : inconsistentIn s ≡ true → Impossible (check s o size .answer) × (check s o size .position ≡ 0)
+    inconsistent-check : inconsistentIn form s ≡ true → Impossible (check form s o size .answer) × (check form s o size .position ≡ 0)
     unfolding check beforePlan unpositioned isRefused
     inconsistent-check e =
-        let (num, p, q, h) = learnable-inconsistent s n good e in
-        let refused = then-refused (beforePlan s o size) (startsAnswer s o) (rw (bind-refused (learnable s) _ num p q)) in
+        let (num, p, q, h) = learnable-inconsistent form s n good e in
+        let refused = then-refused (beforePlan form s o size) (startsAnswer form s o) (rw (bind-refused (learnable form s) _ num p q)) in
         (checking .1 (judge .unfit .0 e), sym (ap (λ (r : Positioned). r .position) refused))
 
   -- ---- a plan from any start, with any goal
   module _ (start : State) (plan : List GroundAction) (goal : List GoalLiteral) (grounded : Grounded (domain (schemaOf s)) plan) where
     -- the judge's verdict is what the model's check says
-    says : (v : Verdict) → BookVerdict s start plan goal v ↔ (checked (domain (schemaOf s)) (transitionsOf s) plan start goal ≡ v)
+    says : (v : Verdict) → BookVerdict form s start plan goal v ↔ (checked (domain (schemaOf s)) (transitionsOf form s) plan start goal ≡ v)
     says = judge .verdict plan grounded start goal
 
-    some-verdict : (v : Verdict) × BookVerdict s start plan goal v
-    some-verdict = let v = checked (domain (schemaOf s)) (transitionsOf s) plan start goal in (v, says v .1 refl)
+    some-verdict : (v : Verdict) × BookVerdict form s start plan goal v
+    some-verdict = let v = checked (domain (schemaOf s)) (transitionsOf form s) plan start goal in (v, says v .1 refl)
 
-    inconsistent-verdict : inconsistentIn s ≡ true → (v : Verdict) → BookVerdict s start plan goal v → impossible ≡ v
+    inconsistent-verdict : inconsistentIn form s ≡ true → (v : Verdict) → BookVerdict form s start plan goal v → impossible ≡ v
     inconsistent-verdict e v h = sym (judge .refuses plan start goal .1 e) ∙ says v .0 h
 
-    inconsistent-fails : inconsistentIn s ≡ true → (end : State) → BookVerdict s start plan goal (passes end) → ⊥
+    inconsistent-fails : inconsistentIn form s ≡ true → (end : State) → BookVerdict form s start plan goal (passes end) → ⊥
     inconsistent-fails e end h = let q = inconsistent-verdict e (passes end) h in let z : _≡_ {A = ℕ} 0 1 = cc in omega arith
 
-    module _ (clean : inconsistentIn s ≡ false) where
+    module _ (clean : inconsistentIn form s ≡ false) where
       -- with a model that fits, it is what the run of the learned one comes to
-      run-verdict : (v : Verdict) → BookVerdict s start plan goal v ↔ (judgedRun goal (planRun s start plan) ≡ v)
+      run-verdict : (v : Verdict) → BookVerdict form s start plan goal v ↔ (judgedRun goal (planRun form s start plan) ≡ v)
       unfolding planRun learnedFrom checked
       run-verdict v =
-          let same = checked-run (inconsistentIn s) (domain (schemaOf s)) (learnedFrom s) plan start goal clean in
+          let same = checked-run (inconsistentIn form s) (domain (schemaOf s)) (learnedFrom form s) plan start goal clean in
           (λ h. sym same ∙ says v .0 h, λ e. says v .1 (same ∙ e))
 
       -- where neither the start nor a step's atoms have a fact from 4096 on, the sheet of a pass shows his end state
       pass-shows : (bound : ℕ) → bound ≤ maxFactNumbers → Under bound start
           → ((t : GroundAction) → Mem t plan → (k : ℕ) → domain (schemaOf s) .atom (t .action) k ≡ true → t .ground k < bound)
-          → (steps : ℕ) (end : State) → BookVerdict s start plan goal (passes end)
-          → (runAnswer steps goal (planRun s start plan) ≡ Good steps) × Shows (endSheet (planRun s start plan)) end
+          → (steps : ℕ) (end : State) → BookVerdict form s start plan goal (passes end)
+          → (runAnswer steps goal (planRun form s start plan) ≡ Good steps) × Shows (endSheet (planRun form s start plan)) end
       unfolding planRun learnedFrom endSheet
       pass-shows bound few under grounds steps end h =
-          let (ends, answer) = pass-comes steps _ _ _ (comes steps goal (planRun s start plan)) end (run-verdict (passes end) .0 h) in
-          let valid = learned-valid (domain (schemaOf s)) (transitionsOf s) (formed s n good) clean in (
+          let (ends, answer) = pass-comes steps _ _ _ (comes steps goal (planRun form s start plan)) end (run-verdict (passes end) .0 h) in
+          let valid = learned-valid (domain (schemaOf s)) (transitionsOf form s) (formed form s n good) clean in (
             answer,
             rw ends
                 (record {
                   long = length-maskOf stateSize end;
                   bits = λ k l. test-maskOf stateSize end k l;
-                  others = λ f l. run-under (domain (schemaOf s)) (learnedFrom s) valid bound plan grounds start under 1 end ends f (omega arith);
+                  others = λ f l. run-under (domain (schemaOf s)) (learnedFrom form s) valid bound plan grounds start under 1 end ends f (omega arith);
                 }),
           )
 
   -- ---- orders of good form
-  module _ (o : List ℕ) (m : ℕ) (form : orderForm (schemaOf s) o ≡ Good m) where
+  module _ (o : List ℕ) (m : ℕ) (ordered : orderForm (schemaOf s) o ≡ Good m) where
     proper : Grounded (domain (schemaOf s)) (planOf (schemaOf s) o)
-    proper = grounded (schemaOf s) (right-schema s n good .falling) o m form
+    proper = grounded (schemaOf s) (right-schema form s n good .falling) o m ordered
 
     some-starts : (1 ≤ length (startStates o)) × (length (startStates o) ≤ maxStarts)
-    some-starts = let h = order-good (schemaOf s) o m form .header in rw (length-start-states o) (h .some, h .starts)
+    some-starts = let h = order-good (schemaOf s) o m ordered .header in rw (length-start-states o) (h .some, h .starts)
 
-    module _ (clean : inconsistentIn s ≡ false) where
+    module _ (clean : inconsistentIn form s ≡ false) where
       -- only rows 19 and 20 are left
-      check-starts : check s o endSheetSize ≡ startsAnswer s o
+      check-starts : check form s o endSheetSize ≡ startsAnswer form s o
       unfolding check beforePlan
       check-starts =
-          then-by (beforePlan s o endSheetSize) (startsAnswer s o) m
-          (bind-good (learnable s) _ n (learnable-clean s n good clean) ∙ refuse-unmet _ 13 0 _ refl ∙ form)
+          then-by (beforePlan form s o endSheetSize) (startsAnswer form s o) m
+          (bind-good (learnable form s) _ n (learnable-clean form s n good clean) ∙ refuse-unmet _ 13 0 _ refl ∙ ordered)
 
-      start-verdict : (start : State) (v : Verdict) → StartVerdict s o start v ↔ (judgedRun (goalOf o) (orderRun s o start) ≡ v)
+      start-verdict : (start : State) (v : Verdict) → StartVerdict form s o start v ↔ (judgedRun (goalOf o) (orderRun form s o start) ≡ v)
       unfolding orderRun
       start-verdict start = run-verdict start (planOf (schemaOf s) o) (goalOf o) proper clean
 
-      runs-pass : (starts : List State) → AllPass s o starts ↔ AllRunsPass (stepCount o) (goalOf o) (orderRun s o) starts
+      runs-pass : (starts : List State) → AllPass form s o starts ↔ AllRunsPass (stepCount o) (goalOf o) (orderRun form s o) starts
       runs-pass starts = (
         λ all start i. let (end, h) = all start i in (end, start-verdict start (passes end) .0 h),
         λ all start i. let (end, h) = all start i in (end, start-verdict start (passes end) .1 h),
       )
 
-    verdict : (before : List State) (start : State) (rest : List State) → startStates o ≡ before ++ (start ∷ rest) → AllPass s o before
-        → (v : Verdict) → StartVerdict s o start v → Answers (suc (length before)) v (check s o endSheetSize)
+    verdict : (before : List State) (start : State) (rest : List State) → startStates o ≡ before ++ (start ∷ rest) → AllPass form s o before
+        → (v : Verdict) → StartVerdict form s o start v → Answers (suc (length before)) v (check form s o endSheetSize)
     unfolding startsAnswer startAnswer
-    verdict before start rest parts all v h = go (decide (inconsistentIn s))
+    verdict before start rest parts all v h = go (decide (inconsistentIn form s))
       where
-        go : (inconsistentIn s ≡ true) ⊎ (inconsistentIn s ≡ false) → Answers (suc (length before)) v (check s o endSheetSize)
+        go : (inconsistentIn form s ≡ true) ⊎ (inconsistentIn form s ≡ false) → Answers (suc (length before)) v (check form s o endSheetSize)
         go (inl e) =
-            subst (λ (w : Verdict). Answers (suc (length before)) w (check s o endSheetSize))
+            subst (λ (w : Verdict). Answers (suc (length before)) w (check form s o endSheetSize))
             (inconsistent-verdict start (planOf (schemaOf s) o) (goalOf o) proper e v h) (inconsistent-check o endSheetSize e)
         go (inr e) =
             let same = start-verdict e start v .0 h in
-            let moved = past (stepCount o) (goalOf o) (orderRun s o) before (start ∷ rest) 1 (suc (length before)) (omega arith) (runs-pass e before .0 all) in
-            rw (check-starts e, parts, moved, ← same) (failing-answers (stepCount o) (goalOf o) (orderRun s o) (suc (length before)) start rest)
+            let moved = past (stepCount o) (goalOf o) (orderRun form s o) before (start ∷ rest) 1 (suc (length before)) (omega arith) (runs-pass e before .0 all) in
+            rw (check-starts e, parts, moved, ← same) (failing-answers (stepCount o) (goalOf o) (orderRun form s o) (suc (length before)) start rest)
 
-    pass : AllPass s o (startStates o) → Passed (stepCount o) (check s o endSheetSize)
+    pass : AllPass form s o (startStates o) → Passed (stepCount o) (check form s o endSheetSize)
     unfolding startsAnswer startAnswer
-    pass all = go (decide (inconsistentIn s))
+    pass all = go (decide (inconsistentIn form s))
       where
-        go : (inconsistentIn s ≡ true) ⊎ (inconsistentIn s ≡ false) → Passed (stepCount o) (check s o endSheetSize)
+        go : (inconsistentIn form s ≡ true) ⊎ (inconsistentIn form s ≡ false) → Passed (stepCount o) (check form s o endSheetSize)
         go (inl e) =
             let (start, i) = some-member (startStates o) (some-starts .0) in
             let (end, h) = all start i in
             absurd (inconsistent-fails start (planOf (schemaOf s) o) (goalOf o) proper e end h)
-        go (inr e) = rw (check-starts e) (none-fails (stepCount o) (goalOf o) (orderRun s o) (startStates o) 1 (runs-pass e (startStates o) .0 all))
+        go (inr e) = rw (check-starts e) (none-fails (stepCount o) (goalOf o) (orderRun form s o) (startStates o) 1 (runs-pass e (startStates o) .0 all))
 
-    only : number (check s o endSheetSize .answer) ≡ 0 → AllPass s o (startStates o)
+    only : number (check form s o endSheetSize .answer) ≡ 0 → AllPass form s o (startStates o)
     unfolding startsAnswer startAnswer
-    only z = go (decide (inconsistentIn s))
+    only z = go (decide (inconsistentIn form s))
       where
-        go : (inconsistentIn s ≡ true) ⊎ (inconsistentIn s ≡ false) → AllPass s o (startStates o)
-        go (inl e) = absurd (not-passed (check s o endSheetSize .answer) (inconsistent-check o endSheetSize e .0) z)
-        go (inr e) = runs-pass e (startStates o) .1 (all-pass (stepCount o) (goalOf o) (orderRun s o) (startStates o) 1 (rw (check-starts e) at z))
+        go : (inconsistentIn form s ≡ true) ⊎ (inconsistentIn form s ≡ false) → AllPass form s o (startStates o)
+        go (inl e) = absurd (not-passed (check form s o endSheetSize .answer) (inconsistent-check o endSheetSize e .0) z)
+        go (inr e) = runs-pass e (startStates o) .1 (all-pass (stepCount o) (goalOf o) (orderRun form s o) (startStates o) 1 (rw (check-starts e) at z))
 
-    sheet : (start : State) → startStates o ≡ start ∷ [] → (end : State) → StartVerdict s o start (passes end)
-        → (lent : List ℕ) → length lent ≡ endSheetSize → Shows (checkBytes s o lent) end
+    sheet : (start : State) → startStates o ≡ start ∷ [] → (end : State) → StartVerdict form s o start (passes end)
+        → (lent : List ℕ) → length lent ≡ endSheetSize → Shows (checkBytes form s o lent) end
     unfolding checkBytes kept endAfter startsAnswer startAnswer isRefused unpositioned orderRun domain
-    sheet start one end h lent long = go (decide (inconsistentIn s))
+    sheet start one end h lent long = go (decide (inconsistentIn form s))
       where
-        go : (inconsistentIn s ≡ true) ⊎ (inconsistentIn s ≡ false) → Shows (checkBytes s o lent) end
+        go : (inconsistentIn form s ≡ true) ⊎ (inconsistentIn form s ≡ false) → Shows (checkBytes form s o lent) end
         go (inl e) = absurd (inconsistent-fails start (planOf (schemaOf s) o) (goalOf o) proper e end h)
         go (inr e) =
-            let few = relations-few s n good in
+            let few = relations-few form s n good in
             let (answer, shown) = pass-shows start (planOf (schemaOf s) o) (goalOf o) proper e (256 * schemaOf s .relations) (omega arith)
-            (start-under (schemaOf s) (right-schema s n good .falling) o m form start (rw one here)) (plan-under (schemaOf s) (right-schema s n good .falling) o m form) (stepCount o) end h in
-            let whole = failing-later (startAnswer s o) (stepCount o) 1 start [] (rw answer) ∙ failing-none (startAnswer s o) (stepCount o) 2 in
+            (start-under (schemaOf s) (right-schema form s n good .falling) o m ordered start (rw one here)) (plan-under (schemaOf s) (right-schema form s n good .falling) o m ordered) (stepCount o) end h in
+            let whole = failing-later (startAnswer form s o) (stepCount o) 1 start [] (rw answer) ∙ failing-none (startAnswer form s o) (stepCount o) 2 in
             rw (long, check-starts e, one, whole) shown
 
   -- with two starts or more, success too leaves the sheet as it was
-  unwritten : (o : List ℕ) (start other : State) (rest : List State) → startStates o ≡ start ∷ other ∷ rest → (lent : List ℕ) → checkBytes s o lent ≡ lent
+  unwritten : (o : List ℕ) (start other : State) (rest : List State) → startStates o ≡ start ∷ other ∷ rest → (lent : List ℕ) → checkBytes form s o lent ≡ lent
   unfolding checkBytes endAfter
-  unwritten o start other rest e lent = rw e (kept-same (check s o (length lent) .answer) lent lent refl)
+  unwritten o start other rest e lent = rw e (kept-same (check form s o (length lent) .answer) lent lent refl)
 
 pub demand3 : Demand3
-demand3 s n good =
+demand3 form s n good =
     record {
       unfit = λ o start. (λ h. h, λ h. h);
-      learning = learning s n good;
-      checking = checking s n good;
-      verdict = verdict s n good;
-      pass = pass s n good;
-      only = only s n good;
-      sheet = sheet s n good;
-      unwritten = unwritten s n good;
-      starts = some-starts s n good;
-      some = λ o m form start. some-verdict s n good start (planOf (schemaOf s) o) (goalOf o) (proper s n good o m form);
-      one = λ o start v w. unique (domain (schemaOf s)) (FitsBook s) (planOf (schemaOf s) o) start (goalOf o) v w;
+      learning = learning form s n good;
+      checking = checking form s n good;
+      verdict = verdict form s n good;
+      pass = pass form s n good;
+      only = only form s n good;
+      sheet = sheet form s n good;
+      unwritten = unwritten form s n good;
+      starts = some-starts form s n good;
+      some = λ o m ordered start. some-verdict form s n good start (planOf (schemaOf s) o) (goalOf o) (proper form s n good o m ordered);
+      one = λ o start v w. unique (domain (schemaOf s)) (FitsBook form s) (planOf (schemaOf s) o) start (goalOf o) v w;
     }

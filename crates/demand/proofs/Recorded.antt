@@ -3,6 +3,7 @@ use Prim.Native.Nat.{ℕ}
 use mathlib.Core.Path.{_≡_, sym, subst}
 use mathlib.Core.Bool.{Bool}
 use mathlib.Core.List.{List}
+use Rattle.format.specs.Form.{Form}
 use Rattle.format.specs.Decode.{RecordedStep}
 use Rattle.model.specs.Quantify.{Mem}
 use Rattle.model.specs.Domain.{Transition}
@@ -12,29 +13,29 @@ use Rattle.wellformed.proofs.Lists.{mem-map-out, mem-map-in}
 use Rattle.demand.specs.Demand2.{valueIn}
 
 -- a recorded step of the move, with the values of the bound fact before and after it
-pub record RecordedSight (s : List ℕ) (a n : ℕ) (x y : Bool) : Type 0 where
+pub record RecordedSight (form : Form) (s : List ℕ) (a n : ℕ) (x y : Bool) : Type 0 where
   pub recordedSteps : RecordedStep
-  pub member : Mem recordedSteps (stepsOfBook s)
+  pub member : Mem recordedSteps (stepsOfBook form s)
   pub action : recordedSteps .step .action .0 ≡ a
   pub was : valueIn s recordedSteps (recordedSteps .pre) n ≡ x
   pub got : valueIn s recordedSteps (recordedSteps .post) n ≡ y
 
-module _ (s : List ℕ) (a n : ℕ) (x y : Bool) where
-  pub sight-of-recorded : RecordedSight s a n x y → Sight (transitionsOf s) a n x y
+module _ (form : Form) (s : List ℕ) (a n : ℕ) (x y : Bool) where
+  pub sight-of-recorded : RecordedSight form s a n x y → Sight (transitionsOf form s) a n x y
   unfolding transitionsOf transition groundAction
   sight-of-recorded h =
       record {
         transition = transition (schemaOf s) (h .recordedSteps);
-        member = mem-map-in (transition (schemaOf s)) (stepsOfBook s) (h .member);
+        member = mem-map-in (transition (schemaOf s)) (stepsOfBook form s) (h .member);
         action = h .action;
         was = h .was;
         got = h .got;
       }
 
-  pub recorded-of-sight : Sight (transitionsOf s) a n x y → RecordedSight s a n x y
+  pub recorded-of-sight : Sight (transitionsOf form s) a n x y → RecordedSight form s a n x y
   unfolding transitionsOf transition groundAction
   recorded-of-sight h =
-      let (f, m, e) = mem-map-out (transition (schemaOf s)) (stepsOfBook s) (h .member) in
+      let (f, m, e) = mem-map-out (transition (schemaOf s)) (stepsOfBook form s) (h .member) in
       record {
         recordedSteps = f;
         member = m;

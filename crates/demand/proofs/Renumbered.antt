@@ -16,6 +16,7 @@ use Rattle.terms.specs.Agree.{SameSchema}
 use Rattle.terms.proofs.Atoms.{fact-path, first-range, second-range}
 use Rattle.terms.proofs.Agree.{atoms-same}
 use Rattle.limits.specs.Limits.{maxObjects}
+use Rattle.format.specs.Form.{Form}
 use Rattle.format.specs.Decode.{RecordedStep}
 use Rattle.model.specs.Quantify.{Mem, here, there}
 use Rattle.jobs.specs.Planning.{domain, holding, groundAction, transition, schemaOf, stepsOfBook}
@@ -50,7 +51,7 @@ renumbered-fact sch to numbering b c objects n =
     place true p low high = objects (p .0) low high
     place false p low high = numbering .none
 
-module _ (s t : List ℕ) (agree : SameSchema (schemaOf s) (schemaOf t)) (right-s : RightSchema (schemaOf s)) (right-t : RightSchema (schemaOf t)) where
+module _ (F G : Form) (s t : List ℕ) (agree : SameSchema (schemaOf s) (schemaOf t)) (right-s : RightSchema (schemaOf s)) (right-t : RightSchema (schemaOf t)) where
   -- a bound fact holds in a state exactly if it holds in the renumbered one, under the renumbered step
   value-same : (f g : RecordedStep) (h : RenumberedStep f g) → (ob : TypedObjects) → ob .count ≤ maxObjects → RightStep (schemaOf s) ob (f .step)
       → (k : TypedObjects) → k .count ≤ maxObjects → RightStep (schemaOf t) k (g .step)
@@ -77,7 +78,7 @@ module _ (s t : List ℕ) (agree : SameSchema (schemaOf s) (schemaOf t)) (right-
       let same = renumbered-apart (h .to) (h .numbering) x (factOf (schemaOf s) (f .step .binding) n) (q ∙ sym fact) in
       holds-in (schemaOf s) (f .step .binding) fs n (subst (λ (y : Fact). Mem y fs) same l))
 
-  alike-of-renumbered : (f g : RecordedStep) → RightSomewhere (schemaOf s) f → RightSomewhere (schemaOf t) g → RenumberedStep f g → AlikeRecorded s t agree right-s right-t f g
+  alike-of-renumbered : (f g : RecordedStep) → RightSomewhere (schemaOf s) f → RightSomewhere (schemaOf t) g → RenumberedStep f g → AlikeRecorded F G s t agree right-s right-t f g
   unfolding transition groundAction domain
   alike-of-renumbered f g (ob, few, right) (k, few′, right′) h =
       record {
@@ -99,17 +100,17 @@ renumbered-back (f ∷ fs) (g ∷ gs) h (there m) = let (x, k, e) = renumbered-b
 -- Objects renumbered: the same sheet.
 pub renumbered-same-sheet : RenumberedSameSheet
 unfolding ruleSheet
-renumbered-same-sheet s t m n good good′ agree steps =
-    rows-same (learnedFrom s) (learnedFrom t)
+renumbered-same-sheet F G s t m n good good′ agree steps =
+    rows-same (learnedFrom F s) (learnedFrom G t)
     (λ a.
-    same-row s t agree (right-schema s m good) (right-schema t n good′) a
+    same-row F G s t agree (right-schema F s m good) (right-schema G t n good′) a
     (record {
       forth = λ f k e.
-          let (g, l, h) = renumbered-forth (stepsOfBook s) (stepsOfBook t) steps k in
-          (g, l, alike-of-renumbered s t agree (right-schema s m good) (right-schema t n good′) f g (recorded-right s m good f k) (recorded-right t n good′ g l) h);
+          let (g, l, h) = renumbered-forth (stepsOfBook F s) (stepsOfBook G t) steps k in
+          (g, l, alike-of-renumbered F G s t agree (right-schema F s m good) (right-schema G t n good′) f g (recorded-right F s m good f k) (recorded-right G t n good′ g l) h);
       back = λ g k e.
-          let (f, l, h) = renumbered-back (stepsOfBook s) (stepsOfBook t) steps k in
-          (f, l, alike-of-renumbered s t agree (right-schema s m good) (right-schema t n good′) f g (recorded-right s m good f l) (recorded-right t n good′ g k) h);
+          let (f, l, h) = renumbered-back (stepsOfBook F s) (stepsOfBook G t) steps k in
+          (f, l, alike-of-renumbered F G s t agree (right-schema F s m good) (right-schema G t n good′) f g (recorded-right F s m good f l) (recorded-right G t n good′ g k) h);
     }))
     (schemaOf s .moves) 1
-    ∙ ap (λ (k : ℕ). ruleRows (learnedFrom t) k 1) (agree .moves)
+    ∙ ap (λ (k : ℕ). ruleRows (learnedFrom G t) k 1) (agree .moves)

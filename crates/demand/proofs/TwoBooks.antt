@@ -7,6 +7,7 @@ use Rattle.terms.specs.Steps.{ground}
 use Rattle.terms.specs.Typing.{RightSchema}
 use Rattle.terms.specs.Agree.{SameSchema}
 use Rattle.terms.proofs.Agree.{ground-same}
+use Rattle.format.specs.Form.{Form}
 use Rattle.format.specs.Decode.{RecordedStep}
 use Rattle.model.specs.Quantify.{Mem}
 use Rattle.model.specs.Domain.{Domain, Transition}
@@ -21,46 +22,46 @@ use Rattle.demand.specs.TwoBooks.{SameStep, SameSteps, rowOf, SameStepsS
 use Rattle.demand.proofs.Agree.{domain-same}
 use Rattle.jobs.proofs.Sheet.{row-part, row-same}
 
-module _ (s t : List ℕ) (agree : SameSchema (schemaOf s) (schemaOf t)) (right-s : RightSchema (schemaOf s)) (right-t : RightSchema (schemaOf t)) where
+module _ (F G : Form) (s t : List ℕ) (agree : SameSchema (schemaOf s) (schemaOf t)) (right-s : RightSchema (schemaOf s)) (right-t : RightSchema (schemaOf t)) where
   -- a recorded step of the one book shows what a recorded step of the other shows
   abbrev pub AlikeRecorded : RecordedStep → RecordedStep → Type 0
   AlikeRecorded f g = Alike (domain (schemaOf s)) (transition (schemaOf s) f) (transition (schemaOf t) g)
 
   -- each recorded step of move a has one alike in the other book
   pub record AlikeSteps (a : ℕ) : Type 0 where
-    pub forth : (f : RecordedStep) → Mem f (stepsOfBook s) → f .step .action .0 ≡ a → (g : RecordedStep) × Mem g (stepsOfBook t) × AlikeRecorded f g
-    pub back : (g : RecordedStep) → Mem g (stepsOfBook t) → g .step .action .0 ≡ a → (f : RecordedStep) × Mem f (stepsOfBook s) × AlikeRecorded f g
+    pub forth : (f : RecordedStep) → Mem f (stepsOfBook F s) → f .step .action .0 ≡ a → (g : RecordedStep) × Mem g (stepsOfBook G t) × AlikeRecorded f g
+    pub back : (g : RecordedStep) → Mem g (stepsOfBook G t) → g .step .action .0 ≡ a → (f : RecordedStep) × Mem f (stepsOfBook F s) × AlikeRecorded f g
 
-  row-of-alike : (a : ℕ) → AlikeSteps a → SameRow (domain (schemaOf s)) a (transitionsOf s) (transitionsOf t)
+  row-of-alike : (a : ℕ) → AlikeSteps a → SameRow (domain (schemaOf s)) a (transitionsOf F s) (transitionsOf G t)
   unfolding transitionsOf transition groundAction
   row-of-alike a h =
       record {
         forth = λ u m e.
-            let (f, k, q) = mem-map-out (transition (schemaOf s)) (stepsOfBook s) m in
+            let (f, k, q) = mem-map-out (transition (schemaOf s)) (stepsOfBook F s) m in
             let (g, l, alike) = h .forth f k (subst (λ (v : Transition). v .step .action ≡ a) (sym q) e) in (
               transition (schemaOf t) g,
-              mem-map-in (transition (schemaOf t)) (stepsOfBook t) l,
+              mem-map-in (transition (schemaOf t)) (stepsOfBook G t) l,
               subst (λ (v : Transition). Alike (domain (schemaOf s)) v (transition (schemaOf t) g)) q alike,
             );
         back = λ u m e.
-            let (g, k, q) = mem-map-out (transition (schemaOf t)) (stepsOfBook t) m in
+            let (g, k, q) = mem-map-out (transition (schemaOf t)) (stepsOfBook G t) m in
             let (f, l, alike) = h .back g k (subst (λ (v : Transition). v .step .action ≡ a) (sym q) e) in (
               transition (schemaOf s) f,
-              mem-map-in (transition (schemaOf s)) (stepsOfBook s) l,
+              mem-map-in (transition (schemaOf s)) (stepsOfBook F s) l,
               subst (λ (v : Transition). Alike (domain (schemaOf s)) v (transition (schemaOf s) f)) q
                   (alike-sym (domain (schemaOf s)) (transition (schemaOf s) f) (transition (schemaOf t) g) alike),
             );
       }
 
   -- Such books give the move the same row.
-  pub same-row : (a : ℕ) → AlikeSteps a → ruleRow (learnedFrom s) a ≡ ruleRow (learnedFrom t) a
+  pub same-row : (a : ℕ) → AlikeSteps a → ruleRow (learnedFrom F s) a ≡ ruleRow (learnedFrom G t) a
   unfolding learnedFrom
   same-row a h =
       let row = row-of-alike a h in
       let D : Domain = domain (schemaOf s) in
-      row-same (learned D (transitionsOf s)) (learned D (transitionsOf t)) a (precondition-same D a (transitionsOf s) (transitionsOf t) row)
-      (effect-same D a (transitionsOf s) (transitionsOf t) row)
-      ∙ ap (λ (E : Domain). ruleRow (learned E (transitionsOf t)) a) (domain-same (schemaOf s) (schemaOf t) agree right-s right-t)
+      row-same (learned D (transitionsOf F s)) (learned D (transitionsOf G t)) a (precondition-same D a (transitionsOf F s) (transitionsOf G t) row)
+      (effect-same D a (transitionsOf F s) (transitionsOf G t) row)
+      ∙ ap (λ (E : Domain). ruleRow (learned E (transitionsOf G t)) a) (domain-same (schemaOf s) (schemaOf t) agree right-s right-t)
 
   -- ---- the same steps
   alike-of-same : (f g : RecordedStep) → SameStep f g → AlikeRecorded f g
@@ -74,7 +75,7 @@ module _ (s t : List ℕ) (agree : SameSchema (schemaOf s) (schemaOf t)) (right-
             ap₂ holding (h .post) (ap (λ x. ground (schemaOf s) (x .binding) n) (h .step) ∙ ground-same (schemaOf s) (schemaOf t) agree (g .step .binding) (f .step .action .0) n atom);
       }
 
-  alike-of-steps : (a : ℕ) → SameSteps s t a → AlikeSteps a
+  alike-of-steps : (a : ℕ) → SameSteps F G s t a → AlikeSteps a
   alike-of-steps a h =
       record {
         forth = λ f m e. let (g, k, same) = h .forth f m e in (g, k, alike-of-same f g same);
@@ -82,14 +83,14 @@ module _ (s t : List ℕ) (agree : SameSchema (schemaOf s) (schemaOf t)) (right-
       }
 
 -- the row of a move in the sheet of a book
-row-of-sheet : (s : List ℕ) (a : ℕ) → 1 ≤ a → a ≤ schemaOf s .moves → rowOf s a ≡ ruleRow (learnedFrom s) a
+row-of-sheet : (form : Form) (s : List ℕ) (a : ℕ) → 1 ≤ a → a ≤ schemaOf s .moves → rowOf form s a ≡ ruleRow (learnedFrom form s) a
 unfolding ruleSheet
-row-of-sheet s a low high =
+row-of-sheet form s a low high =
     let e : 1 + (a - 1) ≡ a = omega arith in
-    row-part (learnedFrom s) (schemaOf s .moves) 1 (a - 1) (omega arith) ∙ ap (ruleRow (learnedFrom s)) e
+    row-part (learnedFrom form s) (schemaOf s .moves) 1 (a - 1) (omega arith) ∙ ap (ruleRow (learnedFrom form s)) e
 
 -- The same steps of one move, states included: the same 128 bytes.
 pub same-steps-same-row : SameStepsSameRow
-same-steps-same-row s t m n good good′ agree a low high steps =
+same-steps-same-row F G s t m n good good′ agree a low high steps =
     let high′ : a ≤ schemaOf t .moves = omega (arith, agree .moves) in
-    row-of-sheet s a low high ∙ same-row s t agree (right-schema s m good) (right-schema t n good′) a (alike-of-steps s t agree (right-schema s m good) (right-schema t n good′) a steps) ∙ sym (row-of-sheet t a low high′)
+    row-of-sheet F s a low high ∙ same-row F G s t agree (right-schema F s m good) (right-schema G t n good′) a (alike-of-steps F G s t agree (right-schema F s m good) (right-schema G t n good′) a steps) ∙ sym (row-of-sheet G t a low high′)

@@ -10,6 +10,7 @@ use Rattle.limits.specs.Limits.{ruleSize, maxAtoms}
 use Rattle.answer.specs.declared.Answer.the-variants.{Good}
 use Rattle.terms.specs.declared.Fact.{Fact}
 use Rattle.terms.specs.Steps.{isAtom, ground}
+use Rattle.format.specs.Form.{Form}
 use Rattle.format.specs.Decode.{RecordedStep}
 use Rattle.format.specs.LookOver.{lookOver}
 use Rattle.model.specs.Quantify.{Mem}
@@ -25,36 +26,36 @@ abbrev pub valueIn : List ℕ → RecordedStep → List Fact → ℕ → Bool
 valueIn s f fs n = holding fs (ground (schemaOf s) (f .step .binding) n)
 
 -- what the bits of bound fact n of move a say, `b` being the value needed or given
-pub record Bits (s : List ℕ) (b : Bool) (a n : ℕ) : Type 0 where
+pub record Bits (form : Form) (s : List ℕ) (b : Bool) (a n : ℕ) : Type 0 where
   -- It is set among the needs exactly if some fitting model needs it so,
-  pub needed-by-some : sheetBit (ruleSheet s) (needSet b) a n ≡ true ↔ ((M : Model) × FitsBook s M × (M .precondition b a n ≡ true))
+  pub needed-by-some : sheetBit (ruleSheet form s) (needSet b) a n ≡ true ↔ ((M : Model) × FitsBook form s M × (M .precondition b a n ≡ true))
   -- exactly if n is a bound fact of the move that had the value before every recorded step of it (formula 1).
-  pub needed-by-record : sheetBit (ruleSheet s) (needSet b) a n ≡ true
-      ↔ ((isAtom (schemaOf s) a n ≡ true) × ((f : RecordedStep) → Mem f (stepsOfBook s) → f .step .action .0 ≡ a → valueIn s f (f .pre) n ≡ b))
+  pub needed-by-record : sheetBit (ruleSheet form s) (needSet b) a n ≡ true
+      ↔ ((isAtom (schemaOf s) a n ≡ true) × ((f : RecordedStep) → Mem f (stepsOfBook form s) → f .step .action .0 ≡ a → valueIn s f (f .pre) n ≡ b))
   -- It is set among the effects exactly if every fitting model has the effect,
-  pub given-by-every : sheetBit (ruleSheet s) (effectSet b) a n ≡ true ↔ ((M : Model) → FitsBook s M → M .effect b a n ≡ true)
+  pub given-by-every : sheetBit (ruleSheet form s) (effectSet b) a n ≡ true ↔ ((M : Model) → FitsBook form s M → M .effect b a n ≡ true)
   -- exactly if n is a bound fact of the move that some recorded step of it changed to the value (formula 2).
-  pub given-by-record : sheetBit (ruleSheet s) (effectSet b) a n ≡ true
+  pub given-by-record : sheetBit (ruleSheet form s) (effectSet b) a n ≡ true
       ↔ ((isAtom (schemaOf s) a n ≡ true)
-      × ((f : RecordedStep) × Mem f (stepsOfBook s) × (f .step .action .0 ≡ a) × (valueIn s f (f .pre) n ≡ not b) × (valueIn s f (f .post) n ≡ b)))
+      × ((f : RecordedStep) × Mem f (stepsOfBook form s) × (f .step .action .0 ≡ a) × (valueIn s f (f .pre) n ≡ not b) × (valueIn s f (f .post) n ≡ b)))
   -- Bits of no bound fact are 0.
-  pub of-none : isAtom (schemaOf s) a n ≡ false → (sheetBit (ruleSheet s) (needSet b) a n ≡ false) × (sheetBit (ruleSheet s) (effectSet b) a n ≡ false)
+  pub of-none : isAtom (schemaOf s) a n ≡ false → (sheetBit (ruleSheet form s) (needSet b) a n ≡ false) × (sheetBit (ruleSheet form s) (effectSet b) a n ≡ false)
 
 -- of a book that is learned
-pub record SheetRight (s : List ℕ) : Type 0 where
+pub record SheetRight (form : Form) (s : List ℕ) : Type 0 where
   -- the sheet has 128 bytes for each move, and a lent sheet of that length has them afterwards
-  pub long : length (ruleSheet s) ≡ ruleSize * schemaOf s .moves
-  pub written : (lent : List ℕ) → length lent ≡ ruleSize * schemaOf s .moves → learnBytes s lent ≡ ruleSheet s
+  pub long : length (ruleSheet form s) ≡ ruleSize * schemaOf s .moves
+  pub written : (lent : List ℕ) → length lent ≡ ruleSize * schemaOf s .moves → learnBytes form s lent ≡ ruleSheet form s
   -- each bit of each move is right
-  pub bits : (b : Bool) (a n : ℕ) → 1 ≤ a → a ≤ schemaOf s .moves → n < maxAtoms → Bits s b a n
+  pub bits : (b : Bool) (a n : ℕ) → 1 ≤ a → a ≤ schemaOf s .moves → n < maxAtoms → Bits form s b a n
 
 -- of a book of good form
-pub record LearningRight (s : List ℕ) : Type 0 where
+pub record LearningRight (form : Form) (s : List ℕ) : Type 0 where
   -- It is refused with 11 or 12 exactly if no model fits it, whatever lent sheet comes with it.
-  pub refused : (size : ℕ) → Impossible (learn s size) ↔ NoneFits s
+  pub refused : (size : ℕ) → Impossible (learn form s size) ↔ NoneFits form s
   -- Of a book that is not, the sheet is the bound of all models that fit.
-  pub learned : (total : ℕ) → learnable s ≡ Good total → SheetRight s
+  pub learned : (total : ℕ) → learnable form s ≡ Good total → SheetRight form s
 
 -- Demand 2, of every book of good form
 abbrev pub Demand2 : Type 0
-Demand2 = (s : List ℕ) (n : ℕ) → lookOver s ≡ Good n → LearningRight s
+Demand2 = (form : Form) (s : List ℕ) (n : ℕ) → lookOver form s ≡ Good n → LearningRight form s

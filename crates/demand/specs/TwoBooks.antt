@@ -1,4 +1,5 @@
--- Two books side by side: when they show the same of a move, and the two sentences that say what follows for the rule sheet.
+-- Two books side by side, each in its form: when they show the same of a move, and the two sentences that say what follows for the rule sheet. `s` is of
+-- form `f`, `t` of form `g`.
 use Prim.Native.Nat.{ℕ, _+_, _-_, _*_, _≤_, _<_}
 use mathlib.Core.Path.{_≡_}
 use mathlib.Core.List.{List, [], _∷_}
@@ -10,6 +11,7 @@ use Rattle.terms.specs.Sections.{sectionsOf}
 use Rattle.terms.specs.Steps.{objectOf}
 use Rattle.terms.specs.Agree.{SameSchema}
 use Rattle.limits.specs.Limits.{relationSize, moveSize, maxParams, ruleSize}
+use Rattle.format.specs.Form.{Form}
 use Rattle.format.specs.Decode.{RecordedStep}
 use Rattle.format.specs.LookOver.{lookOver}
 use Rattle.model.specs.Quantify.{Mem}
@@ -27,7 +29,7 @@ pub record SameSections (s t : List ℕ) : Type 0 where
 
 -- Books of good form with such sections have schemas that say the same, which is what the two sentences below ask: bytes are one way to it.
 abbrev pub SameSectionsSameSchema : Type 0
-SameSectionsSameSchema = (s t : List ℕ) (m n : ℕ) → lookOver s ≡ Good m → lookOver t ≡ Good n → SameSections s t
+SameSectionsSameSchema = (f g : Form) (s t : List ℕ) (m n : ℕ) → lookOver f s ≡ Good m → lookOver g t ≡ Good n → SameSections s t
     → SameSchema (schemaOf s) (schemaOf t)
 
 -- ---- the same steps of one move
@@ -39,19 +41,19 @@ pub record SameStep (f g : RecordedStep) : Type 0 where
   pub post : f .post ≡ g .post
 
 -- each step of move a that the one book holds, the other holds too, however often and wherever
-pub record SameSteps (s t : List ℕ) (a : ℕ) : Type 0 where
-  pub forth : (f : RecordedStep) → Mem f (stepsOfBook s) → f .step .action .0 ≡ a → (g : RecordedStep) × Mem g (stepsOfBook t) × SameStep f g
-  pub back : (g : RecordedStep) → Mem g (stepsOfBook t) → g .step .action .0 ≡ a → (f : RecordedStep) × Mem f (stepsOfBook s) × SameStep f g
+pub record SameSteps (f g : Form) (s t : List ℕ) (a : ℕ) : Type 0 where
+  pub forth : (x : RecordedStep) → Mem x (stepsOfBook f s) → x .step .action .0 ≡ a → (y : RecordedStep) × Mem y (stepsOfBook g t) × SameStep x y
+  pub back : (y : RecordedStep) → Mem y (stepsOfBook g t) → y .step .action .0 ≡ a → (x : RecordedStep) × Mem x (stepsOfBook f s) × SameStep x y
 
 -- the 128 bytes of move a
-abbrev pub rowOf : List ℕ → ℕ → List ℕ
-rowOf s a = take ruleSize (drop (ruleSize * (a - 1)) (ruleSheet s))
+abbrev pub rowOf : Form → List ℕ → ℕ → List ℕ
+rowOf f s a = take ruleSize (drop (ruleSize * (a - 1)) (ruleSheet f s))
 
 -- Two books with equal relations and moves that hold the same steps of one move, states included, give that move the same 128 bytes.
 -- Asked is good form alone: accepted books, which learning does not refuse, are among these.
 abbrev pub SameStepsSameRow : Type 0
-SameStepsSameRow = (s t : List ℕ) (m n : ℕ) → lookOver s ≡ Good m → lookOver t ≡ Good n → SameSchema (schemaOf s) (schemaOf t)
-    → (a : ℕ) → 1 ≤ a → a ≤ schemaOf s .moves → SameSteps s t a → rowOf s a ≡ rowOf t a
+SameStepsSameRow = (f g : Form) (s t : List ℕ) (m n : ℕ) → lookOver f s ≡ Good m → lookOver g t ≡ Good n → SameSchema (schemaOf s) (schemaOf t)
+    → (a : ℕ) → 1 ≤ a → a ≤ schemaOf s .moves → SameSteps f g s t a → rowOf f s a ≡ rowOf g t a
 
 -- ---- objects renumbered
 
@@ -87,5 +89,5 @@ RenumberedSteps (f ∷ fs) (g ∷ gs) = RenumberedStep f g × RenumberedSteps fs
 
 -- Two books with equal relations and moves whose records differ by the numbers of their objects alone give the same rule sheet.
 abbrev pub RenumberedSameSheet : Type 0
-RenumberedSameSheet = (s t : List ℕ) (m n : ℕ) → lookOver s ≡ Good m → lookOver t ≡ Good n → SameSchema (schemaOf s) (schemaOf t)
-    → RenumberedSteps (stepsOfBook s) (stepsOfBook t) → ruleSheet s ≡ ruleSheet t
+RenumberedSameSheet = (f g : Form) (s t : List ℕ) (m n : ℕ) → lookOver f s ≡ Good m → lookOver g t ≡ Good n → SameSchema (schemaOf s) (schemaOf t)
+    → RenumberedSteps (stepsOfBook f s) (stepsOfBook g t) → ruleSheet f s ≡ ruleSheet g t

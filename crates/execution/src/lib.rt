@@ -6,7 +6,6 @@ ghost use Prim.Native.Nat.{_+_, _*_, _≤_, _<_};
 ghost use lib.ListN.{length};
 ghost use Rattle.limits.specs.Limits.{factSize, entrySize, farCeiling};
 ghost use Rattle.terms.specs.Schema.{schema};
-ghost use Rattle.terms.specs.Facts.{factNumber};
 ghost use Rattle.format.specs.Lists.{factsAt};
 ghost use Rattle.format.specs.Order.{goalFrom, planFrom, entryAt};
 ghost use Rattle.statemask.specs.Statemask.{startMask, missed, misses};
@@ -14,12 +13,6 @@ ghost use Rattle.execution.specs.Execution.{Executable, Executes};
 use terms::Fact;
 use terms::Sections;
 use terms::Step;
-
-fn fact_number(f: Fact) -> usize
-    ensures { λ r. ⌜ r ≡ factNumber f ⌝ }
-{
-    256 * terms::index(f.relation.0) + 16 * terms::index(f.first.0) + terms::index(f.second.0)
-}
 
 // ---- the start
 
@@ -32,7 +25,8 @@ pub fn start_mask(o: &[u8], n: usize, from: usize) -> [u8; limits::STATE_SIZE]
     let mut left = n;
     let mut at = from;
     while 0 < left {
-        mask::mark512(&mut state, fact_number(Fact::read(o, at)));
+        let f = Fact::read(o, at);
+        mask::mark512(&mut state, f.number());
         at += limits::FACT_SIZE;
         left -= 1;
     }
@@ -76,7 +70,8 @@ fn misses(o: &[u8], at: usize, state: &[u8; limits::STATE_SIZE]) -> bool
     ensures { λ r. ⌜ r ≡ misses (now (state .entry)) (entryAt (now (o .entry)) at) ⌝ }
 {
     let wanted = input::byte_at(o, at) == 1;
-    let holds = mask::has512(state, fact_number(Fact::read(o, at + 1)));
+    let f = Fact::read(o, at + 1);
+    let holds = mask::has512(state, f.number());
     (wanted & !holds) | (!wanted & holds)
 }
 

@@ -10,9 +10,8 @@ use lib.ListN.{length}
 use Rattle.answer.specs.declared.Answer.{Answer}
 use Rattle.answer.specs.declared.Answer.the-variants.{Good}
 use Rattle.truth.specs.Bools.{neither}
-use Rattle.answer.specs.Laws.{passed, refuse-unmet}
+use Rattle.answer.specs.Laws.{passed, refuse-unmet, bind-good}
 use Rattle.answer.specs.Walk.{walk, walk-induction, walk-beside}
-use Rattle.answer.specs.Turns.{walk-within}
 use Rattle.answer.specs.Entries.{entries-right, entries-all}
 use Rattle.input.specs.Bytes.{byteAt, two}
 use Rattle.terms.specs.declared.Fact.{Fact}
@@ -24,15 +23,16 @@ use Rattle.terms.specs.Typing.{Falling}
 use Rattle.terms.specs.Agree.{SameSchema}
 use Rattle.terms.proofs.Agree.{SameObjects, fact-over, step-over}
 use Rattle.limits.specs.Limits.{headSize, countSize, factSize, stepSize, maxFacts, maxObjects, maxSteps}
-use Rattle.format.specs.States.{cut, countBad, factRefused, facts, state}
-use Rattle.format.specs.Records.{objectsIn, stepsIn, lengthIn, headBad, object, step, objectsOf, recordAt, stepRefused}
+use Rattle.format.specs.Form.{Form, mostListed, stateAfter}
+use Rattle.format.specs.States.{cut, countBad, factRefused, facts, list, nextState}
+use Rattle.format.specs.Records.{objectsIn, stepsIn, lengthIn, headBad, object, step, steps, objectsOf, recordAt, stepRefused}
 use Rattle.format.specs.LookOver.{stepTotal}
-use Rattle.format.specs.Lists.{listEnd}
-use Rattle.format.specs.Decode.{RecordedStep, recordedStep, recordedStepsAt, stepsOfRecord, stepsOfRecords}
-use Rattle.format.proofs.States.{fact-good, count-within, state-within, state-end, state-ends}
-use Rattle.format.proofs.Records.{head-limits, head-objects, object-entry, step-good, step-within, step-reach, trajectory-parted, record-good, record-in, record-within}
+use Rattle.format.specs.Lists.{listAt, listEnd}
+use Rattle.format.specs.Decode.{RecordedStep, firstAt, recordedStep, recordedStepsAt, stepsOfRecord, stepsOfRecords}
+use Rattle.format.proofs.States.{fact-good, count-within, list-ends, next-good, next-in}
+use Rattle.format.proofs.Records.{head-limits, head-objects, object-entry, step-good, step-reach, step-ends, steps-parted, steps-within, record-good, record-in, record-within}
 use Rattle.format.proofs.Typing.{objects-known}
-use Rattle.format.proofs.Reading.{Copied, Facing, facing-on, byte-copied, two-copied, fact-copied, step-copied, head-copied, end-copied, state-copied}
+use Rattle.format.proofs.Reading.{Copied, Facing, facing-on, byte-copied, two-copied, fact-copied, step-copied, head-copied, end-copied, list-copied}
 
 -- recorded steps with other places
 unfoldable pub placedBy : (ℕ → ℕ) → List RecordedStep → List RecordedStep
@@ -47,6 +47,11 @@ placed-append : (to : ℕ → ℕ) (fs gs : List RecordedStep) → placedBy to (
 unfolding placedBy
 placed-append to [] gs = refl
 placed-append to (f ∷ fs) gs = rw (placed-append to fs gs)
+
+-- a list does not end before it begins
+low-end : (s : List ℕ) (at : ℕ) → at ≤ listEnd s at
+unfolding listEnd
+low-end s at = omega arith
 
 -- where it is good, and ends by `most`, it is good facing that too
 abbrev Beside : (ℕ → Answer) → (ℕ → Answer) → ℕ → ℕ → ℕ → Type 0
@@ -67,33 +72,50 @@ module _ {s t : List ℕ} {at at′ size : ℕ} (c : Copied s at t at′ size) w
         let (m, g, good) = facts-beside n (factAt s a) (a + factSize) (b + factSize) next (facing-on f factSize) rest in
         (m, g, refuse-unmet _ _ _ _ (rw (i, le-ltb end′ (b + factSize) (omega arith), fact-over S T same fall (S .kinds) (omega arith) (omega (arith, kinds)) H K typed (factAt s a) right, order)) ∙ rw i good)
 
-    state-beside : Beside (state 8 S H s end) (state 8 T K t end′) at at′ end
-    unfolding state countBad cut
-    state-beside a b next f l e =
+    list-beside : (most : ℕ) → Beside (list 8 most S H s end) (list 8 most T K t end′) at at′ end
+    unfolding list countBad cut
+    list-beside most a b next f l e =
         let (test, rest) = passed _ _ _ _ _ e in
-        let (reach, few) = count-within s end a test in
+        let (reach, few) = count-within most s end a test in
         let i = two-copied c a b f (omega arith) in
         let (m, g, good) = facts-beside (two s a) noFact (a + countSize) (b + countSize) next (facing-on f countSize) rest in
-        (m, g, refuse-unmet _ _ _ _ (rw (i, le-ltb end′ (b + countSize) (omega arith), le-ltb maxFacts (two s a) few)) ∙ rw i good)
+        (m, g, refuse-unmet _ _ _ _ (rw (i, le-ltb end′ (b + countSize) (omega arith), le-ltb most (two s a) few)) ∙ rw i good)
 
-    step-beside : Beside (step S H s end) (step T K t end′) at at′ end
-    unfolding step stepRefused cut
-    step-beside a b next f l e =
-        let (suits, different, behind) = step-good S H s end a next e in
-        let reach = step-reach S H s end a next e in
-        let i = step-copied c a b f (omega arith) in
-        let (m, g, good) = state-beside (a + stepSize) (b + stepSize) next (facing-on f stepSize) l behind in (
-          m,
-          g,
-          refuse-unmet _ _ _ _ (rw (i, le-ltb end′ (b + stepSize) (omega arith), step-over S T same fall (S .kinds) (omega arith) (omega (arith, kinds)) H K typed (stepAt s a) suits))
-              ∙ refuse-unmet _ _ _ _ (rw i different) ∙ good,
-        )
+    module _ (form : Form) where
+      -- the facts that hold after a step are the same, by the same facts before it
+      after-beside : (before : List Fact) (a b : ℕ) → Facing at at′ a b → listEnd s a ≤ end → stateAfter form t before b ≡ stateAfter form s before a
+      unfolding stateAfter
+      after-beside before a b f l = rw (list-copied c a b f (omega arith))
 
-    steps-beside : (n : ℕ) → Beside (walk (step S H s end) n) (walk (step T K t end′) n) at at′ end
-    steps-beside n a b last f l e =
-        walk-beside (step S H s end) (step T K t end′) (Facing at at′) end
-        (λ a next e. omega (arith, state-end 8 S H s end (a + stepSize) next (step-good S H s end a next e .2)))
-        step-beside n a b last f l e
+      next-beside : (before : List Fact) → Beside (nextState form S H s end before) (nextState form T K t end′ before) at at′ end
+      next-beside before a b next f l e =
+          let (good, few) = next-good form S H s end before a next e in
+          let reach = list-ends (mostListed form) 8 S H s end a next good .1 in
+          let (m, g, good′) = list-beside (mostListed form) a b next f l good in
+          (m, g, next-in form T K t end′ before b m good′ (rw (after-beside before a b f reach) few))
+
+      step-beside : (before : List Fact) → Beside (step form S H s end before) (step form T K t end′ before) at at′ end
+      unfolding step stepRefused cut
+      step-beside before a b next f l e =
+          let (suits, different, behind) = step-good form S H s end before a next e in
+          let reach = step-reach form S H s end before a next e in
+          let i = step-copied c a b f (omega arith) in
+          let (m, g, good) = next-beside before (a + stepSize) (b + stepSize) next (facing-on f stepSize) l behind in (
+            m,
+            g,
+            refuse-unmet _ _ _ _ (rw (i, le-ltb end′ (b + stepSize) (omega arith), step-over S T same fall (S .kinds) (omega arith) (omega (arith, kinds)) H K typed (stepAt s a) suits))
+                ∙ refuse-unmet _ _ _ _ (rw i different) ∙ good,
+          )
+
+      steps-beside : (n : ℕ) (before : List Fact) → Beside (steps form S H s end n before) (steps form T K t end′ n before) at at′ end
+      unfolding steps
+      steps-beside zero before a b last f l e = let p : a ≡ last = cc in (b, rw (← p) f, refl)
+      steps-beside (suc n) before a b last f l e =
+          let (good, rest) = steps-parted form S H s end n before a last e in
+          let (place, within) = step-ends form S H s end before a _ good in
+          let (m, g, good′) = step-beside before a b _ f within good in
+          let (z, g′, rest′) = steps-beside n (stateAfter form s before (a + stepSize)) _ m last g l rest in
+          (z, g′, bind-good _ _ _ good′ ∙ rw (after-beside before (a + stepSize) (b + stepSize) (facing-on f stepSize) within) rest′)
 
   objects-beside : (kinds end end′ : ℕ) → Facing at at′ end end′ → end ≤ at + size → (n a b last : ℕ) → Facing at at′ a b
       → walk (object kinds s end) n a ≡ Good last → walk (object kinds t end′) n b ≡ Good (b + n)
@@ -128,11 +150,11 @@ module _ {s t : List ℕ} {at at′ size : ℕ} (c : Copied s at t at′ size) w
 
   -- ---- records, in a book whose schema says the same
 
-  module _ (h k : Sections) (kinds : h .kinds ≡ k .kinds) (same : SameSchema (schema h s) (schema k t)) (fall : Falling (schema h s)) where
-    record-beside : Beside (recordAt h s) (recordAt k t) at at′ (at + size)
+  module _ (form : Form) (h k : Sections) (kinds : h .kinds ≡ k .kinds) (same : SameSchema (schema h s) (schema k t)) (fall : Falling (schema h s)) where
+    record-beside : Beside (recordAt form h s) (recordAt form k t) at at′ (at + size)
     unfolding schema
     record-beside a b next f l e =
-        let g = record-good h s a next e in
+        let g = record-good form h s a next e in
         let place = g .end in
         let limits = head-limits s a (g .head) in
         let (x, y, z) = head-copied c a b f (omega arith) in
@@ -140,40 +162,40 @@ module _ {s t : List ℕ} {at at′ size : ℕ} (c : Copied s at t at′ size) w
         let end′ : ℕ = b + lengthIn t b in
         let short : end ≤ at + size = omega arith in
         let ends : Facing at at′ end end′ = record { low = omega arith; level = omega arith } in
-        let first : Facing at at′ (a + headSize + objectsIn s a) (b + headSize + objectsIn t b) = record { low = omega arith; level = omega arith } in
-        let after = state-end 8 _ _ s end _ (g .after) (g .start) in
-        let within = state-within 8 _ _ s end _ (g .after) (g .start) in
+        let within = list-ends maxFacts 8 _ _ s end _ _ (g .start) .1 in
+        let low = low-end s (firstAt s a) in
+        let first : Facing at at′ (firstAt s a) (firstAt t b) = record { low = omega arith; level = omega arith } in
         let typed = typed-beside (h .kinds) a b f (omega arith) x end _ (g .objects) in
         let objects = objects-beside (h .kinds) end end′ ends short (objectsIn s a) (a + headSize) (b + headSize) _ (facing-on f headSize) (g .objects) in
-        let (m₂, f₂, start) = state-beside _ _ same fall kinds _ _ typed end end′ ends short _ _ (g .after) first within (g .start) in
-        let reach = walk-within _ end (step-within _ _ s end) (stepsIn s a) (g .after) (g .last) within (g .steps) in
-        let (m₃, f₃, steps) = steps-beside _ _ same fall kinds _ _ typed end end′ ends short (stepsIn s a) (g .after) m₂ (g .last) f₂ reach (g .steps) in
+        let (m₂, f₂, start) = list-beside _ _ same fall kinds _ _ typed end end′ ends short maxFacts _ _ _ first within (g .start) in
+        let after : m₂ ≡ listEnd t (firstAt t b) = list-ends maxFacts 8 _ _ t end′ _ m₂ start .0 in
+        let reach = steps-within form _ _ s end (stepsIn s a) _ _ (g .last) within (g .steps) .1 in
+        let (m₃, f₃, steps) = steps-beside _ _ same fall kinds _ _ typed end end′ ends short form (stepsIn s a) (listAt s (firstAt s a)) _ m₂ (g .last) f₂ reach (g .steps) in
         let full : end ≤ g .last = ltb-false (g .last) end (g .full) in (
           end′,
           rw (g .end) ends,
-          record-in k t b end′
+          record-in form k t b end′
               (record {
-                after = m₂;
                 last = m₃;
                 head = head-beside a b f short (g .head);
                 objects = rw (x, ← kinds) objects;
-                start = start;
-                steps = rw y steps;
+                start = start ∙ ap Good after;
+                steps = rw (y, list-copied c (firstAt s a) (firstAt t b) first (omega arith), ← after) steps;
                 full = le-ltb m₃ end′ (omega arith);
                 end = refl;
               }),
         )
 
     -- A record of good form, and records in a row, are of good form where their bytes stand.
-    pub record-copied : (next : ℕ) → recordAt h s at ≡ Good next → next ≤ at + size → recordAt k t at′ ≡ Good (at′ + lengthIn s at)
+    pub record-copied : (next : ℕ) → recordAt form h s at ≡ Good next → next ≤ at + size → recordAt form k t at′ ≡ Good (at′ + lengthIn s at)
     record-copied next e l =
         let (m, f, good) = record-beside at at′ next (record { low = omega arith; level = omega arith }) l e in
-        let place = record-within h s at next e in
+        let place = record-within form h s at next e in
         good ∙ ap Good (omega arith)
 
-    pub records-copied : (n last last′ : ℕ) → last ≡ at + size → last′ ≡ at′ + size → walk (recordAt h s) n at ≡ Good last → walk (recordAt k t) n at′ ≡ Good last′
+    pub records-copied : (n last last′ : ℕ) → last ≡ at + size → last′ ≡ at′ + size → walk (recordAt form h s) n at ≡ Good last → walk (recordAt form k t) n at′ ≡ Good last′
     records-copied n last last′ p q e =
-        let (m, f, good) = walk-beside (recordAt h s) (recordAt k t) (Facing at at′) (at + size) (λ a next e. omega (arith, record-within h s a next e)) record-beside n at at′ last (record { low = omega arith; level = omega arith }) (omega arith) e in
+        let (m, f, good) = walk-beside (recordAt form h s) (recordAt form k t) (Facing at at′) (at + size) (λ a next e. omega (arith, record-within form h s a next e)) record-beside n at at′ last (record { low = omega arith; level = omega arith }) (omega arith) e in
         good ∙ ap Good (omega arith)
 
   -- ---- the steps recorded in them, by places that are called the same
@@ -185,75 +207,73 @@ module _ {s t : List ℕ} {at at′ size : ℕ} (c : Copied s at t at′ size) w
         go : (j x y : ℕ) → x ≡ at + j → y ≡ at′ + j → f x ≡ g y
         go j x y p q = rw (p, q) (named j)
 
-    module _ (S : Schema) (H : TypedObjects) (end : ℕ) (short : end ≤ at + size) where
-      trajectory-recorded : (n a b next last : ℕ) → Facing at at′ a b → state 8 S H s end a ≡ Good next → walk (step S H s end) n next ≡ Good last
-          → placedBy f (recordedStepsAt s n a) ≡ placedBy g (recordedStepsAt t n b)
-      unfolding recordedStepsAt recordedStep placedBy
-      trajectory-recorded zero a b next last face e w = refl
-      trajectory-recorded (suc n) a b next last face e w =
-          let (after, good, rest) = trajectory-parted S H s end n a next last e w in
-          let behind = step-good S H s end (listEnd s a) after good .2 in
-          let within = state-ends 8 S H s end a next e .1 in
-          let within′ = state-ends 8 S H s end (listEnd s a + stepSize) after behind .1 in
-          let reach : listEnd s a + stepSize ≤ end = step-reach S H s end (listEnd s a) after good in
-          let face′ = end-copied c a b face (omega arith) in
-          let face″ = facing-on face′ stepSize in
+    module _ (form : Form) (S : Schema) (H : TypedObjects) (end : ℕ) (short : end ≤ at + size) where
+      steps-recorded : (n : ℕ) (before : List Fact) (a b last : ℕ) → Facing at at′ a b → steps form S H s end n before a ≡ Good last
+          → placedBy f (recordedStepsAt form s n before a) ≡ placedBy g (recordedStepsAt form t n before b)
+      unfolding recordedStepsAt recordedStep placedBy stateAfter
+      steps-recorded zero before a b last face e = refl
+      steps-recorded (suc n) before a b last face e =
+          let (good, rest) = steps-parted form S H s end n before a last e in
+          let within = step-ends form S H s end before a _ good .1 in
+          let reach = step-reach form S H s end before a _ good in
+          let face′ = facing-on face stepSize in
           rw (
-            place-same (listEnd s a) (listEnd t b) face′,
-            step-copied c (listEnd s a) (listEnd t b) face′ (omega arith),
-            state-copied c a b face (omega arith),
-            state-copied c (listEnd s a + stepSize) (listEnd t b + stepSize) face″ (omega arith),
-            trajectory-recorded n (listEnd s a + stepSize) (listEnd t b + stepSize) after last face″ behind rest,
+            place-same a b face,
+            step-copied c a b face (omega arith),
+            list-copied c (a + stepSize) (b + stepSize) face′ (omega arith),
+            steps-recorded n (stateAfter form s before (a + stepSize)) (listEnd s (a + stepSize)) (listEnd t (b + stepSize)) last (end-copied c (a + stepSize) (b + stepSize) face′ (omega arith)) rest,
           )
 
-    module _ (h : Sections) where
-      record-recorded : (a b next : ℕ) → Facing at at′ a b → next ≤ at + size → recordAt h s a ≡ Good next
-          → placedBy f (stepsOfRecord s a) ≡ placedBy g (stepsOfRecord t b)
+    module _ (form : Form) (h : Sections) where
+      record-recorded : (a b next : ℕ) → Facing at at′ a b → next ≤ at + size → recordAt form h s a ≡ Good next
+          → placedBy f (stepsOfRecord form s a) ≡ placedBy g (stepsOfRecord form t b)
       unfolding stepsOfRecord
       record-recorded a b next face l e =
-          let r = record-good h s a next e in
+          let r = record-good form h s a next e in
           let place = r .end in
           let limits = head-limits s a (r .head) in
+          let within = list-ends maxFacts 8 _ _ s (a + lengthIn s a) _ _ (r .start) .1 in
+          let low = low-end s (firstAt s a) in
           let (x, y, z) = head-copied c a b face (omega arith) in
-          rw (x, y)
-          (trajectory-recorded _ _ (a + lengthIn s a) (omega arith) (stepsIn s a) (a + headSize + objectsIn s a) (b + headSize + objectsIn s a) (r .after) (r .last)
-          (facing-on (facing-on face headSize) (objectsIn s a)) (r .start) (r .steps))
+          let first : Facing at at′ (firstAt s a) (firstAt t b) = record { low = omega arith; level = omega arith } in
+          rw (y, list-copied c (firstAt s a) (firstAt t b) first (omega arith))
+          (steps-recorded form _ _ (a + lengthIn s a) (omega arith) (stepsIn s a) (listAt s (firstAt s a)) _ _ (r .last) (end-copied c (firstAt s a) (firstAt t b) first (omega arith)) (r .steps))
 
       -- records in a row have as many steps, and the same
-      records-recorded : (n a last : ℕ) → walk (recordAt h s) n a ≡ Good last
-          → (a ≤ last) × (last ≤ at + size → (b : ℕ) → Facing at at′ a b → (stepTotal t n b ≡ stepTotal s n a) × (placedBy f (stepsOfRecords s n a) ≡ placedBy g (stepsOfRecords t n b)))
+      records-recorded : (n a last : ℕ) → walk (recordAt form h s) n a ≡ Good last
+          → (a ≤ last) × (last ≤ at + size → (b : ℕ) → Facing at at′ a b → (stepTotal t n b ≡ stepTotal s n a) × (placedBy f (stepsOfRecords form s n a) ≡ placedBy g (stepsOfRecords form t n b)))
       unfolding stepTotal stepsOfRecords placedBy
       records-recorded =
-          walk-induction (recordAt h s) _ (λ a. (omega arith, λ l b face. (refl, refl)))
+          walk-induction (recordAt form h s) _ (λ a. (omega arith, λ l b face. (refl, refl)))
           (λ n a next last good rest.
-          let (place, within) = record-within h s a next good in
-          let long = head-limits s a (record-good h s a next good .head) in (
+          let (place, within) = record-within form h s a next good in
+          let long = head-limits s a (record-good form h s a next good .head) in (
             omega arith,
             λ l b face.
                 let (x, y, z) = head-copied c a b face (omega arith) in
                 let (total, same) = rest .1 l (b + lengthIn s a) (record { low = omega arith; level = omega arith }) in (
                   rw (y, z, total, place),
-                  rw (z, ← place, placed-append f (stepsOfRecord s a) (stepsOfRecords s n next), placed-append g (stepsOfRecord t b) (stepsOfRecords t n (b + lengthIn s a)), record-recorded a b next face (omega arith) good, same),
+                  rw (z, ← place, placed-append f (stepsOfRecord form s a) (stepsOfRecords form s n next), placed-append g (stepsOfRecord form t b) (stepsOfRecords form t n (b + lengthIn s a)), record-recorded a b next face (omega arith) good, same),
                 ),
           ))
 
       -- What is recorded in a record of good form, and in records in a row, is recorded where their bytes stand, and the count of steps is the same.
-      pub recorded-copied : (next : ℕ) → recordAt h s at ≡ Good next → next ≤ at + size → placedBy f (stepsOfRecord s at) ≡ placedBy g (stepsOfRecord t at′)
+      pub recorded-copied : (next : ℕ) → recordAt form h s at ≡ Good next → next ≤ at + size → placedBy f (stepsOfRecord form s at) ≡ placedBy g (stepsOfRecord form t at′)
       recorded-copied next e l = record-recorded at at′ next (record { low = omega arith; level = omega arith }) l e
 
-      pub all-recorded-copied : (n last : ℕ) → walk (recordAt h s) n at ≡ Good last → last ≤ at + size
-          → (stepTotal t n at′ ≡ stepTotal s n at) × (placedBy f (stepsOfRecords s n at) ≡ placedBy g (stepsOfRecords t n at′))
+      pub all-recorded-copied : (n last : ℕ) → walk (recordAt form h s) n at ≡ Good last → last ≤ at + size
+          → (stepTotal t n at′ ≡ stepTotal s n at) × (placedBy f (stepsOfRecords form s n at) ≡ placedBy g (stepsOfRecords form t n at′))
       all-recorded-copied n last e l = records-recorded n at last e .1 l at′ (record { low = omega arith; level = omega arith })
 
 -- one record after records in a row: its steps come last
-module _ (h : Sections) (s : List ℕ) where
-  pub recorded-last : (n at last : ℕ) → walk (recordAt h s) n at ≡ Good last
-      → (stepTotal s (suc n) at ≡ stepTotal s n at + stepsIn s last) × (stepsOfRecords s (suc n) at ≡ stepsOfRecords s n at ++ stepsOfRecord s last)
+module _ (form : Form) (h : Sections) (s : List ℕ) where
+  pub recorded-last : (n at last : ℕ) → walk (recordAt form h s) n at ≡ Good last
+      → (stepTotal s (suc n) at ≡ stepTotal s n at + stepsIn s last) × (stepsOfRecords form s (suc n) at ≡ stepsOfRecords form s n at ++ stepsOfRecord form s last)
   unfolding stepTotal stepsOfRecords
   recorded-last =
-      walk-induction (recordAt h s) _ (λ at. (omega arith, append-nil (stepsOfRecord s at)))
+      walk-induction (recordAt form h s) _ (λ at. (omega arith, append-nil (stepsOfRecord form s at)))
       (λ n at next last good rest.
-      let place = record-within h s at next good .0 in (
+      let place = record-within form h s at next good .0 in (
         rw (← place) (omega (arith, rest .0)),
-        rw (← place, rest .1) (sym (append-assoc (stepsOfRecord s at) (stepsOfRecords s n next) (stepsOfRecord s last))),
+        rw (← place, rest .1) (sym (append-assoc (stepsOfRecord form s at) (stepsOfRecords form s n next) (stepsOfRecord form s last))),
       ))

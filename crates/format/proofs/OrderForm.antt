@@ -19,12 +19,12 @@ use Rattle.answer.specs.Entries.{entries-end, entries-place}
 use Rattle.answer.specs.Bounds.{Bounded, bounded-of}
 use Rattle.terms.specs.Schema.{Schema, TypedObjects, typedObjects, outOfRange}
 use Rattle.terms.specs.Facts.{noFact}
-use Rattle.limits.specs.Limits.{headerSize, maxStarts, entrySize, stepSize}
+use Rattle.limits.specs.Limits.{headerSize, maxStarts, maxFacts, entrySize, stepSize}
 use Rattle.format.specs.States.{state}
 use Rattle.format.specs.Order.{objectCount, startCount, goalCount, stepCount, startAt, goalAt, stepsAt, startsForm, fromStart, fromGoal, orderCountsBad, orderOffsetsBad, orderHeader}
 use Rattle.format.specs.Order.{orderObjects, orderObject, entries, planStep, orderForm}
 use Rattle.format.proofs.Chains.{chain-end, chain-place}
-use Rattle.format.proofs.States.{longestState, state-within, state-reach, state-place}
+use Rattle.format.proofs.States.{longestState, list-within, state-reach, state-place}
 use Rattle.format.proofs.Orders.{maxOrder, OrderHeaderGood, order-header-good, start-at-is, steps-at-is}
 use Rattle.format.proofs.Orders.{order-object-entry, plan-step-entry, goal-chain}
 
@@ -52,7 +52,7 @@ module _ (sch : Schema) (ob : TypedObjects) (o : List ℕ) where
   unfolding startsForm
   starts-good m e touch =
       let (last, good, rest) = parted (walk start (startCount o) (startAt o)) m _ e in
-      let within = walk-within start (goalAt o) (state-within 16 sch ob o (goalAt o)) (startCount o) (startAt o) last touch good in
+      let within = walk-within start (goalAt o) (list-within maxFacts 16 sch ob o (goalAt o)) (startCount o) (startAt o) last touch good in
       let reach = items-end start 16 longestState (state-reach 16 sch ob o (goalAt o)) (state-place 16 sch ob o (goalAt o)) (startCount o) (startAt o) last good in
       let whole = ltb-false last (goalAt o) (passed (ltb last (goalAt o)) 16 last m _ rest .0) in
       (good-at _ last (goalAt o) good (omega arith), omega arith)

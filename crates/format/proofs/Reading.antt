@@ -96,6 +96,6 @@ module _ {s t : List ℕ} {at at′ size : ℕ} (c : Copied s at t at′ size) w
   facts-copied (suc n) a b f l =
       rw (fact-copied a b f (omega arith), facts-copied n (a + factSize) (b + factSize) (facing-on f factSize) (omega arith))
 
-  pub state-copied : (a b : ℕ) → Facing at at′ a b → listEnd s a ≤ at + size → listAt t b ≡ listAt s a
+  pub list-copied : (a b : ℕ) → Facing at at′ a b → listEnd s a ≤ at + size → listAt t b ≡ listAt s a
   unfolding listAt listEnd
-  state-copied a b f l = rw (two-copied a b f (omega arith)) (facts-copied (two s a) (a + countSize) (b + countSize) (facing-on f countSize) l)
+  list-copied a b f l = rw (two-copied a b f (omega arith)) (facts-copied (two s a) (a + countSize) (b + countSize) (facing-on f countSize) l)

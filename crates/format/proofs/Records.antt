@@ -1,6 +1,6 @@
 -- Rows 6 to 10: what a good head, object, step, trajectory and record say, and where each of them ends.
-use Prim.Native.Nat.{ℕ, suc, _+_, _≤_}
-use mathlib.Core.Path.{_≡_, refl, _∙_, subst}
+use Prim.Native.Nat.{ℕ, zero, suc, _+_, _≤_}
+use mathlib.Core.Path.{_≡_, refl, ap, _∙_, subst}
 use mathlib.Core.Bool.{false, _||_}
 use mathlib.Core.List.{List}
 use lib.ListN.{length}
@@ -10,17 +10,20 @@ use borrow.Author.Tests.{ltb-false}
 use Rattle.answer.specs.declared.Answer.the-variants.{Good}
 use Rattle.truth.specs.Bools.{neither}
 use Rattle.answer.specs.Laws.{passed, parted, refuse-unmet, bind-good, none-over}
-use Rattle.answer.specs.Walk.{walk, walk-parted}
+use Rattle.answer.specs.Walk.{walk}
 use Rattle.answer.specs.Entries.{Entry, item-good, entries-end}
 use Rattle.input.specs.Bytes.{byteAt}
 use Rattle.terms.specs.declared.Sections.{Sections}
+use Rattle.terms.specs.declared.Fact.{Fact}
 use Rattle.terms.specs.Schema.{Schema, TypedObjects, schema, typedObjects, outOfRange}
 use Rattle.terms.specs.Steps.{stepAt, stepBad, repeats}
-use Rattle.limits.specs.Limits.{headSize, maxObjects, maxSteps, stepSize}
-use Rattle.format.specs.States.{cut, state}
-use Rattle.format.specs.Records.{objectsIn, stepsIn, lengthIn, headBad, object, step, objectsOf, trajectory, body, recordAt, stepRefused, closed}
-use Rattle.format.specs.Lists.{listEnd}
-use Rattle.format.proofs.States.{state-within, state-ends}
+use Rattle.limits.specs.Limits.{headSize, maxObjects, maxSteps, maxFacts, stepSize}
+use Rattle.format.specs.Form.{Form, stateAfter}
+use Rattle.format.specs.States.{cut, state, nextState}
+use Rattle.format.specs.Records.{objectsIn, stepsIn, lengthIn, headBad, object, step, steps, objectsOf, trajectory, body, recordAt, stepRefused, closed}
+use Rattle.format.specs.Lists.{listAt, listEnd}
+use Rattle.format.specs.Decode.{firstAt}
+use Rattle.format.proofs.States.{list-ends, next-ends}
 
 module _ (s : List ℕ) (at : ℕ) (good : headBad s at ≡ false) where
   -- a head that is not refused
@@ -53,66 +56,80 @@ module _ (kinds : ℕ) (s : List ℕ) (end : ℕ) where
   pub objects-end : (n at next : ℕ) → walk (object kinds s end) n at ≡ Good next → next ≡ at + n
   objects-end n at next e = omega (arith, entries-end _ _ 7 1 object-entry n at next e)
 
-module _ (sch : Schema) (ob : TypedObjects) (s : List ℕ) (end : ℕ) where
+module _ (form : Form) (sch : Schema) (ob : TypedObjects) (s : List ℕ) (end : ℕ) where
   -- a good step suits, has no object twice, and the state after it is good
-  pub step-good : (at next : ℕ)
-      → step sch ob s end at ≡ Good next
-      → (stepBad sch ob (stepAt s at) ≡ false) × (repeats (stepAt s at) ≡ false) × (state 8 sch ob s end (at + stepSize) ≡ Good next)
+  pub step-good : (before : List Fact) (at next : ℕ)
+      → step form sch ob s end before at ≡ Good next
+      → (stepBad sch ob (stepAt s at) ≡ false) × (repeats (stepAt s at) ≡ false) × (nextState form sch ob s end before (at + stepSize) ≡ Good next)
   unfolding step stepRefused
-  step-good at next e =
+  step-good before at next e =
       let p = passed _ 9 at next _ e in
       let q = passed _ 10 at next _ (p .1) in
       (neither (cut end at stepSize) (stepBad sch ob (stepAt s at)) (p .0) .1, q .0, q .1)
 
-  pub step-reach : (at next : ℕ) → step sch ob s end at ≡ Good next → at + stepSize ≤ end
+  pub step-reach : (before : List Fact) (at next : ℕ) → step form sch ob s end before at ≡ Good next → at + stepSize ≤ end
   unfolding step stepRefused cut
-  step-reach at next e = ltb-false end (at + stepSize) (neither (ltb end (at + stepSize)) (stepBad sch ob (stepAt s at)) (passed _ 9 at next _ e .0) .0)
+  step-reach before at next e = ltb-false end (at + stepSize) (neither (ltb end (at + stepSize)) (stepBad sch ob (stepAt s at)) (passed _ 9 at next _ e .0) .0)
 
-  pub step-within : (at next : ℕ) → step sch ob s end at ≡ Good next → next ≤ end
-  step-within at next e = state-within 8 sch ob s end _ _ (step-good at next e .2)
+  -- it ends after the list behind it, within the record
+  pub step-ends : (before : List Fact) (at next : ℕ) → step form sch ob s end before at ≡ Good next → (next ≡ listEnd s (at + stepSize)) × (listEnd s (at + stepSize) ≤ end)
+  step-ends before at next e = next-ends form sch ob s end before (at + stepSize) next (step-good before at next e .2)
 
-  -- the first step after a good state stands where the state's bytes end
-  pub trajectory-parted : (n at next last : ℕ) → state 8 sch ob s end at ≡ Good next → walk (step sch ob s end) (suc n) next ≡ Good last
-      → (after : ℕ) × (step sch ob s end (listEnd s at) ≡ Good after) × (walk (step sch ob s end) n after ≡ Good last)
-  trajectory-parted n at next last e w =
-      let (after, good, rest) = walk-parted (step sch ob s end) n next last w in
-      (after, subst (λ (x : ℕ). step sch ob s end x ≡ Good after) (state-ends 8 sch ob s end at next e .0) good, rest)
+  -- the first of a number of good steps, and the others from the state that it leaves
+  pub steps-parted : (n : ℕ) (before : List Fact) (at last : ℕ) → steps form sch ob s end (suc n) before at ≡ Good last
+      → (step form sch ob s end before at ≡ Good (listEnd s (at + stepSize)))
+      × (steps form sch ob s end n (stateAfter form s before (at + stepSize)) (listEnd s (at + stepSize)) ≡ Good last)
+  unfolding steps
+  steps-parted n before at last e =
+      let (next, good, rest) = parted (step form sch ob s end before at) last _ e in
+      let place = step-ends before at next good .0 in
+      (good ∙ ap Good place, subst (λ (x : ℕ). steps form sch ob s end n (stateAfter form s before (at + stepSize)) x ≡ Good last) place rest)
 
--- a good record: its start state ends at `after`, its steps at `last`, after which it has no bytes
-pub record RecordGood (h : Sections) (s : List ℕ) (at next : ℕ) : Type 0 where
-  pub after : ℕ
+  -- good steps end within the record, and not before they begin
+  pub steps-within : (n : ℕ) (before : List Fact) (at last : ℕ) → at ≤ end → steps form sch ob s end n before at ≡ Good last → (at ≤ last) × (last ≤ end)
+  unfolding steps listEnd
+  steps-within zero before at last h e = let p : at ≡ last = cc in (omega arith, omega arith)
+  steps-within (suc n) before at last h e =
+      let (good, rest) = steps-parted n before at last e in
+      let (place, within) = step-ends before at _ good in
+      let w = steps-within n _ _ last within rest in
+      (omega arith, w .1)
+
+-- a good record: its first state ends where its steps begin, and these at `last`, after which it has no bytes
+pub record RecordGood (form : Form) (h : Sections) (s : List ℕ) (at next : ℕ) : Type 0 where
   pub last : ℕ
   pub head : headBad s at ≡ false
-  pub objects : walk (object (h .kinds) s (at + lengthIn s at)) (objectsIn s at) (at + headSize) ≡ Good (at + headSize + objectsIn s at)
-  pub start : state 8 (schema h s) (typedObjects (objectsOf s at) s) s (at + lengthIn s at) (at + headSize + objectsIn s at) ≡ Good after
-  pub steps : walk (step (schema h s) (typedObjects (objectsOf s at) s) s (at + lengthIn s at)) (stepsIn s at) after ≡ Good last
+  pub objects : walk (object (h .kinds) s (at + lengthIn s at)) (objectsIn s at) (at + headSize) ≡ Good (firstAt s at)
+  pub start : state 8 (schema h s) (typedObjects (objectsOf s at) s) s (at + lengthIn s at) (firstAt s at) ≡ Good (listEnd s (firstAt s at))
+  pub steps : steps form (schema h s) (typedObjects (objectsOf s at) s) s (at + lengthIn s at) (stepsIn s at) (listAt s (firstAt s at)) (listEnd s (firstAt s at)) ≡ Good last
   pub full : ltb last (at + lengthIn s at) ≡ false
   pub end : next ≡ at + lengthIn s at
 
-pub record-in : (h : Sections) (s : List ℕ) (at next : ℕ) → RecordGood h s at next → recordAt h s at ≡ Good next
+pub record-in : (form : Form) (h : Sections) (s : List ℕ) (at next : ℕ) → RecordGood form h s at next → recordAt form h s at ≡ Good next
 unfolding recordAt body closed trajectory
-record-in h s at next g =
+record-in form h s at next g =
     rw (g .end)
     (refuse-unmet _ _ _ _ (g .head) ∙ bind-good _ _ _ (g .objects) ∙ bind-good _ _ _ (bind-good _ _ _ (g .start) ∙ g .steps) ∙ refuse-unmet _ _ _ _ (g .full))
 
-module _ (h : Sections) (s : List ℕ) (at next : ℕ) (good : recordAt h s at ≡ Good next) where
-  pub record-good : RecordGood h s at next
+module _ (form : Form) (h : Sections) (s : List ℕ) (at next : ℕ) (good : recordAt form h s at ≡ Good next) where
+  pub record-good : RecordGood form h s at next
   unfolding recordAt body closed trajectory
   record-good =
       let end : ℕ = at + lengthIn s at in
       let (head, whole) = passed _ 6 at next _ good in
       let (first, objects, behind) = parted (walk (object (h .kinds) s end) (objectsIn s at) (at + headSize)) next _ whole in
-      let (last, way, tail) = parted (trajectory (schema h s) (typedObjects (objectsOf s at) s) s end (stepsIn s at) first) next _ behind in
-      let (after, start, steps) = parted (state 8 (schema h s) (typedObjects (objectsOf s at) s) s end first) last _ way in
-      let (full, same) = passed _ 6 at next _ tail in
+      let (last, way, tail) = parted (trajectory form (schema h s) (typedObjects (objectsOf s at) s) s end (stepsIn s at) first) next _ behind in
       let place = objects-end (h .kinds) s end (objectsIn s at) (at + headSize) first objects in
+      let way′ : trajectory form (schema h s) (typedObjects (objectsOf s at) s) s end (stepsIn s at) (firstAt s at) ≡ Good last = subst (λ (x : ℕ). trajectory form (schema h s) (typedObjects (objectsOf s at) s) s end (stepsIn s at) x ≡ Good last) place way in
+      let (after, start, behind′) = parted (state 8 (schema h s) (typedObjects (objectsOf s at) s) s end (firstAt s at)) last _ way′ in
+      let ends = list-ends maxFacts 8 (schema h s) (typedObjects (objectsOf s at) s) s end (firstAt s at) after start .0 in
+      let (full, same) = passed _ 6 at next _ tail in
       record {
-        after = after;
         last = last;
         head = head;
-        objects = subst (λ (x : ℕ). walk (object (h .kinds) s end) (objectsIn s at) (at + headSize) ≡ Good x) place objects;
-        start = subst (λ (x : ℕ). state 8 (schema h s) (typedObjects (objectsOf s at) s) s end x ≡ Good after) place start;
-        steps = steps;
+        objects = objects ∙ ap Good place;
+        start = start ∙ ap Good ends;
+        steps = subst (λ (x : ℕ). steps form (schema h s) (typedObjects (objectsOf s at) s) s end (stepsIn s at) (listAt s (firstAt s at)) x ≡ Good last) ends behind′;
         full = full;
         end = cc;
       }

@@ -1,22 +1,24 @@
--- Facts in order and a state (row 8): what good ones say, where they end, and bounds of their answers.
+-- Facts in order, a list of them and a state after a step (row 8): what good ones say, where they end, and bounds of their answers.
 use Prim.Native.Nat.{ℕ, zero, suc, _+_, _*_, _≤_}
-use mathlib.Core.Path.{_≡_, refl}
+use mathlib.Core.Path.{_≡_, refl, ap, _∙_}
 use mathlib.Core.Bool.{true, false, _||_, not}
 use mathlib.Core.List.{List}
 use native.Mathlib.Omega.{arith}
-use borrow.Author.Tests.{ltb-false, not-false}
+use lib.ListN.{length}
+use borrow.Author.Tests.{ltb-false, le-ltb, not-false}
 use Rattle.answer.specs.declared.Answer.the-variants.{Good, Refused}
 use Rattle.truth.specs.Bools.{neither}
 use Rattle.answer.specs.Answer.{maxNumber}
-use Rattle.answer.specs.Laws.{passed}
+use Rattle.answer.specs.Laws.{passed, parted, bind-good, refuse-unmet}
 use Rattle.answer.specs.Refusals.{row-cases}
-use Rattle.answer.specs.Bounds.{Bounded, bounded-good, bounded-row}
+use Rattle.answer.specs.Bounds.{Bounded, bounded-good, bounded-row, bounded-then}
 use Rattle.input.specs.Bytes.{two}
 use Rattle.terms.specs.declared.Fact.{Fact}
 use Rattle.terms.specs.Schema.{Schema, TypedObjects}
 use Rattle.terms.specs.Facts.{factAt, factBad, precedes, noFact}
 use Rattle.limits.specs.Limits.{countSize, factSize, maxFacts}
-use Rattle.format.specs.States.{cut, countBad, factRefused, facts, state}
+use Rattle.format.specs.Form.{Form, mostListed, stateAfter}
+use Rattle.format.specs.States.{cut, countBad, factRefused, facts, list, state, nextState}
 use Rattle.format.specs.Lists.{listEnd}
 use Rattle.format.proofs.Chains.{Chain, chain-parted, chain-end, chain-place}
 
@@ -55,49 +57,76 @@ module _ (num : ℕ) (sch : Schema) (ob : TypedObjects) (s : List ℕ) (end : �
       let (good, rest) = chain-parted facts-chain n last at next e in
       facts-within n _ _ next (fact-within last at good) rest
 
+pub count-within : (most : ℕ) (s : List ℕ) (end at : ℕ) → countBad most s end at ≡ false → (at + countSize ≤ end) × (two s at ≤ most)
+unfolding countBad cut
+count-within most s end at e = let p = neither _ _ e in (ltb-false _ _ (p .0), ltb-false _ _ (p .1))
+
+module _ (most num : ℕ) (sch : Schema) (ob : TypedObjects) (s : List ℕ) (end : ℕ) where
+  -- a good list has a count within its limit, and good facts
+  pub list-good : (at next : ℕ) → list num most sch ob s end at ≡ Good next
+      → (at + countSize ≤ end) × (two s at ≤ most) × (facts num sch ob s end (two s at) noFact (at + countSize) ≡ Good next)
+  unfolding list
+  list-good at next e =
+      let p = passed _ _ _ _ _ e in
+      let w = count-within most s end at (p .0) in
+      (w .0, w .1, p .1)
+
+  -- and ends after its last fact,
+  pub list-end : (at next : ℕ) → list num most sch ob s end at ≡ Good next → next ≡ at + countSize + factSize * two s at
+  list-end at next e = chain-end (facts-chain num sch ob s end) _ _ _ _ (list-good at next e .2)
+
+  -- where the record ends, or before
+  pub list-within : (at next : ℕ) → list num most sch ob s end at ≡ Good next → next ≤ end
+  list-within at next e = let g = list-good at next e in facts-within num sch ob s end (two s at) noFact (at + countSize) next (g .0) (g .2)
+
+  pub list-ends : (at next : ℕ) → list num most sch ob s end at ≡ Good next → (next ≡ listEnd s at) × (listEnd s at ≤ end)
+  unfolding listEnd
+  list-ends at next e = (list-end at next e, omega (arith, list-end at next e, list-within at next e))
+
+  pub list-bounded : num ≤ maxNumber → (at : ℕ) → at ≤ end → Bounded end (list num most sch ob s end at)
+  unfolding list
+  list-bounded m at h =
+      bounded-row end _ _ _ _ m h (λ e. facts-bounded num sch ob s end m _ _ _ (count-within most s end at e .0))
+
 -- the longest state: a count and 256 facts
 abbrev pub longestState : ℕ
 longestState = 770
 
-pub count-within : (s : List ℕ) (end at : ℕ) → countBad s end at ≡ false → (at + countSize ≤ end) × (two s at ≤ maxFacts)
-unfolding countBad cut
-count-within s end at e = let p = neither _ _ e in (ltb-false _ _ (p .0), ltb-false _ _ (p .1))
-
 module _ (num : ℕ) (sch : Schema) (ob : TypedObjects) (s : List ℕ) (end : ℕ) where
-  -- a good state has a count within its limit, and good facts
-  pub state-good : (at next : ℕ) → state num sch ob s end at ≡ Good next
-      → (at + countSize ≤ end) × (two s at ≤ maxFacts) × (facts num sch ob s end (two s at) noFact (at + countSize) ≡ Good next)
-  unfolding state
-  state-good at next e =
-      let p = passed _ _ _ _ _ e in
-      let w = count-within s end at (p .0) in
-      (w .0, w .1, p .1)
-
-  -- and ends after its last fact,
-  pub state-end : (at next : ℕ) → state num sch ob s end at ≡ Good next → next ≡ at + countSize + factSize * two s at
-  state-end at next e = chain-end (facts-chain num sch ob s end) _ _ _ _ (state-good at next e .2)
-
-  -- where the record ends, or before
-  pub state-within : (at next : ℕ) → state num sch ob s end at ≡ Good next → next ≤ end
-  state-within at next e = let g = state-good at next e in facts-within num sch ob s end (two s at) noFact (at + countSize) next (g .0) (g .2)
-
-  pub state-ends : (at next : ℕ) → state num sch ob s end at ≡ Good next → (next ≡ listEnd s at) × (listEnd s at ≤ end)
-  unfolding listEnd
-  state-ends at next e = (state-end at next e, omega (arith, state-end at next e, state-within at next e))
-
-  pub state-bounded : num ≤ maxNumber → (at : ℕ) → at ≤ end → Bounded end (state num sch ob s end at)
-  unfolding state
-  state-bounded m at h =
-      bounded-row end _ _ _ _ m h (λ e. facts-bounded num sch ob s end m _ _ _ (count-within s end at e .0))
-
   -- a state is no longer than the longest, and a refusal has the number given and stands within it
   pub state-reach : (at next : ℕ) → state num sch ob s end at ≡ Good next → next ≤ at + longestState
-  state-reach at next e = omega (arith, state-end at next e, state-good at next e .1)
+  state-reach at next e = omega (arith, list-end maxFacts num sch ob s end at next e, list-good maxFacts num sch ob s end at next e .1)
 
   pub state-place : (at k p : ℕ) → state num sch ob s end at ≡ Refused k p → (k ≡ num) × (p ≤ at + longestState)
-  unfolding state
+  unfolding list
   state-place at k p e =
-      row-cases (countBad s end at) num at _ k p e (λ x y. (x, omega arith))
+      row-cases (countBad maxFacts s end at) num at _ k p e (λ x y. (x, omega arith))
       (λ unmet f.
       let w = chain-place (facts-chain num sch ob s end) _ _ _ k p f in
-      (w .0, omega (arith, w .1, count-within s end at unmet .1)))
+      (w .0, omega (arith, w .1, count-within maxFacts s end at unmet .1)))
+
+module _ (form : Form) (sch : Schema) (ob : TypedObjects) (s : List ℕ) (end : ℕ) (before : List Fact) where
+  -- a good state after a step has a good list, and leaves no more facts than a state may have
+  pub next-good : (at next : ℕ) → nextState form sch ob s end before at ≡ Good next
+      → (list 8 (mostListed form) sch ob s end at ≡ Good next) × (length (stateAfter form s before at) ≤ maxFacts)
+  unfolding nextState
+  next-good at next e =
+      let (last, good, rest) = parted _ next _ e in
+      let (few, same) = passed _ 8 at next _ rest in
+      let z : last ≡ next = cc in
+      (good ∙ ap Good z, ltb-false _ _ few)
+
+  -- and the other way round
+  pub next-in : (at next : ℕ) → list 8 (mostListed form) sch ob s end at ≡ Good next → length (stateAfter form s before at) ≤ maxFacts
+      → nextState form sch ob s end before at ≡ Good next
+  unfolding nextState
+  next-in at next e l = bind-good _ _ _ e ∙ refuse-unmet _ _ _ _ (le-ltb _ _ l)
+
+  pub next-bounded : (at : ℕ) → at ≤ end → Bounded end (nextState form sch ob s end before at)
+  unfolding nextState
+  next-bounded at h =
+      bounded-then end _ _ (list-bounded (mostListed form) 8 sch ob s end (omega arith) at h)
+      (λ next e i. bounded-row end _ _ _ _ (omega arith) h (λ f. bounded-good end next i))
+
+  pub next-ends : (at next : ℕ) → nextState form sch ob s end before at ≡ Good next → (next ≡ listEnd s at) × (listEnd s at ≤ end)
+  next-ends at next e = list-ends (mostListed form) 8 sch ob s end at next (next-good at next e .0)

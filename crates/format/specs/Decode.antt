@@ -7,6 +7,7 @@ use Rattle.terms.specs.declared.Step.{Step}
 use Rattle.terms.specs.Steps.{stepAt}
 use Rattle.limits.specs.Limits.{headSize, stepSize}
 use Rattle.format.specs.Lists.{listAt, listEnd}
+use Rattle.format.specs.Form.{Form, stateAfter}
 use Rattle.format.specs.Records.{objectsIn, stepsIn, lengthIn}
 
 -- a step as recorded, with the facts that hold before and after it (a transition), and its offset
@@ -16,26 +17,29 @@ pub record RecordedStep : Type 0 where
   pub pre : List Fact
   pub post : List Fact
 
--- the step at an offset, with the state before it at another
-unfoldable pub recordedStep : List ℕ → ℕ → ℕ → RecordedStep
-recordedStep s pre at =
-    record { place = at; step = stepAt s at; pre = listAt s pre; post = listAt s (at + stepSize) }
+-- the step at an offset, with the facts that hold before it
+unfoldable pub recordedStep : Form → List ℕ → List Fact → ℕ → RecordedStep
+recordedStep form s before at =
+    record { place = at; step = stepAt s at; pre = before; post = stateAfter form s before (at + stepSize) }
 
--- a number of steps after the state at an offset
-unfoldable pub recordedStepsAt : List ℕ → ℕ → ℕ → List RecordedStep
-recordedStepsAt s zero at = []
-recordedStepsAt s (suc n) at =
-    let place = listEnd s at in
-    recordedStep s at place ∷ recordedStepsAt s n (place + stepSize)
+-- a number of steps from an offset on, the first from the facts given, each other from those that the one before it leaves
+unfoldable pub recordedStepsAt : Form → List ℕ → ℕ → List Fact → ℕ → List RecordedStep
+recordedStepsAt form s zero before at = []
+recordedStepsAt form s (suc n) before at =
+    recordedStep form s before at ∷ recordedStepsAt form s n (stateAfter form s before (at + stepSize)) (listEnd s (at + stepSize))
+
+-- where the first state of a record stands
+abbrev pub firstAt : List ℕ → ℕ → ℕ
+firstAt s at = at + headSize + objectsIn s at
 
 -- the steps of one record (trajectory)
-unfoldable pub stepsOfRecord : List ℕ → ℕ → List RecordedStep
-stepsOfRecord s at = recordedStepsAt s (stepsIn s at) (at + headSize + objectsIn s at)
+unfoldable pub stepsOfRecord : Form → List ℕ → ℕ → List RecordedStep
+stepsOfRecord form s at = recordedStepsAt form s (stepsIn s at) (listAt s (firstAt s at)) (listEnd s (firstAt s at))
 
-unfoldable pub stepsOfRecords : List ℕ → ℕ → ℕ → List RecordedStep
-stepsOfRecords s zero at = []
-stepsOfRecords s (suc n) at = stepsOfRecord s at ++ stepsOfRecords s n (at + lengthIn s at)
+unfoldable pub stepsOfRecords : Form → List ℕ → ℕ → ℕ → List RecordedStep
+stepsOfRecords form s zero at = []
+stepsOfRecords form s (suc n) at = stepsOfRecord form s at ++ stepsOfRecords form s n (at + lengthIn s at)
 
 -- all steps of a book
-unfoldable pub recordedSteps : Sections → List ℕ → List RecordedStep
-recordedSteps h s = stepsOfRecords s (h .records .count) (h .records .at)
+unfoldable pub recordedSteps : Form → Sections → List ℕ → List RecordedStep
+recordedSteps form h s = stepsOfRecords form s (h .records .count) (h .records .at)

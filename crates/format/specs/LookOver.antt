@@ -9,6 +9,7 @@ use Rattle.answer.specs.Answer.{_>>=_, refuse}
 use Rattle.answer.specs.Walk.{walk}
 use Rattle.terms.specs.declared.Sections.{Sections}
 use Rattle.terms.specs.Sections.{sectionsOf}
+use Rattle.format.specs.Form.{Form}
 use Rattle.format.specs.Header.{sections}
 use Rattle.format.specs.Records.{stepsIn, lengthIn, recordAt}
 
@@ -18,17 +19,17 @@ stepTotal s zero at = 0
 stepTotal s (suc n) at = stepsIn s at + stepTotal s n (at + lengthIn s at)
 
 -- a number of records from an offset, and no bytes after them
-unfoldable pub allRecords : Sections → List ℕ → ℕ → ℕ → Answer
-allRecords h s n from = do
-  last ← walk (recordAt h s) n from
+unfoldable pub allRecords : Form → Sections → List ℕ → ℕ → ℕ → Answer
+allRecords form h s n from = do
+  last ← walk (recordAt form h s) n from
   _ ← refuse (ltb last (length s)) 6 last
   Good (stepTotal s n from)
 
 -- rows 1 to 5, then all records
-unfoldable pub lookOverBy : Sections → List ℕ → Answer
-lookOverBy h s = do
+unfoldable pub lookOverBy : Form → Sections → List ℕ → Answer
+lookOverBy form h s = do
   _ ← sections h s
-  allRecords h s (h .records .count) (h .records .at)
+  allRecords form h s (h .records .count) (h .records .at)
 
-unfoldable pub lookOver : List ℕ → Answer
-lookOver s = lookOverBy (sectionsOf s) s
+unfoldable pub lookOver : Form → List ℕ → Answer
+lookOver form s = lookOverBy form (sectionsOf s) s

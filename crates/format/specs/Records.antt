@@ -1,5 +1,5 @@
 -- Rows 6 to 10: the records of a book, in file order, each to its end.
-use Prim.Native.Nat.{ℕ, _+_}
+use Prim.Native.Nat.{ℕ, zero, suc, _+_}
 use mathlib.Core.Bool.{Bool, _||_}
 use mathlib.Core.List.{List}
 use lib.ListN.{length}
@@ -11,10 +11,13 @@ use Rattle.answer.specs.Walk.{walk}
 use Rattle.input.specs.Bytes.{byteAt, two}
 use Rattle.terms.specs.declared.Sections.{Sections}
 use Rattle.terms.specs.declared.Objects.{Objects}
+use Rattle.terms.specs.declared.Fact.{Fact}
 use Rattle.terms.specs.Schema.{Schema, TypedObjects, schema, typedObjects, outOfRange}
 use Rattle.terms.specs.Steps.{stepAt, stepBad, repeats}
 use Rattle.limits.specs.Limits.{headSize, maxObjects, maxSteps, stepSize}
-use Rattle.format.specs.States.{cut, state}
+use Rattle.format.specs.Lists.{listAt}
+use Rattle.format.specs.Form.{Form, stateAfter}
+use Rattle.format.specs.States.{cut, state, nextState}
 
 -- a record's head: object count, step count, length
 unfoldable pub objectsIn : List ℕ → ℕ → ℕ
@@ -44,22 +47,29 @@ object kinds s end at = do
 unfoldable pub stepRefused : Schema → TypedObjects → List ℕ → ℕ → ℕ → Bool
 stepRefused sch ob s end at = cut end at stepSize || stepBad sch ob (stepAt s at)
 
--- rows 9 and 10, then row 8 for the state after the step
-unfoldable pub step : Schema → TypedObjects → List ℕ → ℕ → ℕ → Answer
-step sch ob s end at = do
+-- rows 9 and 10, then row 8 for the state after the step, `before` being the facts that hold before it
+unfoldable pub step : Form → Schema → TypedObjects → List ℕ → ℕ → List Fact → ℕ → Answer
+step form sch ob s end before at = do
   _ ← refuse (stepRefused sch ob s end at) 9 at
   _ ← refuse (repeats (stepAt s at)) 10 at
-  state 8 sch ob s end (at + stepSize)
+  nextState form sch ob s end before (at + stepSize)
+
+-- a number of steps, each from the state that the one before it leaves
+unfoldable pub steps : Form → Schema → TypedObjects → List ℕ → ℕ → ℕ → List Fact → ℕ → Answer
+steps form sch ob s end zero before at = Good at
+steps form sch ob s end (suc n) before at = do
+  next ← step form sch ob s end before at
+  steps form sch ob s end n (stateAfter form s before (at + stepSize)) next
 
 -- the objects of the record at an offset
 unfoldable pub objectsOf : List ℕ → ℕ → Objects
 objectsOf s at = record { count = objectsIn s at; at = at + headSize }
 
 -- the part of a record after its objects: a state, then steps each with the state after it
-unfoldable pub trajectory : Schema → TypedObjects → List ℕ → ℕ → ℕ → ℕ → Answer
-trajectory sch ob s end n at = do
+unfoldable pub trajectory : Form → Schema → TypedObjects → List ℕ → ℕ → ℕ → ℕ → Answer
+trajectory form sch ob s end n at = do
   next ← state 8 sch ob s end at
-  walk (step sch ob s end) n next
+  steps form sch ob s end n (listAt s at) next
 
 -- the record at an offset, after what its trajectory answers: no bytes are left
 unfoldable pub closed : ℕ → ℕ → Answer → Answer
@@ -69,13 +79,13 @@ closed at end a = do
   Good end
 
 -- a record whose head is right: its objects, its trajectory, and no bytes left
-unfoldable pub body : Sections → List ℕ → ℕ → ℕ → Answer
-body h s at end = do
+unfoldable pub body : Form → Sections → List ℕ → ℕ → ℕ → Answer
+body form h s at end = do
   first ← walk (object (h .kinds) s end) (objectsIn s at) (at + headSize)
-  closed at end (trajectory (schema h s) (typedObjects (objectsOf s at) s) s end (stepsIn s at) first)
+  closed at end (trajectory form (schema h s) (typedObjects (objectsOf s at) s) s end (stepsIn s at) first)
 
 -- one record: where the next one starts
-unfoldable pub recordAt : Sections → List ℕ → ℕ → Answer
-recordAt h s at = do
+unfoldable pub recordAt : Form → Sections → List ℕ → ℕ → Answer
+recordAt form h s at = do
   _ ← refuse (headBad s at) 6 at
-  body h s at (at + lengthIn s at)
+  body form h s at (at + lengthIn s at)

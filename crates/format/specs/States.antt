@@ -1,8 +1,10 @@
--- Row 8: a state, as a count and facts that strictly increase. `end` is where the record ends; in an order, where the starts end (row 16).
+-- Row 8: a state, as a count and facts that strictly increase; and a state after a step, by the form of the book and the facts before it. `end` is
+-- where the record ends; in an order, where the starts end (row 16).
 use Prim.Native.Nat.{ℕ, zero, suc, _+_}
 use mathlib.Core.Bool.{Bool, _||_, not}
 use mathlib.Core.List.{List}
 use lib.Dec.{ltb}
+use lib.ListN.{length}
 use Rattle.answer.specs.declared.Answer.{Answer}
 use Rattle.answer.specs.declared.Answer.the-variants.{Good}
 use Rattle.answer.specs.Answer.{_>>=_, refuse}
@@ -11,13 +13,15 @@ use Rattle.terms.specs.declared.Fact.{Fact}
 use Rattle.terms.specs.Schema.{Schema, TypedObjects}
 use Rattle.terms.specs.Facts.{factAt, factBad, precedes, noFact}
 use Rattle.limits.specs.Limits.{countSize, maxFacts, factSize}
+use Rattle.format.specs.Form.{Form, mostListed, stateAfter}
 
 -- `size` bytes from `at` reach past the end
 unfoldable pub cut : ℕ → ℕ → ℕ → Bool
 cut end at size = ltb end (at + size)
 
-unfoldable pub countBad : List ℕ → ℕ → ℕ → Bool
-countBad s end at = cut end at countSize || ltb maxFacts (two s at)
+-- a count is cut, or over the most that there may be
+unfoldable pub countBad : ℕ → List ℕ → ℕ → ℕ → Bool
+countBad most s end at = cut end at countSize || ltb most (two s at)
 
 -- the fact is cut, wrong, or not after the one before it
 unfoldable pub factRefused : Schema → TypedObjects → List ℕ → ℕ → Fact → ℕ → Bool
@@ -30,8 +34,19 @@ facts num sch ob s end (suc n) last at = do
   _ ← refuse (factRefused sch ob s end last at) num at
   facts num sch ob s end n (factAt s at) (at + factSize)
 
--- a state, refused with the number given at its count or at a fact
-unfoldable pub state : ℕ → Schema → TypedObjects → List ℕ → ℕ → ℕ → Answer
-state num sch ob s end at = do
-  _ ← refuse (countBad s end at) num at
+-- a list of facts, refused with the number given at its count or at a fact
+unfoldable pub list : ℕ → ℕ → Schema → TypedObjects → List ℕ → ℕ → ℕ → Answer
+list num most sch ob s end at = do
+  _ ← refuse (countBad most s end at) num at
   facts num sch ob s end (two s at) noFact (at + countSize)
+
+-- a record's first state, and a start of an order
+abbrev pub state : ℕ → Schema → TypedObjects → List ℕ → ℕ → ℕ → Answer
+state num sch ob s end at = list num maxFacts sch ob s end at
+
+-- a state after a step: its list, and at the list's count that it leaves no more facts than a state may have
+unfoldable pub nextState : Form → Schema → TypedObjects → List ℕ → ℕ → List Fact → ℕ → Answer
+nextState form sch ob s end before at = do
+  next ← list 8 (mostListed form) sch ob s end at
+  _ ← refuse (ltb maxFacts (length (stateAfter form s before at))) 8 at
+  Good next

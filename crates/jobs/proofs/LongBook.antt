@@ -24,8 +24,11 @@ use Rattle.terms.specs.Agree.{SameSchema}
 use Rattle.terms.proofs.Atoms.{parent-none}
 use Rattle.terms.proofs.Agree.{same-by-bytes}
 use Rattle.format.specs.Header.{lengthBad, countsBad, offsetsBad, kindBad, relationBad, moveBad, relation, move, sections}
-use Rattle.format.specs.States.{cut, countBad, factRefused, facts, state}
-use Rattle.format.specs.Records.{objectsIn, stepsIn, lengthIn, headBad, object, stepRefused, step, objectsOf, trajectory, closed, body, recordAt}
+use Rattle.format.specs.Lists.{factsAt, listAt}
+use Rattle.format.specs.Toggled.{toggle, toggled}
+use Rattle.format.specs.Form.{full, mostListed, stateAfter}
+use Rattle.format.specs.States.{cut, countBad, factRefused, facts, list, nextState}
+use Rattle.format.specs.Records.{objectsIn, stepsIn, lengthIn, headBad, object, stepRefused, step, steps, objectsOf, trajectory, closed, body, recordAt}
 use Rattle.format.specs.LookOver.{stepTotal, lookOverBy, lookOver}
 use Rattle.format.proofs.Header.{sections-in}
 use Rattle.format.proofs.Records.{head-limits, record-good, record-within}
@@ -40,7 +43,7 @@ length-in : (s : List ℕ) → headerSize ≤ length s → length s ≤ maxLengt
 unfolding lengthBad
 length-in s low high = rw (le-ltb (length s) headerSize low, le-ltb maxLength (length s) high)
 
-too-long : (s : List ℕ) → maxLength < length s → lookOver s ≡ Refused 1 0
+too-long : (s : List ℕ) → maxLength < length s → lookOver full s ≡ Refused 1 0
 unfolding lookOver lookOverBy sections lengthBad refuse _>>=_
 too-long s over = rw (lt-ltb maxLength (length s) over, or-true)
 
@@ -52,21 +55,21 @@ length-copies zero r = sym (mul-zero (length r))
 length-copies (suc n) r = length-append r (copies n r) ∙ rw (length-copies n r, mul-suc) (omega arith)
 
 -- a record that is good after x, and a book t whose schema says the same
-module _ (h k : Sections) (x r t : List ℕ) (kinds : h .kinds ≡ k .kinds) (same : SameSchema (schema h (x ++ (r ++ []))) (schema k t)) (fall : Falling (schema h (x ++ (r ++ [])))) (good : recordAt h (x ++ (r ++ [])) (length x) ≡ Good (length x + length r)) where
+module _ (h k : Sections) (x r t : List ℕ) (kinds : h .kinds ≡ k .kinds) (same : SameSchema (schema h (x ++ (r ++ []))) (schema k t)) (fall : Falling (schema h (x ++ (r ++ [])))) (good : recordAt full h (x ++ (r ++ [])) (length x) ≡ Good (length x + length r)) where
   -- copies of it to the end of t are good, and each has its steps
   copies-good : (n : ℕ) (front : List ℕ) → t ≡ front ++ copies n r
-      → (walk (recordAt k t) n (length front) ≡ Good (length t)) × (stepTotal t n (length front) ≡ stepsIn (x ++ (r ++ [])) (length x) * n)
+      → (walk (recordAt full k t) n (length front) ≡ Good (length t)) × (stepTotal t n (length front) ≡ stepsIn (x ++ (r ++ [])) (length x) * n)
   unfolding copies walk stepTotal
   copies-good zero front e = (rw (e, append-nil), sym (mul-zero _))
   copies-good (suc n) front e =
       let s : List ℕ = x ++ (r ++ []) in
       let c : Copied s (length x) t (length front) (length r) =
       subst (λ (u : List ℕ). Copied s (length x) u (length front) (length r)) (sym e) (part-copied r x [] front (copies n r)) in
-      let (ends, within) = record-within h s (length x) _ good in
-      let one : recordAt k t (length front) ≡ Good (length (front ++ r)) =
-      record-copied c h k kinds same fall _ good (omega arith) ∙ ap Good (omega (arith, length-append front r)) in
+      let (ends, within) = record-within full h s (length x) _ good in
+      let one : recordAt full k t (length front) ≡ Good (length (front ++ r)) =
+      record-copied c full h k kinds same fall _ good (omega arith) ∙ ap Good (omega (arith, length-append front r)) in
       let (rest, total) = copies-good n (front ++ r) (e ∙ sym (append-assoc front r (copies n r))) in
-      let limits = head-limits s (length x) (record-good h s (length x) _ good .head) in
+      let limits = head-limits s (length x) (record-good full h s (length x) _ good .head) in
       let (objects, steps, size) = head-copied c (length x) (length front) (record { low = omega arith; level = omega arith }) (omega arith) in
       let next : length front + lengthIn t (length front) ≡ length (front ++ r) = omega (arith, length-append front r) in
       (bind-good _ _ _ one ∙ rest, rw (steps, next, total, mul-suc) (omega arith))
@@ -77,8 +80,8 @@ module _ (h k : Sections) (x r t : List ℕ) (kinds : h .kinds ≡ k .kinds) (sa
 abbrev single : List ℕ
 single = longHeader 1 969 ++ (longSections ++ (longRecord ++ []))
 
-one-good : recordAt (sectionsOf single) single 32 ≡ Good 969
-unfolding _>>=_ refuse walk byteAt two sectionsOf outOfRange relationAt moveAt schema typedObjects suitsWithin kindSuits objectBad factAt factBad precedes noFact objectOf stepAt argumentBad stepBad samePair repeats cut countBad factRefused facts state objectsIn stepsIn lengthIn headBad object stepRefused step objectsOf trajectory closed body recordAt
+one-good : recordAt full (sectionsOf single) single 32 ≡ Good 969
+unfolding _>>=_ refuse walk byteAt two sectionsOf outOfRange relationAt moveAt schema typedObjects suitsWithin kindSuits objectBad factAt factBad precedes noFact objectOf stepAt argumentBad stepBad samePair repeats cut countBad factRefused facts list mostListed stateAfter toggle toggled factsAt listAt nextState objectsIn stepsIn lengthIn headBad object stepRefused step steps objectsOf trajectory closed body recordAt
 one-good = refl
 
 -- neither book has parents
@@ -107,18 +110,18 @@ long-sections =
     sections-in (sectionsOf long) long 16 20 32 (length-in long (omega (arith, long-length)) (omega (arith, long-length))) refl
     (subst (λ (n : ℕ). offsetsBad (sectionsOf long) n ≡ false) (sym long-length) refl) refl refl refl
 
-long-good : lookOver long ≡ Good 192
+long-good : lookOver full long ≡ Good 192
 unfolding sectionsOf byteAt two stepsIn
 long-good =
     let (records, total) = copies-good (sectionsOf single) (sectionsOf long) (longHeader 1 969 ++ longSections) longRecord long refl same-schema falling one-good 64 (longHeader 64 60000 ++ longSections) refl in
-    look-over-in long 32 long-sections records ∙ ap Good total
+    look-over-in full long 32 long-sections records ∙ ap Good total
 
 -- ---- as cases
 
-pub long-right : said (lookOver long) ≡ (0 ∷ 192 ∷ [])
+pub long-right : said (lookOver full long) ≡ (0 ∷ 192 ∷ [])
 unfolding number place
 long-right = rw long-good
 
-pub longer-right : said (lookOver (long ++ (0 ∷ []))) ≡ (1 ∷ 0 ∷ [])
+pub longer-right : said (lookOver full (long ++ (0 ∷ []))) ≡ (1 ∷ 0 ∷ [])
 unfolding number place
 longer-right = rw (too-long (long ++ (0 ∷ [])) (omega (arith, length-append long (0 ∷ []), long-length)))

@@ -12,6 +12,7 @@ use Rattle.mask.specs.Sets.{maskOf}
 use Rattle.mask.proofs.Whole.{length-maskOf, test-maskOf, maskOf-same}
 use Rattle.mask.proofs.Joined.{test-left, test-right}
 use Rattle.model.specs.Model.{Model}
+use Rattle.format.specs.Form.{Form}
 use Rattle.jobs.specs.Planning.{schemaOf}
 use Rattle.jobs.specs.Learn.{ruleRow, ruleRows, learnedFrom, ruleSheet}
 use Rattle.jobs.specs.SheetBits.{needSet, effectSet, sheetBit}
@@ -119,14 +120,14 @@ module _ (M : Model) where
     effect-bit false = set-bit (effectSet false) (omega arith) ∙ row-effect a n small false
 
 -- of the sheet that is learned from a book
-module _ (s : List ℕ) (a n : ℕ) (low : 1 ≤ a) (high : a ≤ schemaOf s .moves) (small : n < 256) (b : Bool) where
-  pub learned-need-bit : sheetBit (ruleSheet s) (needSet b) a n ≡ learnedFrom s .precondition b a n
+module _ (form : Form) (s : List ℕ) (a n : ℕ) (low : 1 ≤ a) (high : a ≤ schemaOf s .moves) (small : n < 256) (b : Bool) where
+  pub learned-need-bit : sheetBit (ruleSheet form s) (needSet b) a n ≡ learnedFrom form s .precondition b a n
   unfolding ruleSheet
-  learned-need-bit = need-bit (learnedFrom s) (schemaOf s .moves) a n low high small b
+  learned-need-bit = need-bit (learnedFrom form s) (schemaOf s .moves) a n low high small b
 
-  pub learned-effect-bit : sheetBit (ruleSheet s) (effectSet b) a n ≡ learnedFrom s .effect b a n
+  pub learned-effect-bit : sheetBit (ruleSheet form s) (effectSet b) a n ≡ learnedFrom form s .effect b a n
   unfolding ruleSheet
-  learned-effect-bit = effect-bit (learnedFrom s) (schemaOf s .moves) a n low high small b
+  learned-effect-bit = effect-bit (learnedFrom form s) (schemaOf s .moves) a n low high small b
 
 -- models with the same sets for a move have the same row
 pub row-same : (M L : Model) (a : ℕ) → ((b : Bool) (n : ℕ) → M .precondition b a n ≡ L .precondition b a n) → ((b : Bool) (n : ℕ) → M .effect b a n ≡ L .effect b a n)

@@ -1,4 +1,4 @@
--- Adding a record to a book, and what the lent output holds afterwards.
+-- Adding a record to a book, the record being in the book's form, and what the lent output holds afterwards.
 use Prim.Native.Nat.{ℕ, _+_}
 use mathlib.Core.List.{List, _++_}
 use lib.ListN.{length, take, drop}
@@ -9,6 +9,7 @@ use Rattle.answer.specs.Answer.{_>>=_, refuse, kept}
 use Rattle.output.specs.Written.{twoBytes}
 use Rattle.terms.specs.Sections.{sectionsOf}
 use Rattle.limits.specs.Limits.{maxLength, headerSize}
+use Rattle.format.specs.Form.{Form}
 use Rattle.format.specs.LookOver.{lookOver}
 
 -- the old book with the record's bytes after it, record count (bytes 6 and 7) and end (14 and 15) renewed
@@ -21,13 +22,13 @@ added s r =
     ++ drop headerSize s
     ++ r
 
-unfoldable pub add : List ℕ → List ℕ → ℕ → Answer
-add s r size = do
-  _ ← lookOver s
+unfoldable pub add : Form → List ℕ → List ℕ → ℕ → Answer
+add form s r size = do
+  _ ← lookOver form s
   _ ← refuse (ltb maxLength (length s + length r)) 1 0
-  _ ← lookOver (added s r)
+  _ ← lookOver form (added s r)
   _ ← refuse (ltb size (length s + length r)) 13 0
   Good (length s + length r)
 
-unfoldable pub addBytes : List ℕ → List ℕ → List ℕ → List ℕ
-addBytes s r out = kept (add s r (length out)) (added s r ++ drop (length s + length r) out) out
+unfoldable pub addBytes : Form → List ℕ → List ℕ → List ℕ → List ℕ
+addBytes form s r out = kept (add form s r (length out)) (added s r ++ drop (length s + length r) out) out

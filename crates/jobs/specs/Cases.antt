@@ -1,12 +1,13 @@
--- The marked cases of the paper and its limits, and cases of kinds under kinds and of several starts, as one list of what the definitions
+-- The marked cases of the paper and its limits, and cases of kinds under kinds and of several starts and of short books, as one list of what the definitions
 -- give and what the paper says. proofs/Cases.antt has the one theorem that covers it.
 use mathlib.Core.Path.{_≡_}
 use mathlib.Core.List.{List, [], _∷_, _++_}
 use Rattle.jobs.specs.Marked.{Case, marked}
 use Rattle.jobs.specs.Further.{kindsUnder, severalStarts}
+use Rattle.jobs.specs.Shorts.{shortBooks}
 
 abbrev pub cases : List Case
-cases = marked ++ (kindsUnder ++ severalStarts)
+cases = marked ++ (kindsUnder ++ (severalStarts ++ shortBooks))
 
 abbrev pub AllRight : List Case → Type 0
 AllRight [] = Unit {0}

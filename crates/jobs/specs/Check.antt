@@ -10,6 +10,7 @@ use Rattle.answer.specs.declared.Positioned.{Positioned}
 use Rattle.answer.specs.Answer.{_>>=_, refuse, isRefused, unpositioned, thenAt, kept}
 use Rattle.limits.specs.Limits.{stateSize, endSheetSize}
 use Rattle.mask.specs.Sets.{maskOf}
+use Rattle.format.specs.Form.{Form}
 use Rattle.format.specs.Order.{stepCount, orderForm}
 use Rattle.model.specs.Quantify.{first}
 use Rattle.model.specs.Domain.{State, GroundAction, GoalLiteral}
@@ -19,12 +20,12 @@ use Rattle.jobs.specs.Planning.{domain, schemaOf, startStates, planOf, g
 use Rattle.jobs.specs.Learn.{learnable, learnedFrom}
 
 -- a plan from a start on, under the model learned from the book
-unfoldable pub planRun : List ℕ → State → List GroundAction → Run
-planRun s start plan = run (domain (schemaOf s)) (learnedFrom s) plan start 1
+unfoldable pub planRun : Form → List ℕ → State → List GroundAction → Run
+planRun form s start plan = run (domain (schemaOf s)) (learnedFrom form s) plan start 1
 
 -- the order's plan from one start
-unfoldable pub orderRun : List ℕ → List ℕ → State → Run
-orderRun s o start = planRun s start (planOf (schemaOf s) o)
+unfoldable pub orderRun : Form → List ℕ → List ℕ → State → Run
+orderRun form s o start = planRun form s start (planOf (schemaOf s) o)
 
 -- rows 19 and 20; success is the plan's step count
 unfoldable pub goalAnswer : ℕ → ℕ → Answer
@@ -36,8 +37,8 @@ runAnswer steps goal (stopped k) = Refused 19 k
 runAnswer steps goal (ended end) = goalAnswer steps (first (wrong end) goal)
 
 -- rows 19 and 20 from one start alone
-unfoldable pub startAnswer : List ℕ → List ℕ → State → Answer
-startAnswer s o start = runAnswer (stepCount o) (goalOf o) (orderRun s o start)
+unfoldable pub startAnswer : Form → List ℕ → List ℕ → State → Answer
+startAnswer form s o start = runAnswer (stepCount o) (goalOf o) (orderRun form s o start)
 
 -- The first start that fails gives number and place, and its position, where the first of the list has position k; success is the plan's
 -- step count.
@@ -48,19 +49,19 @@ firstFailing answer steps k (start ∷ rest) =
     [ true ↦ record { answer = answer start; position = k } | false ↦ firstFailing answer steps (suc k) rest ]
 
 -- rows 19 and 20 from each start
-unfoldable pub startsAnswer : List ℕ → List ℕ → Positioned
-startsAnswer s o = firstFailing (startAnswer s o) (stepCount o) 1 (startStates o)
+unfoldable pub startsAnswer : Form → List ℕ → List ℕ → Positioned
+startsAnswer form s o = firstFailing (startAnswer form s o) (stepCount o) 1 (startStates o)
 
 -- rows 1 to 18
-unfoldable pub beforePlan : List ℕ → List ℕ → ℕ → Answer
-beforePlan s o size = do
-  _ ← learnable s
+unfoldable pub beforePlan : Form → List ℕ → List ℕ → ℕ → Answer
+beforePlan form s o size = do
+  _ ← learnable form s
   _ ← refuse (not (eqb size endSheetSize)) 13 0
   orderForm (schemaOf s) o
 
 -- all rows; success is the plan's step count
-unfoldable pub check : List ℕ → List ℕ → ℕ → Positioned
-check s o size = thenAt (beforePlan s o size) (startsAnswer s o)
+unfoldable pub check : Form → List ℕ → List ℕ → ℕ → Positioned
+check form s o size = thenAt (beforePlan form s o size) (startsAnswer form s o)
 
 -- the end sheet of a run that ends: the state's mask
 unfoldable pub endSheet : Run → List ℕ
@@ -73,5 +74,5 @@ endAfter sheet [] lent = lent
 endAfter sheet (start ∷ []) lent = sheet start
 endAfter sheet (start ∷ other ∷ rest) lent = lent
 
-unfoldable pub checkBytes : List ℕ → List ℕ → List ℕ → List ℕ
-checkBytes s o lent = kept (check s o (length lent) .answer) (endAfter (λ start. endSheet (orderRun s o start)) (startStates o) lent) lent
+unfoldable pub checkBytes : Form → List ℕ → List ℕ → List ℕ → List ℕ
+checkBytes form s o lent = kept (check form s o (length lent) .answer) (endAfter (λ start. endSheet (orderRun form s o start)) (startStates o) lent) lent

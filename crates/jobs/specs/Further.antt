@@ -3,6 +3,7 @@ use Prim.Native.Nat.{ℕ, suc, _+_, _/_}
 use mathlib.Core.List.{List, [], _∷_, _++_}
 use lib.ListN.{length, take, drop, replicate}
 use Rattle.limits.specs.Limits.{ruleSize, endSheetSize}
+use Rattle.format.specs.Form.{full}
 use Rattle.format.specs.LookOver.{lookOver}
 use Rattle.jobs.specs.Learn.{learn, learnBytes}
 use Rattle.jobs.specs.Check.{check, checkBytes}
@@ -43,14 +44,14 @@ abbrev isCoupled : List ℕ
 isCoupled = 0x03 ∷ 0x01 ∷ 0x00 ∷ []
 
 -- M1 as a rule sheet, and an output lent for it
-abbrev rules : List ℕ
+abbrev pub rules : List ℕ
 rules =
     (0x02 ∷ 0x00 ∷ 0x00 ∷ 0x01 ∷ replicate 28 0)
     ++ (0x04 ∷ 0x00 ∷ 0x10 ∷ 0x00 ∷ replicate 28 0)
     ++ (0x04 ∷ 0x00 ∷ 0x10 ∷ 0x00 ∷ replicate 28 0)
     ++ (0x02 ∷ 0x00 ∷ 0x00 ∷ 0x01 ∷ replicate 28 0)
 
-abbrev lentRules : List ℕ
+abbrev pub lentRules : List ℕ
 lentRules = replicate ruleSize 0xff
 
 -- kinds under kinds: parents of 0 change nothing; a wagon rolls as a bank does, and only if it lies below one; a move over wagons has bound
@@ -58,24 +59,24 @@ lentRules = replicate ruleSize 0xff
 -- and does not need it; then a parent as large as its kind, and an offset that has no room for the parents
 abbrev pub kindsUnder : List Case
 kindsUnder =
-    record { gives = learnBytes book lentRules; wanted = rules }
-    ∷ record { gives = learnBytes (under 2 (0 ∷ 0 ∷ []) 1 1) lentRules; wanted = rules }
-    ∷ record { gives = learnBytes wagons lentRules; wanted = rules }
+    record { gives = learnBytes full book lentRules; wanted = rules }
+    ∷ record { gives = learnBytes full (under 2 (0 ∷ 0 ∷ []) 1 1) lentRules; wanted = rules }
+    ∷ record { gives = learnBytes full wagons lentRules; wanted = rules }
     ∷ record { gives = rulesPrinted wagons; wanted = printed }
-    ∷ record { gives = saidAt (check wagons (rollsOf 3) endSheetSize); wanted = 0 ∷ 2 ∷ 0 ∷ [] }
-    ∷ record { gives = saidAt (check wagons (rollsOf 1) endSheetSize); wanted = 0 ∷ 2 ∷ 0 ∷ [] }
+    ∷ record { gives = saidAt (check full wagons (rollsOf 3) endSheetSize); wanted = 0 ∷ 2 ∷ 0 ∷ [] }
+    ∷ record { gives = saidAt (check full wagons (rollsOf 1) endSheetSize); wanted = 0 ∷ 2 ∷ 0 ∷ [] }
     ∷ record { gives = rulesPrinted belowWagons; wanted = printed }
-    ∷ record { gives = saidAt (check belowWagons (rollsOf 4) endSheetSize); wanted = 0 ∷ 2 ∷ 0 ∷ [] }
-    ∷ record { gives = said (lookOver (under 3 (0 ∷ 0 ∷ 0 ∷ []) 1 3)); wanted = 8 ∷ 42 ∷ [] }
+    ∷ record { gives = saidAt (check full belowWagons (rollsOf 4) endSheetSize); wanted = 0 ∷ 2 ∷ 0 ∷ [] }
+    ∷ record { gives = said (lookOver full (under 3 (0 ∷ 0 ∷ 0 ∷ []) 1 3)); wanted = 8 ∷ 42 ∷ [] }
     ∷ record { gives = rulesPrinted (under 3 (0 ∷ 0 ∷ 1 ∷ []) 3 3); wanted = printed }
-    ∷ record { gives = saidAt (check (under 3 (0 ∷ 0 ∷ 1 ∷ []) 3 3) (rollsOf 1) endSheetSize); wanted = 18 ∷ 35 ∷ 0 ∷ [] }
-    ∷ record { gives = said (lookOver (coupled 1 isCoupled)); wanted = 8 ∷ 52 ∷ [] }
-    ∷ record { gives = said (lookOver (coupled 3 [])); wanted = 0 ∷ 1 ∷ [] }
-    ∷ record { gives = said (learn (coupled 3 []) ruleSize); wanted = 11 ∷ 55 ∷ [] }
+    ∷ record { gives = saidAt (check full (under 3 (0 ∷ 0 ∷ 1 ∷ []) 3 3) (rollsOf 1) endSheetSize); wanted = 18 ∷ 35 ∷ 0 ∷ [] }
+    ∷ record { gives = said (lookOver full (coupled 1 isCoupled)); wanted = 8 ∷ 52 ∷ [] }
+    ∷ record { gives = said (lookOver full (coupled 3 [])); wanted = 0 ∷ 1 ∷ [] }
+    ∷ record { gives = said (learn full (coupled 3 []) ruleSize); wanted = 11 ∷ 55 ∷ [] }
     ∷ record { gives = rulesPrinted (coupled 3 isCoupled); wanted = printed }
-    ∷ record { gives = saidAt (check (coupled 3 isCoupled) (rollsOf 3) endSheetSize); wanted = 0 ∷ 2 ∷ 0 ∷ [] }
-    ∷ record { gives = said (lookOver (under 2 (0 ∷ 2 ∷ []) 1 1)); wanted = 21 ∷ 17 ∷ [] }
-    ∷ record { gives = said (lookOver (under 2 (0 ∷ []) 1 1)); wanted = 3 ∷ 0 ∷ [] }
+    ∷ record { gives = saidAt (check full (coupled 3 isCoupled) (rollsOf 3) endSheetSize); wanted = 0 ∷ 2 ∷ 0 ∷ [] }
+    ∷ record { gives = said (lookOver full (under 2 (0 ∷ 2 ∷ []) 1 1)); wanted = 21 ∷ 17 ∷ [] }
+    ∷ record { gives = said (lookOver full (under 2 (0 ∷ []) 1 1)); wanted = 3 ∷ 0 ∷ [] }
     ∷ []
 
 -- Starts: bank 1 at spot 2, spots 3 and 4 clear; the same with spot 2 clear too, from where no roll of the bank goes.
@@ -111,19 +112,19 @@ withByte at byte o = take at o ++ (byte ∷ drop (suc at) o)
 -- cut, and one over 256; a fact out of order, and one that is cut; a byte left over; goal entries that begin before the starts
 abbrev pub severalStarts : List Case
 severalStarts =
-    record { gives = saidAt (check book (fromStarts 2 (passingStart ++ passingStart) rollTwice) endSheetSize); wanted = 0 ∷ 2 ∷ 0 ∷ [] }
-    ∷ record { gives = checkBytes book (fromStarts 2 (passingStart ++ passingStart) rollTwice) lent; wanted = lent }
-    ∷ record { gives = saidAt (check book (fromStarts 2 (passingStart ++ stoppingStart) rollTwice) endSheetSize); wanted = 19 ∷ 1 ∷ 2 ∷ [] }
-    ∷ record { gives = saidAt (check book (fromStarts 2 (passingStart ++ stoppingStart) roll) endSheetSize); wanted = 20 ∷ 1 ∷ 1 ∷ [] }
-    ∷ record { gives = saidAt (check book (fromStarts 2 (stoppingStart ++ passingStart) roll) endSheetSize); wanted = 19 ∷ 1 ∷ 1 ∷ [] }
-    ∷ record { gives = saidAt (check book (fromStarts 0 [] roll) endSheetSize); wanted = 22 ∷ 0 ∷ 0 ∷ [] }
-    ∷ record { gives = saidAt (check book (fromStarts 17 passingStart roll) endSheetSize); wanted = 22 ∷ 0 ∷ 0 ∷ [] }
-    ∷ record { gives = saidAt (check book (withByte 9 0x11 (fromStarts 0 [] roll)) endSheetSize); wanted = 22 ∷ 0 ∷ 0 ∷ [] }
-    ∷ record { gives = saidAt (check book (withByte 1 0x11 (fromStarts 0 [] roll)) endSheetSize); wanted = 14 ∷ 0 ∷ 0 ∷ [] }
-    ∷ record { gives = saidAt (check book (fromStarts 2 (passingStart ++ (0x00 ∷ [])) roll) endSheetSize); wanted = 16 ∷ 31 ∷ 0 ∷ [] }
-    ∷ record { gives = saidAt (check book (fromStarts 2 (passingStart ++ (0x01 ∷ 0x01 ∷ [])) roll) endSheetSize); wanted = 16 ∷ 31 ∷ 0 ∷ [] }
-    ∷ record { gives = saidAt (check book (fromStarts 2 (passingStart ++ (0x00 ∷ 0x02 ∷ 0x02 ∷ 0x03 ∷ 0x00 ∷ 0x02 ∷ 0x03 ∷ 0x00 ∷ [])) roll) endSheetSize); wanted = 16 ∷ 36 ∷ 0 ∷ [] }
-    ∷ record { gives = saidAt (check book (fromStarts 2 (passingStart ++ (0x00 ∷ 0x02 ∷ 0x02 ∷ 0x03 ∷ 0x00 ∷ [])) roll) endSheetSize); wanted = 16 ∷ 36 ∷ 0 ∷ [] }
-    ∷ record { gives = saidAt (check book (fromStarts 2 (passingStart ++ (stoppingStart ++ (0x00 ∷ []))) roll) endSheetSize); wanted = 16 ∷ 45 ∷ 0 ∷ [] }
-    ∷ record { gives = saidAt (check book (withByte 13 0x13 (fromStarts 1 passingStart roll)) endSheetSize); wanted = 14 ∷ 0 ∷ 0 ∷ [] }
+    record { gives = saidAt (check full book (fromStarts 2 (passingStart ++ passingStart) rollTwice) endSheetSize); wanted = 0 ∷ 2 ∷ 0 ∷ [] }
+    ∷ record { gives = checkBytes full book (fromStarts 2 (passingStart ++ passingStart) rollTwice) lent; wanted = lent }
+    ∷ record { gives = saidAt (check full book (fromStarts 2 (passingStart ++ stoppingStart) rollTwice) endSheetSize); wanted = 19 ∷ 1 ∷ 2 ∷ [] }
+    ∷ record { gives = saidAt (check full book (fromStarts 2 (passingStart ++ stoppingStart) roll) endSheetSize); wanted = 20 ∷ 1 ∷ 1 ∷ [] }
+    ∷ record { gives = saidAt (check full book (fromStarts 2 (stoppingStart ++ passingStart) roll) endSheetSize); wanted = 19 ∷ 1 ∷ 1 ∷ [] }
+    ∷ record { gives = saidAt (check full book (fromStarts 0 [] roll) endSheetSize); wanted = 22 ∷ 0 ∷ 0 ∷ [] }
+    ∷ record { gives = saidAt (check full book (fromStarts 17 passingStart roll) endSheetSize); wanted = 22 ∷ 0 ∷ 0 ∷ [] }
+    ∷ record { gives = saidAt (check full book (withByte 9 0x11 (fromStarts 0 [] roll)) endSheetSize); wanted = 22 ∷ 0 ∷ 0 ∷ [] }
+    ∷ record { gives = saidAt (check full book (withByte 1 0x11 (fromStarts 0 [] roll)) endSheetSize); wanted = 14 ∷ 0 ∷ 0 ∷ [] }
+    ∷ record { gives = saidAt (check full book (fromStarts 2 (passingStart ++ (0x00 ∷ [])) roll) endSheetSize); wanted = 16 ∷ 31 ∷ 0 ∷ [] }
+    ∷ record { gives = saidAt (check full book (fromStarts 2 (passingStart ++ (0x01 ∷ 0x01 ∷ [])) roll) endSheetSize); wanted = 16 ∷ 31 ∷ 0 ∷ [] }
+    ∷ record { gives = saidAt (check full book (fromStarts 2 (passingStart ++ (0x00 ∷ 0x02 ∷ 0x02 ∷ 0x03 ∷ 0x00 ∷ 0x02 ∷ 0x03 ∷ 0x00 ∷ [])) roll) endSheetSize); wanted = 16 ∷ 36 ∷ 0 ∷ [] }
+    ∷ record { gives = saidAt (check full book (fromStarts 2 (passingStart ++ (0x00 ∷ 0x02 ∷ 0x02 ∷ 0x03 ∷ 0x00 ∷ [])) roll) endSheetSize); wanted = 16 ∷ 36 ∷ 0 ∷ [] }
+    ∷ record { gives = saidAt (check full book (fromStarts 2 (passingStart ++ (stoppingStart ++ (0x00 ∷ []))) roll) endSheetSize); wanted = 16 ∷ 45 ∷ 0 ∷ [] }
+    ∷ record { gives = saidAt (check full book (withByte 13 0x13 (fromStarts 1 passingStart roll)) endSheetSize); wanted = 14 ∷ 0 ∷ 0 ∷ [] }
     ∷ []

@@ -1,19 +1,21 @@
--- The judge of a book: he holds every model that is consistent with the book's transitions. Nothing learned is cited here.
+-- The judge of a book: he holds every model that is consistent with the book's transitions, which are what its form decodes to. Nothing learned is
+-- cited here.
 use Prim.Native.Nat.{ℕ}
 use mathlib.Core.List.{List}
+use Rattle.format.specs.Form.{Form}
 use Rattle.model.specs.Domain.{State, GroundAction, GoalLiteral}
 use Rattle.model.specs.Model.{Model, Consistent}
 use Rattle.model.specs.Judge.{Verdict, Judged}
 use Rattle.jobs.specs.Planning.{domain, schemaOf, transitionsOf, planOf, goalOf}
 
 -- the models (rule lists) that fit each record of the book
-abbrev pub FitsBook : List ℕ → Model → Type 0
-FitsBook s M = Consistent (domain (schemaOf s)) (transitionsOf s) M
+abbrev pub FitsBook : Form → List ℕ → Model → Type 0
+FitsBook form s M = Consistent (domain (schemaOf s)) (transitionsOf form s) M
 
 -- his verdict on a plan from a start on, with a goal, wherever these stand
-abbrev pub BookVerdict : List ℕ → State → List GroundAction → List GoalLiteral → Verdict → Type 0
-BookVerdict s start plan goal v = Judged (domain (schemaOf s)) (FitsBook s) plan start goal v
+abbrev pub BookVerdict : Form → List ℕ → State → List GroundAction → List GoalLiteral → Verdict → Type 0
+BookVerdict form s start plan goal v = Judged (domain (schemaOf s)) (FitsBook form s) plan start goal v
 
 -- his verdict on an order's plan from one start alone, with the order's goal
-abbrev pub StartVerdict : List ℕ → List ℕ → State → Verdict → Type 0
-StartVerdict s o start v = BookVerdict s start (planOf (schemaOf s) o) (goalOf o) v
+abbrev pub StartVerdict : Form → List ℕ → List ℕ → State → Verdict → Type 0
+StartVerdict form s o start v = BookVerdict form s start (planOf (schemaOf s) o) (goalOf o) v

@@ -10,6 +10,7 @@ use Rattle.answer.specs.Answer.{_>>=_, refuse, kept}
 use Rattle.limits.specs.Limits.{setSize, ruleSize}
 use Rattle.mask.specs.Sets.{maskOf}
 use Rattle.terms.specs.Schema.{Schema}
+use Rattle.format.specs.Form.{Form}
 use Rattle.format.specs.Decode.{RecordedStep}
 use Rattle.format.specs.LookOver.{lookOver}
 use Rattle.model.specs.Quantify.{least}
@@ -34,11 +35,11 @@ unfoldable pub conflictingMove : Schema → List Transition → Answer
 conflictingMove sch ts = conflictAnswer (least (sch .moves) (conflicting (domain sch) ts))
 
 -- rows 1 to 12; success is the count of all steps
-unfoldable pub learnable : List ℕ → Answer
-learnable s = do
-  total ← lookOver s
-  _ ← unboundEffects (schemaOf s) (stepsOfBook s)
-  _ ← conflictingMove (schemaOf s) (transitionsOf s)
+unfoldable pub learnable : Form → List ℕ → Answer
+learnable form s = do
+  total ← lookOver form s
+  _ ← unboundEffects (schemaOf s) (stepsOfBook form s)
+  _ ← conflictingMove (schemaOf s) (transitionsOf form s)
   Good total
 
 -- the four sets of one move
@@ -54,18 +55,18 @@ unfoldable pub ruleRows : Model → ℕ → ℕ → List ℕ
 ruleRows M zero a = []
 ruleRows M (suc n) a = ruleRow M a ++ ruleRows M n (suc a)
 
-unfoldable pub learnedFrom : List ℕ → Model
-learnedFrom s = learned (domain (schemaOf s)) (transitionsOf s)
+unfoldable pub learnedFrom : Form → List ℕ → Model
+learnedFrom form s = learned (domain (schemaOf s)) (transitionsOf form s)
 
-unfoldable pub ruleSheet : List ℕ → List ℕ
-ruleSheet s = ruleRows (learnedFrom s) (schemaOf s .moves) 1
+unfoldable pub ruleSheet : Form → List ℕ → List ℕ
+ruleSheet form s = ruleRows (learnedFrom form s) (schemaOf s .moves) 1
 
 -- what a call learns into a sheet of so many bytes
-unfoldable pub learn : List ℕ → ℕ → Answer
-learn s size = do
-  total ← learnable s
+unfoldable pub learn : Form → List ℕ → ℕ → Answer
+learn form s size = do
+  total ← learnable form s
   _ ← refuse (not (eqb size (ruleSize * schemaOf s .moves))) 13 0
   Good total
 
-unfoldable pub learnBytes : List ℕ → List ℕ → List ℕ
-learnBytes s sheet = kept (learn s (length sheet)) (ruleSheet s) sheet
+unfoldable pub learnBytes : Form → List ℕ → List ℕ → List ℕ
+learnBytes form s sheet = kept (learn form s (length sheet)) (ruleSheet form s) sheet

@@ -4,8 +4,10 @@ pub mod Learn
 pub mod SheetBits
 pub mod Check
 pub mod Add
+pub mod Convert
 pub mod Judge
 pub mod Listing
 pub mod Marked
 pub mod Further
+pub mod Shorts
 pub mod Cases

@@ -1,4 +1,4 @@
--- What the two programs print, as bytes (ASCII): the listing of a book's rules, the outcome of a check, and the refused line.
+-- What the two programs print, as bytes (ASCII), of a full book: the listing of a book's rules, the outcome of a check, and the refused line.
 use Prim.Native.Nat.{ℕ, zero, suc, _+_, _*_, _/_, _%_}
 use mathlib.Core.Bool.{Bool, true, false, cond}
 use mathlib.Core.List.{List, [], _∷_, _++_}
@@ -11,6 +11,7 @@ use Rattle.terms.specs.Sections.{sectionsOf}
 use Rattle.terms.specs.Schema.{Schema}
 use Rattle.terms.specs.Steps.{atomRelation, atomFirst, atomSecond, isAtom}
 use Rattle.model.specs.Model.{Model}
+use Rattle.format.specs.Form.{full}
 use Rattle.jobs.specs.Planning.{schemaOf}
 use Rattle.jobs.specs.Learn.{learnable, learnedFrom}
 use Rattle.jobs.specs.Check.{check}
@@ -107,11 +108,11 @@ unfoldable pub rulesLines : List ℕ → Answer → List ℕ
 rulesLines s (Refused num at) = refusedLine num at
 rulesLines s (Good total) =
     countsLine (schemaOf s .moves) (sectionsOf s .records .count) total
-    ++ moveLines (schemaOf s) (learnedFrom s) (schemaOf s .moves) 1
+    ++ moveLines (schemaOf s) (learnedFrom full s) (schemaOf s .moves) 1
 
 -- what the program `rules` prints of a book
 unfoldable pub rulesPrinted : List ℕ → List ℕ
-rulesPrinted s = rulesLines s (learnable s)
+rulesPrinted s = rulesLines s (learnable full s)
 
 unfoldable pub planLine : Answer → List ℕ
 planLine (Refused num at) = refusedLine num at
@@ -119,4 +120,4 @@ planLine (Good steps) = passesWord ++ decimal steps ++ newline
 
 -- what the program `plan` prints of a book and an order
 unfoldable pub planPrinted : List ℕ → List ℕ → List ℕ
-planPrinted s o = planLine (check s o endSheetSize .answer)
+planPrinted s o = planLine (check full s o endSheetSize .answer)

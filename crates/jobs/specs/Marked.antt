@@ -7,6 +7,7 @@ use Rattle.limits.specs.Limits.{ruleSize, endSheetSize}
 use Rattle.answer.specs.declared.Answer.{Answer}
 use Rattle.answer.specs.declared.Positioned.{Positioned}
 use Rattle.answer.specs.Answer.{number, place}
+use Rattle.format.specs.Form.{full}
 use Rattle.format.specs.LookOver.{lookOver}
 use Rattle.jobs.specs.Planning.{startStates}
 use Rattle.jobs.specs.Learn.{learn}
@@ -130,10 +131,10 @@ valuesFrom (r ∷ rs) fs = valuesAt r fs ++ valuesFrom rs fs
 abbrev pub lent : List ℕ
 lent = replicate endSheetSize 0xff
 
--- so many facts of relation 1 over a number of objects: a pair for each n from `from` on
-abbrev pairs : ℕ → ℕ → ℕ → List ℕ
-pairs objects zero from = []
-pairs objects (suc left) from = 1 ∷ (from / objects + 1) ∷ (from % objects + 1) ∷ pairs objects left (suc from)
+-- so many facts of a relation over a number of objects: a pair for each n from `from` on
+abbrev pub pairs : ℕ → ℕ → ℕ → ℕ → List ℕ
+pairs relation objects zero from = []
+pairs relation objects (suc left) from = relation ∷ (from / objects + 1) ∷ (from % objects + 1) ∷ pairs relation objects left (suc from)
 
 -- a book of one relation over two places and 16 objects, with one record of one state of all its facts
 abbrev dense : List ℕ
@@ -143,7 +144,7 @@ dense =
     ++ (16 ∷ 0 ∷ 0x03 ∷ 0x16 ∷ [])
     ++ replicate 16 1
     ++ (1 ∷ 0 ∷ [])
-    ++ pairs 16 256 0
+    ++ pairs 1 16 256 0
 
 -- the same with a relation of no places more, and with its fact as the 257th
 abbrev denser : List ℕ
@@ -153,7 +154,7 @@ denser =
     ++ (16 ∷ 0 ∷ 0x03 ∷ 0x19 ∷ [])
     ++ replicate 16 1
     ++ (1 ∷ 1 ∷ [])
-    ++ pairs 16 256 0
+    ++ pairs 1 16 256 0
     ++ (2 ∷ 0 ∷ 0 ∷ [])
 
 -- a book of 60,000 bytes: one relation over two places, two moves of no parameters, and 64 copies of one record of 937 bytes, which has 10
@@ -165,7 +166,7 @@ abbrev pub longSections : List ℕ
 longSections = 2 ∷ 1 ∷ 1 ∷ 0 ∷ 0 ∷ 0 ∷ 0 ∷ 0 ∷ 0 ∷ 0 ∷ 0 ∷ 0 ∷ 0 ∷ 0 ∷ 0 ∷ 0 ∷ []
 
 abbrev crowded : List ℕ
-crowded = 0 ∷ 75 ∷ pairs 10 75 0
+crowded = 0 ∷ 75 ∷ pairs 1 10 75 0
 
 abbrev pub longRecord : List ℕ
 longRecord =
@@ -182,25 +183,25 @@ long = longHeader 64 60000 ++ (longSections ++ copies 64 longRecord)
 abbrev pub marked : List Case
 marked =
     record { gives = rulesPrinted book; wanted = printed }
-    ∷ record { gives = saidAt (check book order2 endSheetSize); wanted = 0 ∷ 2 ∷ 0 ∷ [] }
-    ∷ record { gives = valuesFrom (map (orderRun book order2) (startStates order2)) (1 ∷ 2 ∷ 3 ∷ 272 ∷ 288 ∷ 304 ∷ []); wanted = 0 ∷ 0 ∷ 1 ∷ 1 ∷ 1 ∷ 0 ∷ [] }
-    ∷ record { gives = saidAt (check book order3 endSheetSize); wanted = 19 ∷ 1 ∷ 1 ∷ [] }
-    ∷ record { gives = checkBytes book order3 lent; wanted = lent }
-    ∷ record { gives = saidAt (check book order4 endSheetSize); wanted = 0 ∷ 0 ∷ 0 ∷ [] }
-    ∷ record { gives = saidAt (check book order5 endSheetSize); wanted = 20 ∷ 1 ∷ 1 ∷ [] }
-    ∷ record { gives = saidAt (check book6 (rolled 2 3) endSheetSize); wanted = 19 ∷ 1 ∷ 1 ∷ [] }
-    ∷ record { gives = saidAt (check book6 (rolled 2 4) endSheetSize); wanted = 19 ∷ 1 ∷ 1 ∷ [] }
-    ∷ record { gives = saidAt (check book6 (rolled 3 2) endSheetSize); wanted = 19 ∷ 1 ∷ 1 ∷ [] }
-    ∷ record { gives = saidAt (check book6 (rolled 3 4) endSheetSize); wanted = 19 ∷ 1 ∷ 1 ∷ [] }
-    ∷ record { gives = saidAt (check book6 (rolled 4 2) endSheetSize); wanted = 19 ∷ 1 ∷ 1 ∷ [] }
-    ∷ record { gives = saidAt (check book6 (rolled 4 3) endSheetSize); wanted = 19 ∷ 1 ∷ 1 ∷ [] }
-    ∷ record { gives = saidAt (check book7 order7 endSheetSize); wanted = 0 ∷ 1 ∷ 0 ∷ [] }
-    ∷ record { gives = checkBytes book7 order7 lent; wanted = replicate endSheetSize 0 }
-    ∷ record { gives = saidAt (check book (rolled 2 2) endSheetSize); wanted = 18 ∷ 31 ∷ 0 ∷ [] }
-    ∷ record { gives = said (learn book9 ruleSize); wanted = 12 ∷ 1 ∷ [] }
-    ∷ record { gives = said (lookOver (take 15 book)); wanted = 1 ∷ 0 ∷ [] }
-    ∷ record { gives = said (lookOver dense); wanted = 0 ∷ 0 ∷ [] }
-    ∷ record { gives = said (lookOver denser); wanted = 8 ∷ 44 ∷ [] }
-    ∷ record { gives = said (lookOver long); wanted = 0 ∷ 192 ∷ [] }
-    ∷ record { gives = said (lookOver (long ++ (0 ∷ []))); wanted = 1 ∷ 0 ∷ [] }
+    ∷ record { gives = saidAt (check full book order2 endSheetSize); wanted = 0 ∷ 2 ∷ 0 ∷ [] }
+    ∷ record { gives = valuesFrom (map (orderRun full book order2) (startStates order2)) (1 ∷ 2 ∷ 3 ∷ 272 ∷ 288 ∷ 304 ∷ []); wanted = 0 ∷ 0 ∷ 1 ∷ 1 ∷ 1 ∷ 0 ∷ [] }
+    ∷ record { gives = saidAt (check full book order3 endSheetSize); wanted = 19 ∷ 1 ∷ 1 ∷ [] }
+    ∷ record { gives = checkBytes full book order3 lent; wanted = lent }
+    ∷ record { gives = saidAt (check full book order4 endSheetSize); wanted = 0 ∷ 0 ∷ 0 ∷ [] }
+    ∷ record { gives = saidAt (check full book order5 endSheetSize); wanted = 20 ∷ 1 ∷ 1 ∷ [] }
+    ∷ record { gives = saidAt (check full book6 (rolled 2 3) endSheetSize); wanted = 19 ∷ 1 ∷ 1 ∷ [] }
+    ∷ record { gives = saidAt (check full book6 (rolled 2 4) endSheetSize); wanted = 19 ∷ 1 ∷ 1 ∷ [] }
+    ∷ record { gives = saidAt (check full book6 (rolled 3 2) endSheetSize); wanted = 19 ∷ 1 ∷ 1 ∷ [] }
+    ∷ record { gives = saidAt (check full book6 (rolled 3 4) endSheetSize); wanted = 19 ∷ 1 ∷ 1 ∷ [] }
+    ∷ record { gives = saidAt (check full book6 (rolled 4 2) endSheetSize); wanted = 19 ∷ 1 ∷ 1 ∷ [] }
+    ∷ record { gives = saidAt (check full book6 (rolled 4 3) endSheetSize); wanted = 19 ∷ 1 ∷ 1 ∷ [] }
+    ∷ record { gives = saidAt (check full book7 order7 endSheetSize); wanted = 0 ∷ 1 ∷ 0 ∷ [] }
+    ∷ record { gives = checkBytes full book7 order7 lent; wanted = replicate endSheetSize 0 }
+    ∷ record { gives = saidAt (check full book (rolled 2 2) endSheetSize); wanted = 18 ∷ 31 ∷ 0 ∷ [] }
+    ∷ record { gives = said (learn full book9 ruleSize); wanted = 12 ∷ 1 ∷ [] }
+    ∷ record { gives = said (lookOver full (take 15 book)); wanted = 1 ∷ 0 ∷ [] }
+    ∷ record { gives = said (lookOver full dense); wanted = 0 ∷ 0 ∷ [] }
+    ∷ record { gives = said (lookOver full denser); wanted = 8 ∷ 44 ∷ [] }
+    ∷ record { gives = said (lookOver full long); wanted = 0 ∷ 192 ∷ [] }
+    ∷ record { gives = said (lookOver full (long ++ (0 ∷ []))); wanted = 1 ∷ 0 ∷ [] }
     ∷ []

@@ -9,6 +9,7 @@ use Rattle.terms.specs.Sections.{sectionsOf}
 use Rattle.terms.specs.Schema.{Schema, schema}
 use Rattle.terms.specs.Facts.{factNumber}
 use Rattle.terms.specs.Steps.{isAtom, ground}
+use Rattle.format.specs.Form.{Form}
 use Rattle.format.specs.Decode.{RecordedStep, recordedSteps}
 use Rattle.format.specs.Order.{GoalEntry, starts, goal, plan}
 use Rattle.model.specs.Quantify.{any}
@@ -31,15 +32,15 @@ transition sch f = record { step = groundAction sch (f .step); pre = holding (f 
 unfoldable pub goalEntry : GoalEntry → GoalLiteral
 goalEntry e = record { wanted = e .wanted; fact = factNumber (e .fact) }
 
--- what a book says: its schema, and its steps as recorded and as transitions
+-- what a book says: its schema, and by its form its steps as recorded and as transitions
 unfoldable pub schemaOf : List ℕ → Schema
 schemaOf s = schema (sectionsOf s) s
 
-unfoldable pub stepsOfBook : List ℕ → List RecordedStep
-stepsOfBook s = recordedSteps (sectionsOf s) s
+unfoldable pub stepsOfBook : Form → List ℕ → List RecordedStep
+stepsOfBook form s = recordedSteps form (sectionsOf s) s
 
-unfoldable pub transitionsOf : List ℕ → List Transition
-transitionsOf s = map (transition (schemaOf s)) (stepsOfBook s)
+unfoldable pub transitionsOf : Form → List ℕ → List Transition
+transitionsOf form s = map (transition (schemaOf s)) (stepsOfBook form s)
 
 -- what an order says, for the schema of a book: its starts in file order, its plan and its goal
 unfoldable pub startStates : List ℕ → List State

@@ -14,6 +14,7 @@ use Rattle.answer.specs.Turns.{is-good, part-stays, part-follows}
 use Rattle.terms.specs.declared.Sections.{Sections}
 use Rattle.terms.specs.Sections.{sectionsOf}
 use Rattle.terms.specs.Schema.{schema}
+use Rattle.format.specs.Form.{Form}
 use Rattle.format.specs.Header.{sections}
 use Rattle.format.specs.LookOver.{lookOver, allRecords, lookOverBy}
 use Rattle.format.specs.Decode.{recordedSteps}
@@ -32,56 +33,10 @@ unfolding isRefused
 refused-not-good a m e f = clash (isRefused a) e (rw f)
 
 -- a refusal is all that is said
-pub refused-book : (s bytes : List ℕ) (r : Answer) (b : Bool) → b ≡ isRefused r → b ≡ true → r ≡ learnable s → BookObserved s bytes r
-refused-book s bytes r b p q e = record { says = e; observes = λ m f. refused-not-good r m (sym p ∙ q) f }
+pub refused-book : (form : Form) (s bytes : List ℕ) (r : Answer) (b : Bool) → b ≡ isRefused r → b ≡ true → r ≡ learnable form s → BookObserved form s bytes r
+refused-book form s bytes r b p q e = record { says = e; observes = λ m f. refused-not-good r m (sym p ∙ q) f }
 
 module _ (s : List ℕ) (h : Sections) (own : h ≡ sectionsOf s) where
-  parts : lookOver s ≡ (sections h s >>= λ _. allRecords h s (h .records .count) (h .records .at))
-  unfolding lookOver lookOverBy
-  parts = rw own
-
-  -- rows 1 to 5
-  pub at-sections : (bytes : List ℕ) (a : Answer) (b : Bool) → a ≡ sections h s → b ≡ isRefused a → b ≡ true
-      → FormObserved s bytes (record { answer = a; named = 0 })
-  at-sections bytes a b p q r =
-      record {
-        says =
-            stays a _ (sym q ∙ r) ∙ ap (λ x. x >>= λ _. allRecords h s (h .records .count) (h .records .at)) p ∙ sym parts;
-        observes = λ m f. refused-not-good a m (sym q ∙ r) f;
-      }
-
-  pub looked : (a c : Answer) (b : Bool) → a ≡ sections h s → b ≡ isRefused a → b ≡ false
-      → c ≡ allRecords h s (h .records .count) (h .records .at) → c ≡ lookOver s
-  looked a c b p q r e =
-      e ∙ follows a (λ _. allRecords h s (h .records .count) (h .records .at)) (sym q ∙ r)
-      ∙ ap (λ x. x >>= λ _. allRecords h s (h .records .count) (h .records .at)) p
-      ∙ sym parts
-
-  -- what is observed after all records of a book
-  pub all-observed : (first bytes : List ℕ) (w : Walked) (m : ℕ)
-      → first ≡ nothingSeen (schema h s) .masks
-      → RecordsScanned h s (h .records .count) (h .records .at) true (record { masks = first; named = 0 }) bytes w
-      → w .answer ≡ Good m
-      → IsObserved (observedOf s) bytes (w .named)
-  unfolding observedOf schemaOf stepsOfBook recordedSteps nothingSeen
-  all-observed first bytes w m e r f = rw (e, own) at (r .observes refl m f)
-
-  -- the records by the header that was read
-  pub scanned-own : (n from : ℕ) (observing : Bool) (before : Observed) (bytes : List ℕ) (w : Walked)
-      → RecordsScanned (sectionsOf s) s n from observing before bytes w → RecordsScanned h s n from observing before bytes w
-  scanned-own n from observing before bytes w e = rw own e
-
-  -- rows 6 to 10
-  pub at-records : (first bytes : List ℕ) (w : Walked) (a : Answer) (b : Bool)
-      → a ≡ sections h s
-      → b ≡ isRefused a
-      → b ≡ false
-      → first ≡ nothingSeen (schema h s) .masks
-      → RecordsScanned h s (h .records .count) (h .records .at) true (record { masks = first; named = 0 }) bytes w
-      → FormObserved s bytes w
-  at-records first bytes w a b p q r e n =
-      record { says = looked a (w .answer) b p q r (n .says); observes = λ m f. all-observed first bytes w m e n f }
-
   pub schema-own : schema h s ≡ schemaOf s
   unfolding schemaOf
   schema-own = rw own
@@ -90,11 +45,58 @@ module _ (s : List ℕ) (h : Sections) (own : h ≡ sectionsOf s) where
   unfolding schemaOf schema
   moves-own = rw own
 
+module _ (form : Form) (s : List ℕ) (h : Sections) (own : h ≡ sectionsOf s) where
+  parts : lookOver form s ≡ (sections h s >>= λ _. allRecords form h s (h .records .count) (h .records .at))
+  unfolding lookOver lookOverBy
+  parts = rw own
+
+  -- rows 1 to 5
+  pub at-sections : (bytes : List ℕ) (a : Answer) (b : Bool) → a ≡ sections h s → b ≡ isRefused a → b ≡ true
+      → FormObserved form s bytes (record { answer = a; named = 0 })
+  at-sections bytes a b p q r =
+      record {
+        says =
+            stays a _ (sym q ∙ r) ∙ ap (λ x. x >>= λ _. allRecords form h s (h .records .count) (h .records .at)) p ∙ sym parts;
+        observes = λ m f. refused-not-good a m (sym q ∙ r) f;
+      }
+
+  pub looked : (a c : Answer) (b : Bool) → a ≡ sections h s → b ≡ isRefused a → b ≡ false
+      → c ≡ allRecords form h s (h .records .count) (h .records .at) → c ≡ lookOver form s
+  looked a c b p q r e =
+      e ∙ follows a (λ _. allRecords form h s (h .records .count) (h .records .at)) (sym q ∙ r)
+      ∙ ap (λ x. x >>= λ _. allRecords form h s (h .records .count) (h .records .at)) p
+      ∙ sym parts
+
+  -- what is observed after all records of a book
+  pub all-observed : (first bytes : List ℕ) (w : Walked) (m : ℕ)
+      → first ≡ nothingSeen (schema h s) .masks
+      → RecordsScanned form h s (h .records .count) (h .records .at) true (record { masks = first; named = 0 }) bytes w
+      → w .answer ≡ Good m
+      → IsObserved (observedOf form s) bytes (w .named)
+  unfolding observedOf schemaOf stepsOfBook recordedSteps nothingSeen
+  all-observed first bytes w m e r f = rw (e, own) at (r .observes refl m f)
+
+  -- the records by the header that was read
+  pub scanned-own : (n from : ℕ) (observing : Bool) (before : Observed) (bytes : List ℕ) (w : Walked)
+      → RecordsScanned form (sectionsOf s) s n from observing before bytes w → RecordsScanned form h s n from observing before bytes w
+  scanned-own n from observing before bytes w e = rw own e
+
+  -- rows 6 to 10
+  pub at-records : (first bytes : List ℕ) (w : Walked) (a : Answer) (b : Bool)
+      → a ≡ sections h s
+      → b ≡ isRefused a
+      → b ≡ false
+      → first ≡ nothingSeen (schema h s) .masks
+      → RecordsScanned form h s (h .records .count) (h .records .at) true (record { masks = first; named = 0 }) bytes w
+      → FormObserved form s bytes w
+  at-records first bytes w a b p q r e n =
+      record { says = looked a (w .answer) b p q r (n .says); observes = λ m f. all-observed first bytes w m e n f }
+
 -- rows 11 and 12 from what is observed, after rows 1 to 10
-module _ (s bytes : List ℕ) (w : Walked) (form : FormObserved s bytes w) (b : Bool) (told : b ≡ isRefused (w .answer)) where
-  pub at-form : b ≡ true → BookObserved s bytes (w .answer)
+module _ (form : Form) (s bytes : List ℕ) (w : Walked) (looked′ : FormObserved form s bytes w) (b : Bool) (told : b ≡ isRefused (w .answer)) where
+  pub at-form : b ≡ true → BookObserved form s bytes (w .answer)
   unfolding learnable
-  at-form t = refused-book s bytes _ b told t (part-stays _ _ _ b (form .says) told t)
+  at-form t = refused-book form s bytes _ b told t (part-stays _ _ _ b (looked′ .says) told t)
 
   module _ (left : b ≡ false) where
     abbrev total : ℕ
@@ -103,74 +105,74 @@ module _ (s bytes : List ℕ) (w : Walked) (form : FormObserved s bytes w) (b : 
     good : w .answer ≡ Good total
     good = is-good _ (sym told ∙ left)
 
-    pub formed : lookOver s ≡ Good total
-    formed = sym (form .says) ∙ good
+    pub formed : lookOver form s ≡ Good total
+    formed = sym (looked′ .says) ∙ good
 
-    observes : IsObserved (observedOf s) bytes (w .named)
-    observes = form .observes _ good
+    observes : IsObserved (observedOf form s) bytes (w .named)
+    observes = looked′ .observes _ good
 
     conflicting : ℕ → Answer
-    conflicting _ = conflictingMove (schemaOf s) (transitionsOf s) >>= λ _. Good total
+    conflicting _ = conflictingMove (schemaOf s) (transitionsOf form s) >>= λ _. Good total
 
-    rest : learnable s ≡ (unboundEffects (schemaOf s) (stepsOfBook s) >>= conflicting)
+    rest : learnable form s ≡ (unboundEffects (schemaOf s) (stepsOfBook form s) >>= conflicting)
     unfolding learnable conflicting
     rest = bind-good _ _ _ formed
 
     module _ (c : Answer) (b₂ : Bool) (e₂ : c ≡ unboundAnswer (w .named)) (told₂ : b₂ ≡ isRefused c) where
-      row11 : c ≡ unboundEffects (schemaOf s) (stepsOfBook s)
+      row11 : c ≡ unboundEffects (schemaOf s) (stepsOfBook form s)
       unfolding observedOf
-      row11 = e₂ ∙ ap unboundAnswer (observes .named) ∙ observed-right s _ formed .row11
+      row11 = e₂ ∙ ap unboundAnswer (observes .named) ∙ observed-right form s _ formed .row11
 
-      pub at-unbound : b₂ ≡ true → BookObserved s bytes c
-      at-unbound t = refused-book s bytes c b₂ told₂ t (part-stays _ conflicting c b₂ row11 told₂ t ∙ sym rest)
+      pub at-unbound : b₂ ≡ true → BookObserved form s bytes c
+      at-unbound t = refused-book form s bytes c b₂ told₂ t (part-stays _ conflicting c b₂ row11 told₂ t ∙ sym rest)
 
       module _ (left₂ : b₂ ≡ false) (h : Sections) (own : h ≡ sectionsOf s) (d : Answer) (b₃ : Bool)
           (e₃ : d ≡ conflictAmong bytes (h .moves .count)) (told₃ : b₃ ≡ isRefused d) where
-        row12 : d ≡ conflictingMove (schemaOf s) (transitionsOf s)
+        row12 : d ≡ conflictingMove (schemaOf s) (transitionsOf form s)
         unfolding observedOf transitionsOf
-        row12 = e₃ ∙ rw (moves-own s h own, observes .masks) (observed-right s _ formed .row12)
+        row12 = e₃ ∙ rw (moves-own s h own, observes .masks) (observed-right form s _ formed .row12)
 
-        behind : (conflictingMove (schemaOf s) (transitionsOf s) >>= λ _. Good total) ≡ learnable s
+        behind : (conflictingMove (schemaOf s) (transitionsOf form s) >>= λ _. Good total) ≡ learnable form s
         unfolding conflicting
         behind = part-follows _ conflicting c b₂ _ row11 told₂ left₂ refl ∙ sym rest
 
-        pub at-conflict : b₃ ≡ true → BookObserved s bytes d
-        at-conflict t = refused-book s bytes d b₃ told₃ t (part-stays _ _ d b₃ row12 told₃ t ∙ behind)
+        pub at-conflict : b₃ ≡ true → BookObserved form s bytes d
+        at-conflict t = refused-book form s bytes d b₃ told₃ t (part-stays _ _ d b₃ row12 told₃ t ∙ behind)
 
-        pub at-end : b₃ ≡ false → BookObserved s bytes (w .answer)
+        pub at-end : b₃ ≡ false → BookObserved form s bytes (w .answer)
         at-end t = record { says = good ∙ part-follows _ (λ _. Good total) d b₃ _ row12 told₃ t refl ∙ behind; observes = λ m f. observes .masks }
 
 -- learning, by what observing the book returned
-pub learn-refused : (s old : List ℕ) (a : Answer) (b : Bool) → a ≡ learnable s → b ≡ isRefused a → b ≡ true → LearnOutcome s old old a
+pub learn-refused : (form : Form) (s old : List ℕ) (a : Answer) (b : Bool) → a ≡ learnable form s → b ≡ isRefused a → b ≡ true → LearnOutcome form s old old a
 unfolding learn learnBytes
-learn-refused s old a b e q r =
-    let f : isRefused (learnable s) ≡ true = sym (ap isRefused e) ∙ sym q ∙ r in
-    let l : a ≡ learn s (length old) = e ∙ stays (learnable s) _ f in
+learn-refused form s old a b e q r =
+    let f : isRefused (learnable form s) ≡ true = sym (ap isRefused e) ∙ sym q ∙ r in
+    let l : a ≡ learn form s (length old) = e ∙ stays (learnable form s) _ f in
     record { says = l; bytes = refused-kept _ a _ old l (sym q ∙ r) }
 
-module _ (s old : List ℕ) (m : ℕ) (good : learnable s ≡ Good m) where
+module _ (form : Form) (s old : List ℕ) (m : ℕ) (good : learnable form s ≡ Good m) where
   -- row 13
-  pub learn-size : (length old ≡ 128 * schemaOf s .moves → ⊥) → LearnOutcome s old old (Refused 13 0)
+  pub learn-size : (length old ≡ 128 * schemaOf s .moves → ⊥) → LearnOutcome form s old old (Refused 13 0)
   unfolding learn learnBytes kept refuse _>>=_
   learn-size h =
-      let l : learn s (length old) ≡ Refused 13 0 = rw (good, ne-eqb (length old) (128 * schemaOf s .moves) h) in
+      let l : learn form s (length old) ≡ Refused 13 0 = rw (good, ne-eqb (length old) (128 * schemaOf s .moves) h) in
       record { says = sym l; bytes = rw l }
 
-  pub learn-done : (new : List ℕ) → length old ≡ 128 * schemaOf s .moves → new ≡ ruleSheet s → LearnOutcome s old new (Good m)
+  pub learn-done : (new : List ℕ) → length old ≡ 128 * schemaOf s .moves → new ≡ ruleSheet form s → LearnOutcome form s old new (Good m)
   unfolding learn learnBytes kept refuse _>>=_
   learn-done new h e =
-      let l : learn s (length old) ≡ Good m = rw (good, eq-eqb (length old) (128 * schemaOf s .moves) h) in
+      let l : learn form s (length old) ≡ Good m = rw (good, eq-eqb (length old) (128 * schemaOf s .moves) h) in
       record { says = sym l; bytes = rw (l, e) }
 
 -- the sheet from what is observed
-pub sheet-by : (s : List ℕ) (m : ℕ) (h : Sections) (bytes new : List ℕ) → h ≡ sectionsOf s → learnable s ≡ Good m → bytes ≡ observedOf s .masks
-    → new ≡ sheetObserved bytes (h .moves .count) 1 → new ≡ ruleSheet s
+pub sheet-by : (form : Form) (s : List ℕ) (m : ℕ) (h : Sections) (bytes new : List ℕ) → h ≡ sectionsOf s → learnable form s ≡ Good m → bytes ≡ observedOf form s .masks
+    → new ≡ sheetObserved bytes (h .moves .count) 1 → new ≡ ruleSheet form s
 unfolding observedOf learnable transitionsOf learnedFrom ruleSheet
-sheet-by s m h bytes new own good e f =
-    let p = parted (lookOver s) m _ good in
-    f ∙ rw (moves-own s h own, e) (observed-right s (p .0) (p .1) .sheet)
+sheet-by form s m h bytes new own good e f =
+    let p = parted (lookOver form s) m _ good in
+    f ∙ rw (moves-own s h own, e) (observed-right form s (p .0) (p .1) .sheet)
 
 -- a book that learns is of good form
-pub form-good : (s : List ℕ) (m : ℕ) → learnable s ≡ Good m → (n : ℕ) × (lookOver s ≡ Good n)
+pub form-good : (form : Form) (s : List ℕ) (m : ℕ) → learnable form s ≡ Good m → (n : ℕ) × (lookOver form s ≡ Good n)
 unfolding learnable
-form-good s m good = let p = parted (lookOver s) m _ good in (p .0, p .1)
+form-good form s m good = let p = parted (lookOver form s) m _ good in (p .0, p .1)

@@ -5,6 +5,7 @@ use mathlib.Core.List.{List}
 use lib.ListN.{length}
 use Rattle.answer.specs.declared.Answer.{Answer}
 use Rattle.answer.specs.declared.Answer.the-variants.{Good}
+use Rattle.format.specs.Form.{Form}
 use Rattle.format.specs.LookOver.{lookOver}
 use Rattle.observed.specs.Observed.{Observed, observeAll, nothingSeen}
 use Rattle.notes.specs.Notes.{IsObserved}
@@ -13,20 +14,20 @@ use Rattle.jobs.specs.Learn.{learnable, learn, learnBytes}
 use Rattle.scan.specs.declared.Walked.{Walked}
 
 -- what is observed after all steps of a book
-unfoldable pub observedOf : List ℕ → Observed
-observedOf s = observeAll (stepsOfBook s) (nothingSeen (schemaOf s))
+unfoldable pub observedOf : Form → List ℕ → Observed
+observedOf form s = observeAll (stepsOfBook form s) (nothingSeen (schemaOf s))
 
 -- rows 1 to 10, and what is observed where they are good
-pub record FormObserved (s bytes : List ℕ) (w : Walked) : Type 0 where
-  pub says : w .answer ≡ lookOver s
-  pub observes : (m : ℕ) → w .answer ≡ Good m → IsObserved (observedOf s) bytes (w .named)
+pub record FormObserved (form : Form) (s bytes : List ℕ) (w : Walked) : Type 0 where
+  pub says : w .answer ≡ lookOver form s
+  pub observes : (m : ℕ) → w .answer ≡ Good m → IsObserved (observedOf form s) bytes (w .named)
 
 -- rows 1 to 12, and what is observed where they are good
-pub record BookObserved (s bytes : List ℕ) (r : Answer) : Type 0 where
-  pub says : r ≡ learnable s
-  pub observes : (m : ℕ) → r ≡ Good m → bytes ≡ observedOf s .masks
+pub record BookObserved (form : Form) (s bytes : List ℕ) (r : Answer) : Type 0 where
+  pub says : r ≡ learnable form s
+  pub observes : (m : ℕ) → r ≡ Good m → bytes ≡ observedOf form s .masks
 
 -- learning into a lent sheet: the answer, and every byte of the sheet afterwards
-pub record LearnOutcome (s old new : List ℕ) (r : Answer) : Type 0 where
-  pub says : r ≡ learn s (length old)
-  pub bytes : new ≡ learnBytes s old
+pub record LearnOutcome (form : Form) (s old new : List ℕ) (r : Answer) : Type 0 where
+  pub says : r ≡ learn form s (length old)
+  pub bytes : new ≡ learnBytes form s old

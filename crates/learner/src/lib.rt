@@ -1,4 +1,4 @@
-// Learning: the records of a book walked once, each looked over and observed; then rows 11 to 13 and the rule sheet from what is observed.
+// Learning from a book of either form: the records walked once, each looked over and observed; then rows 11 to 13 and the rule sheet from what is observed.
 // Uses sections and scan for the rows of the form, notes for what is observed before any record, rulesheet and conflicts for what comes of what is
 // observed, answer, limits and terms, and the definitions of jobs and observed.
 use answer::Answer;
@@ -11,9 +11,9 @@ ghost use Rattle.learner.specs.Learner.{FormObserved, BookObserved, Lear
 ghost use Rattle.terms.specs.Sections.{sectionsOf};
 
 // Rows 1 to 10: the book looked over and observed in one walk.
-fn observe_form(s: &[u8], h: Sections, observed: &mut [u8]) -> Walked
+fn observe_form(s: &[u8], short: bool, h: Sections, observed: &mut [u8]) -> Walked
     requires { ⌜ (h ≡ sectionsOf (now s)) × (now observed ≡ empty observedSize) ⌝ }
-    ensures { λ r. ⌜ FormObserved (now (s .entry)) (now (observed .exit)) r ⌝ }
+    ensures { λ r. ⌜ FormObserved short (now (s .entry)) (now (observed .exit)) r ⌝ }
 {
     let a = sections::sections(s, h);
     if answer::is_refused(a) {
@@ -25,6 +25,7 @@ fn observe_form(s: &[u8], h: Sections, observed: &mut [u8]) -> Walked
     notes::nothing_seen(s, h, observed);
     scan::records(
         s,
+        short,
         h.records.count as usize,
         h.records.at as usize,
         true,
@@ -33,11 +34,11 @@ fn observe_form(s: &[u8], h: Sections, observed: &mut [u8]) -> Walked
 }
 
 // Rows 1 to 12: then what rows 11 and 12 say of what is observed.
-pub fn observe_book(s: &[u8], h: Sections, observed: &mut [u8]) -> Answer
+pub fn observe_book(s: &[u8], short: bool, h: Sections, observed: &mut [u8]) -> Answer
     requires { ⌜ (h ≡ sectionsOf (now s)) × (now observed ≡ empty observedSize) ⌝ }
-    ensures { λ r. ⌜ BookObserved (now (s .entry)) (now (observed .exit)) r ⌝ }
+    ensures { λ r. ⌜ BookObserved short (now (s .entry)) (now (observed .exit)) r ⌝ }
 {
-    let w = observe_form(s, h, observed);
+    let w = observe_form(s, short, h, observed);
     let a = w.answer;
     if answer::is_refused(a) {
         return a;
@@ -54,12 +55,12 @@ pub fn observe_book(s: &[u8], h: Sections, observed: &mut [u8]) -> Answer
 }
 
 // Rows 1 to 13, and the rule sheet.
-pub fn learn(s: &[u8], sheet: &mut [u8]) -> Answer
-    ensures { λ r. ⌜ LearnOutcome (now (s .entry)) (now (sheet .entry)) (now (sheet .exit)) r ⌝ }
+pub fn learn(s: &[u8], short: bool, sheet: &mut [u8]) -> Answer
+    ensures { λ r. ⌜ LearnOutcome short (now (s .entry)) (now (sheet .entry)) (now (sheet .exit)) r ⌝ }
 {
     let h = Sections::read(s);
     let mut observed = [0u8; limits::OBSERVED_SIZE];
-    let a = observe_book(s, h, &mut observed);
+    let a = observe_book(s, short, h, &mut observed);
     if answer::is_refused(a) {
         return a;
     }

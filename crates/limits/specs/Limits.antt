@@ -51,6 +51,10 @@ countSize = 2
 abbrev pub maxFacts : ℕ
 maxFacts = 256
 
+-- of facts that turn, in a short book
+abbrev pub maxTurns : ℕ
+maxTurns = 512
+
 abbrev pub factSize : ℕ
 factSize = 3
 

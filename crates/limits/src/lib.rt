@@ -36,6 +36,9 @@ pub const COUNT_SIZE: usize = 2;
 
 pub const MAX_FACTS: u16 = 256;
 
+// Of facts that turn, in a short book.
+pub const MAX_TURNS: u16 = 512;
+
 pub const FACT_SIZE: usize = 3;
 
 pub const STEP_SIZE: usize = 5;

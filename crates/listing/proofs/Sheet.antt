@@ -3,6 +3,7 @@ use Prim.Native.Nat.{ℕ, _*_, _≤_, _<_}
 use mathlib.Core.Path.{_≡_, refl, sym, ap, _∙_}
 use mathlib.Core.Bool.{Bool, true, false}
 use mathlib.Core.List.{List, _++_, append-nil}
+use Rattle.format.specs.Form.{full}
 use Rattle.terms.specs.declared.Sections.{Sections}
 use Rattle.terms.specs.Schema.{Schema, schema}
 use Rattle.terms.specs.Steps.{isAtom}
@@ -17,18 +18,18 @@ use Rattle.jobs.proofs.Sheet.{learned-need-bit, learned-effect-bit}
 use Rattle.listing.proofs.Text.{Each}
 use Rattle.listing.specs.SheetOf.{SheetOf}
 
-line-learned : (s : List ℕ) (sch : Schema) (a n : ℕ) → 1 ≤ a → a ≤ schemaOf s .moves → n < 256 → atomLine sch (modelOn (ruleSheet s)) a n ≡ atomLine sch (learnedFrom s) a n
+line-learned : (s : List ℕ) (sch : Schema) (a n : ℕ) → 1 ≤ a → a ≤ schemaOf s .moves → n < 256 → atomLine sch (modelOn (ruleSheet full s)) a n ≡ atomLine sch (learnedFrom full s) a n
 unfolding atomLine modelOn
 line-learned s sch a n h l k = rw (
-  learned-need-bit s a n h l k true,
-  learned-need-bit s a n h l k false,
-  learned-effect-bit s a n h l k true,
-  learned-effect-bit s a n h l k false,
+  learned-need-bit full s a n h l k true,
+  learned-need-bit full s a n h l k false,
+  learned-effect-bit full s a n h l k true,
+  learned-effect-bit full s a n h l k false,
 )
 
 module _ (s : List ℕ) (h : Sections) (sheet : List ℕ) (l : SheetOf s h sheet) where
   -- the line from the sheet is that of the learned model
-  line-shown : (a n : ℕ) → 1 ≤ a → a ≤ h .moves .count → n < 256 → atomLine (schema h s) (modelOn sheet) a n ≡ atomLine (schemaOf s) (learnedFrom s) a n
+  line-shown : (a n : ℕ) → 1 ≤ a → a ≤ h .moves .count → n < 256 → atomLine (schema h s) (modelOn sheet) a n ≡ atomLine (schemaOf s) (learnedFrom full s) a n
   unfolding schemaOf schema
   line-shown a n p q k = rw (l .own, l .bytes) (line-learned s (schemaOf s) a n p (rw (l .own) at q) k)
 
@@ -41,15 +42,15 @@ module _ (s : List ℕ) (h : Sections) (sheet : List ℕ) (l : SheetOf s h sheet
   module _ (text : List ℕ) (a n : ℕ) (b : Bool) (e : b ≡ isAtom (schema h s) a n) where
     pub there-by : (next : List ℕ) → 1 ≤ a → a ≤ h .moves .count → n < 256 → b ≡ true
         → next ≡ text ++ atomLine (schema h s) (modelOn sheet) a n
-        → next ≡ text ++ lineIfAtom (schemaOf s) (learnedFrom s) a n
+        → next ≡ text ++ lineIfAtom (schemaOf s) (learnedFrom full s) a n
     unfolding lineIfAtom schemaOf
     there-by next p q k y i = rw (lineIfAtom, ← l .own, ← e, y) (i ∙ ap (λ (t : List ℕ). text ++ t) (line-shown a n p q k))
 
-    pub absent-by : b ≡ false → text ≡ text ++ lineIfAtom (schemaOf s) (learnedFrom s) a n
+    pub absent-by : b ≡ false → text ≡ text ++ lineIfAtom (schemaOf s) (learnedFrom full s) a n
     unfolding lineIfAtom schemaOf
     absent-by y = rw (lineIfAtom, ← l .own, ← e, y) (sym (append-nil text))
 
   -- the lines of the moves, by the count of relations that was read
-  pub moves-each : Each (λ a. atomLines (schemaOf s) (learnedFrom s) a (16 * h .relations .count) 0) (moveLines (schemaOf s) (learnedFrom s))
+  pub moves-each : Each (λ a. atomLines (schemaOf s) (learnedFrom full s) a (16 * h .relations .count) 0) (moveLines (schemaOf s) (learnedFrom full s))
   unfolding moveLines schemaOf schema
   moves-each = record { none = λ n. refl; more = λ left n. rw (l .own) }

@@ -2,6 +2,7 @@
 use Prim.Native.Nat.{ℕ, _≤_}
 use mathlib.Core.Path.{_≡_}
 use mathlib.Core.List.{List}
+use Rattle.format.specs.Form.{full}
 use Rattle.limits.specs.Limits.{maxMoves, maxRelations}
 use Rattle.terms.specs.declared.Sections.{Sections}
 use Rattle.terms.specs.Sections.{sectionsOf}
@@ -12,4 +13,4 @@ pub record SheetOf (s : List ℕ) (h : Sections) (sheet : List ℕ) : Type 0 whe
   pub own : h ≡ sectionsOf s
   pub few-moves : h .moves .count ≤ maxMoves
   pub few-relations : h .relations .count ≤ maxRelations
-  pub bytes : sheet ≡ ruleSheet s
+  pub bytes : sheet ≡ ruleSheet full s

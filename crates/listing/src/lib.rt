@@ -5,6 +5,7 @@ ghost use mathlib.Core.Path.{_≡_};
 ghost use mathlib.Core.List.{_++_};
 ghost use Prim.Native.Nat.{_+_, _*_, _≤_, _<_};
 ghost use lib.ListN.{length, take};
+ghost use Rattle.format.specs.Form.{full};
 ghost use Rattle.io.specs.Counts.{Counts};
 ghost use Rattle.answer.specs.declared.Answer.the-variants.{Good};
 ghost use Rattle.limits.specs.Limits.{maxMoves, ruleSize, sheetMax, maxAtoms, atomsPerRelation};
@@ -45,7 +46,7 @@ fn line_if_atom(
 ) -> usize
     requires { ⌜ SheetOf (now book) h (now sheet) × (1 ≤ m .0) × (m .0 ≤ h .moves .count) × (n < maxAtoms) × (at + lineRoom ≤ length (now out)) × (now atoms ≡ atomSet (schema h (now book)) (m .0)) ⌝ }
     ensures { λ r. ⌜ (r ≤ at + lineSize) × Counts r (now (out .exit)) ⌝ }
-    ensures { λ r. ⌜ take r (now (out .exit)) ≡ take at (now (out .entry)) ++ lineIfAtom (schemaOf (now (book .entry))) (learnedFrom (now (book .entry))) (m .0) n ⌝ }
+    ensures { λ r. ⌜ take r (now (out .exit)) ≡ take at (now (out .entry)) ++ lineIfAtom (schemaOf (now (book .entry))) (learnedFrom full (now (book .entry))) (m .0) n ⌝ }
 {
     if mask::test_bit(atoms, n) {
         return lines::atom_line(book, h, sheet, m, n, out, at);
@@ -56,7 +57,7 @@ fn line_if_atom(
 fn atom_lines(book: &[u8], h: Sections, sheet: &[u8], m: Move, out: &mut [u8], from: usize) -> usize
     requires { ⌜ SheetOf (now book) h (now sheet) × (1 ≤ m .0) × (m .0 ≤ h .moves .count) × (from + moveLinesSize + lineRoom ≤ length (now out)) ⌝ }
     ensures { λ r. ⌜ (r ≤ from + moveLinesSize) × Counts r (now (out .exit)) ⌝ }
-    ensures { λ r. ⌜ take r (now (out .exit)) ≡ take from (now (out .entry)) ++ atomLines (schemaOf (now (book .entry))) (learnedFrom (now (book .entry))) (m .0) (atomsPerRelation * h .relations .count) 0 ⌝ }
+    ensures { λ r. ⌜ take r (now (out .exit)) ≡ take from (now (out .entry)) ++ atomLines (schemaOf (now (book .entry))) (learnedFrom full (now (book .entry))) (m .0) (atomsPerRelation * h .relations .count) 0 ⌝ }
 {
     let end = limits::ATOMS_PER_RELATION * h.relations.count as usize;
     let atoms = atoms::atom_set(book, h, m);
@@ -70,7 +71,7 @@ fn atom_lines(book: &[u8], h: Sections, sheet: &[u8], m: Move, out: &mut [u8], f
 fn move_lines(book: &[u8], h: Sections, sheet: &[u8], out: &mut [u8], from: usize) -> usize
     requires { ⌜ SheetOf (now book) h (now sheet) × (from + allLinesSize + lineRoom ≤ length (now out)) ⌝ }
     ensures { λ r. ⌜ Counts r (now (out .exit)) ⌝ }
-    ensures { λ r. ⌜ take r (now (out .exit)) ≡ take from (now (out .entry)) ++ moveLines (schemaOf (now (book .entry))) (learnedFrom (now (book .entry))) (h .moves .count) 1 ⌝ }
+    ensures { λ r. ⌜ take r (now (out .exit)) ≡ take from (now (out .entry)) ++ moveLines (schemaOf (now (book .entry))) (learnedFrom full (now (book .entry))) (h .moves .count) 1 ⌝ }
 {
     let moves = h.moves.count as usize;
     let mut at = from;
@@ -111,7 +112,7 @@ fn answer_lines(book: &[u8], h: Sections, sheet: &mut [u8], out: &mut [u8]) -> u
     requires { ⌜ (h ≡ sectionsOf (now book)) × (h .moves .count ≤ maxMoves → length (now sheet) ≡ ruleSize * h .moves .count) × (listingRoom ≤ length (now out)) ⌝ }
     ensures { λ r. ⌜ Counts r (now (out .exit)) × (take r (now (out .exit)) ≡ rulesPrinted (now (book .entry))) ⌝ }
 {
-    match learner::learn(book, sheet) {
+    match learner::learn(book, false, sheet) {
         Answer::Refused(number, place) => lines::refused_line(number, place, out),
         Answer::Good(steps) => learned_lines(book, h, sheet, steps, out),
     }

@@ -15,7 +15,8 @@ use Rattle.answer.specs.Laws.{bind-unit, refuse-met, refuse-unmet}
 use Rattle.answer.specs.Walk.{walk}
 use Rattle.terms.specs.declared.Sections.{Sections}
 use Rattle.terms.specs.Sections.{sectionsOf}
-use Rattle.limits.specs.Limits.{maxLength}
+use Rattle.limits.specs.Limits.{maxLength, maxRelations}
+use Rattle.format.specs.Form.{Form}
 use Rattle.format.specs.Header.{sections}
 use Rattle.format.specs.Records.{stepsIn, recordAt}
 use Rattle.format.specs.LookOver.{stepTotal, allRecords, lookOverBy, lookOver}
@@ -28,23 +29,23 @@ use Rattle.reader.specs.Reader.{recordFrom, record-from}
 use Rattle.records.proofs.Bounds.{records-bounded, total-bounded}
 
 -- the records by the header that was read
-pub records-own : (h : Sections) (s : List ℕ) → h ≡ sectionsOf s → (n from : ℕ) {r : Answer} → r ≡ allRecords (sectionsOf s) s n from → r ≡ allRecords h s n from
-records-own h s is n from e = rw is e
+pub records-own : (form : Form) (h : Sections) (s : List ℕ) → h ≡ sectionsOf s → (n from : ℕ) {r : Answer} → r ≡ allRecords form (sectionsOf s) s n from → r ≡ allRecords form h s n from
+records-own form h s is n from e = rw is e
 
-module _ (h : Sections) (s : List ℕ) (is : h ≡ sectionsOf s) (a : Answer) (b : Bool) (first : a ≡ sections h s) (told : b ≡ isRefused a) where
-  pub look-over-stays : b ≡ true → a ≡ lookOver s
+module _ (form : Form) (h : Sections) (s : List ℕ) (is : h ≡ sectionsOf s) (a : Answer) (b : Bool) (first : a ≡ sections h s) (told : b ≡ isRefused a) where
+  pub look-over-stays : b ≡ true → a ≡ lookOver form s
   unfolding lookOver lookOverBy
   look-over-stays e = rw (← is) (part-stays _ _ a b first told e)
 
-  pub look-over-records : b ≡ false → (r : Answer) → r ≡ allRecords h s (h .records .count) (h .records .at) → r ≡ lookOver s
+  pub look-over-records : b ≡ false → (r : Answer) → r ≡ allRecords form h s (h .records .count) (h .records .at) → r ≡ lookOver form s
   unfolding lookOver lookOverBy
   look-over-records e r w =
       rw (← is)
-      (w ∙ part-follows _ (λ _. allRecords h s (h .records .count) (h .records .at)) a b _ first told e refl)
+      (w ∙ part-follows _ (λ _. allRecords form h s (h .records .count) (h .records .at)) a b _ first told e refl)
 
-look-over-by-bounded : (h : Sections) (s : List ℕ) → Bounded maxLength (lookOverBy h s)
+look-over-by-bounded : (form : Form) (h : Sections) (s : List ℕ) → Bounded maxLength (lookOverBy form h s)
 unfolding lookOverBy allRecords
-look-over-by-bounded h s =
+look-over-by-bounded form h s =
     bounded-then maxLength _ _
     (bounded-of maxLength (sections h s)
     (λ n e. let g = sections-good h s n e in omega (arith, g .start, g .offsets .within, g .size .most))
@@ -53,42 +54,42 @@ look-over-by-bounded h s =
     let g = sections-good h s n e in
     let c = g .counts .records in
     bounded-then maxLength _ _
-    (bounded-wider _ _ _ (g .size .most) (records-bounded h s (h .records .count) (h .records .at) (g .offsets .within)))
+    (bounded-wider _ _ _ (g .size .most) (records-bounded form h s (h .records .count) (h .records .at) (g .offsets .within)))
     (λ last f j.
     bounded-row maxLength _ _ _ _ (omega arith) j
-    (λ x. let t = total-bounded h s (h .records .count) (h .records .at) last f in bounded-good maxLength _ (omega arith))))
+    (λ x. let t = total-bounded form h s (h .records .count) (h .records .at) last f in bounded-good maxLength _ (omega arith))))
 
 -- every answer of looking over, whatever the bytes
-pub look-over-bounded : (s : List ℕ) → Bounded maxLength (lookOver s)
+pub look-over-bounded : (form : Form) (s : List ℕ) → Bounded maxLength (lookOver form s)
 unfolding lookOver
-look-over-bounded s = look-over-by-bounded (sectionsOf s) s
+look-over-bounded form s = look-over-by-bounded form (sectionsOf s) s
 
 -- one record that ends the book: its own rows, then the book's tail
-pub one-record : (h : Sections) (s : List ℕ) (at : ℕ)
-    → allRecords h s 1 at ≡ (recordAt h s at >>= λ last. refuse (ltb last (length s)) 6 last >>= λ _. Good (stepsIn s at))
+pub one-record : (form : Form) (h : Sections) (s : List ℕ) (at : ℕ)
+    → allRecords form h s 1 at ≡ (recordAt form h s at >>= λ last. refuse (ltb last (length s)) 6 last >>= λ _. Good (stepsIn s at))
 unfolding allRecords walk stepTotal
-one-record h s at = rw (bind-unit, add-zero)
+one-record form h s at = rw (bind-unit, add-zero)
 
 -- its three answers, by what the calls in the code return
-module _ (s : List ℕ) (at : ℕ) (long : length s ≤ maxLength) (low : at ≤ maxLength) (a : Answer) (is : a ≡ recordFrom s at) (b : Bool) (told : b ≡ isRefused a) where
+module _ (form : Form) (s : List ℕ) (at : ℕ) (long : length s ≤ maxLength) (low : at ≤ maxLength) (known : sectionsOf s .relations .count ≤ maxRelations) (a : Answer) (is : a ≡ recordFrom form s at) (b : Bool) (told : b ≡ isRefused a) where
   rest : ℕ → Answer
   rest last = refuse (ltb last (length s)) 6 last >>= λ _. Good (stepsIn s at)
 
-  own : (recordAt (sectionsOf s) s at >>= rest) ≡ allRecords (sectionsOf s) s 1 at
+  own : (recordAt form (sectionsOf s) s at >>= rest) ≡ allRecords form (sectionsOf s) s 1 at
   unfolding rest
-  own = sym (one-record (sectionsOf s) s at)
+  own = sym (one-record form (sectionsOf s) s at)
 
-  pub last-refused : b ≡ true → a ≡ allRecords (sectionsOf s) s 1 at
-  last-refused e = part-stays _ rest a b (is ∙ record-from s at long low) told e ∙ own
+  pub last-refused : b ≡ true → a ≡ allRecords form (sectionsOf s) s 1 at
+  last-refused e = part-stays _ rest a b (is ∙ record-from form s at long low known) told e ∙ own
 
   module _ (e : b ≡ false) (v : ℕ) (value : v ≡ valueOf a) where
-    after : rest v ≡ allRecords (sectionsOf s) s 1 at
-    after = part-follows _ rest a b v (is ∙ record-from s at long low) told e value ∙ own
+    after : rest v ≡ allRecords form (sectionsOf s) s 1 at
+    after = part-follows _ rest a b v (is ∙ record-from form s at long low known) told e value ∙ own
 
-    pub last-tail : v < length s → Refused 6 v ≡ allRecords (sectionsOf s) s 1 at
+    pub last-tail : v < length s → Refused 6 v ≡ allRecords form (sectionsOf s) s 1 at
     unfolding rest
     last-tail l = sym (refuse-met _ _ _ _ (lt-ltb v (length s) l)) ∙ after
 
-    pub last-good : length s ≤ v → (head : Head) → head ≡ headOf s at → Good (head .steps) ≡ allRecords (sectionsOf s) s 1 at
+    pub last-good : length s ≤ v → (head : Head) → head ≡ headOf s at → Good (head .steps) ≡ allRecords form (sectionsOf s) s 1 at
     unfolding rest headOf
     last-good l head h = ap (λ (x : Head). Good (x .steps)) h ∙ sym (refuse-unmet _ _ _ _ (le-ltb v (length s) l)) ∙ after

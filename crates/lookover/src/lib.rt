@@ -1,4 +1,4 @@
-// Looking over a book: rows 1 to 10 of the refusal table, for any bytes; the count of all steps is good.
+// Looking over a book of either form: rows 1 to 10 of the refusal table, for any bytes; the count of all steps is good.
 // Uses answer, limits, terms, sections, records, the reader of one record, scan, and the definitions of format. The records are walked once, and
 // nothing is observed.
 use answer::Answer;
@@ -8,25 +8,25 @@ ghost use mathlib.Core.Path.{_≡_};
 ghost use Prim.Native.Nat.{_≤_};
 ghost use lib.ListN.{length};
 ghost use Rattle.terms.specs.Sections.{sectionsOf};
-ghost use Rattle.limits.specs.Limits.{maxLength, maxRecords};
+ghost use Rattle.limits.specs.Limits.{maxLength, maxRecords, maxRelations};
 ghost use Rattle.format.specs.LookOver.{lookOver, allRecords};
 
 // A number of records, which end the book; the count of all steps is good.
-fn records(s: &[u8], n: usize, from: usize) -> Answer
-    requires { ⌜ (length (now s) ≤ maxLength) × (from ≤ maxLength) × (n ≤ maxRecords) ⌝ }
-    ensures { λ r. ⌜ r ≡ allRecords (sectionsOf (now (s .entry))) (now (s .entry)) n from ⌝ }
+fn records(s: &[u8], short: bool, n: usize, from: usize) -> Answer
+    requires { ⌜ (length (now s) ≤ maxLength) × (from ≤ maxLength) × (n ≤ maxRecords) × (sectionsOf (now s) .relations .count ≤ maxRelations) ⌝ }
+    ensures { λ r. ⌜ r ≡ allRecords short (sectionsOf (now (s .entry))) (now (s .entry)) n from ⌝ }
 {
     let mut none = [0u8; 0];
-    let w = scan::records(s, n, from, false, &mut none);
+    let w = scan::records(s, short, n, from, false, &mut none);
     w.answer
 }
 
 // The record at an offset, which ends the book; the count of its steps is good.
-pub fn last_record(s: &[u8], at: usize) -> Answer
-    requires { ⌜ (length (now s) ≤ maxLength) × (at ≤ maxLength) ⌝ }
-    ensures { λ r. ⌜ r ≡ allRecords (sectionsOf (now (s .entry))) (now (s .entry)) 1 at ⌝ }
+pub fn last_record(s: &[u8], short: bool, at: usize) -> Answer
+    requires { ⌜ (length (now s) ≤ maxLength) × (at ≤ maxLength) × (sectionsOf (now s) .relations .count ≤ maxRelations) ⌝ }
+    ensures { λ r. ⌜ r ≡ allRecords short (sectionsOf (now (s .entry))) (now (s .entry)) 1 at ⌝ }
 {
-    let record = reader::record_from(s, at);
+    let record = reader::record_from(s, at, short);
     if answer::is_refused(record) {
         return record;
     }
@@ -38,13 +38,13 @@ pub fn last_record(s: &[u8], at: usize) -> Answer
     Answer::Good(head.steps as usize)
 }
 
-pub fn look_over(s: &[u8]) -> Answer
-    ensures { λ r. ⌜ r ≡ lookOver (now (s .entry)) ⌝ }
+pub fn look_over(s: &[u8], short: bool) -> Answer
+    ensures { λ r. ⌜ r ≡ lookOver short (now (s .entry)) ⌝ }
 {
     let h = Sections::read(s);
     let a = sections::sections(s, h);
     if answer::is_refused(a) {
         return a;
     }
-    records(s, h.records.count as usize, h.records.at as usize)
+    records(s, short, h.records.count as usize, h.records.at as usize)
 }

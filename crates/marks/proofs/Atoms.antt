@@ -10,14 +10,14 @@ use lib.Dec.{eqb, leb}
 use lib.ListN.{length, getD, set, length-set, length-replicate, getD-replicate}
 use lib.Seq.{getD-set-same, getD-set-other, ext-getD}
 use Rattle.truth.specs.Bools.{clash, is-true, is-false, and-out}
-use Rattle.mask.specs.Bits.{testBit, setBit}
+use Rattle.mask.specs.Bits.{testBit, setBit, flipBit}
 use Rattle.terms.specs.declared.Object.{Object}
 use Rattle.terms.specs.declared.Binding.{Binding}
 use Rattle.terms.specs.declared.Fact.{Fact}
 use Rattle.terms.specs.Steps.{objectOf}
-use Rattle.observed.specs.Inverse.{gives, paramOf, placeBound, factBound, atomOf, mark}
+use Rattle.observed.specs.Inverse.{gives, paramOf, placeBound, factBound, atomOf, mark, turnMark, turnMark}
 use Rattle.observed.proofs.Params.{param-most}
-use Rattle.marks.specs.Marks.{digit, placesOf, pairOf, markedAs, noDigits, givenEach, Inverts}
+use Rattle.marks.specs.Marks.{digit, placesOf, pairOf, atPair, markedAs, turnedAs, noDigits, givenEach, Inverts}
 
 -- ---- the table
 
@@ -137,13 +137,14 @@ pub places-by : (b : Binding) (f : Fact) (t : List ℕ) (m n : ℕ)
 unfolding placesOf
 places-by b f t m n w d e h k = rw (d, e, w .gives (f .first .0) h, w .gives (f .second .0) k)
 
-pub as-unbound : (m : List ℕ) (f : Fact) (x : ℕ) → 16 ≤ x → m ≡ markedAs m f x
-unfolding markedAs
-as-unbound m f x h = rw (le-leb 16 x h)
+module _ (make : List ℕ → ℕ → List ℕ) (m : List ℕ) (f : Fact) (x : ℕ) where
+  pub as-unbound : 16 ≤ x → m ≡ atPair make m f x
+  unfolding atPair
+  as-unbound h = rw (le-leb 16 x h)
 
-pub as-bound : (m : List ℕ) (f : Fact) (x n : ℕ) → x < 16 → n ≡ 16 * (f .relation .0 - 1) + x → setBit m n ≡ markedAs m f x
-unfolding markedAs
-as-bound m f x n h e = rw (lt-leb 16 x h, e)
+  pub as-bound : (n : ℕ) → x < 16 → n ≡ 16 * (f .relation .0 - 1) + x → make m n ≡ atPair make m f x
+  unfolding atPair
+  as-bound n h e = rw (lt-leb 16 x h, e)
 
 module _ (b : Binding) (f : Fact) where
   abbrev bothBound : Bool
@@ -227,12 +228,20 @@ module _ (b : Binding) (f : Fact) where
           go true e = ap not (sym (place-unbound (leb-true 16 x e)))
           go false e = ap not (sym (place-bound (leb-false 16 x e)))
 
-      pub marked-as : (m : List ℕ) → markedAs m f x ≡ mark atoms b m f
-      unfolding markedAs mark
-      marked-as m = go (factBound atoms b f) refl
+      at-pair : (make : List ℕ → ℕ → List ℕ) (m : List ℕ) → atPair make m f x ≡ cond (factBound atoms b f) (make m (atomOf b f)) m
+      unfolding atPair
+      at-pair make m = go (factBound atoms b f) refl
         where
-          go : (t : Bool) → factBound atoms b f ≡ t → cond (leb 16 x) m (setBit m (16 * (f .relation .0 - 1) + x)) ≡ cond t (setBit m (atomOf b f)) m
+          go : (t : Bool) → factBound atoms b f ≡ t → cond (leb 16 x) m (make m (16 * (f .relation .0 - 1) + x)) ≡ cond t (make m (atomOf b f)) m
           go true e =
               let (p, l) = bound-less e in
               rw (lt-leb 16 x l, number-by (bound-both e) x p _ refl)
           go false e = rw (le-leb 16 x (omega (arith, unbound-is e)))
+
+      pub marked-as : (m : List ℕ) → markedAs m f x ≡ mark atoms b m f
+      unfolding mark
+      marked-as m = at-pair setBit m
+
+      pub turned-as : (m : List ℕ) → turnedAs m f x ≡ turnMark atoms b m f
+      unfolding turnMark
+      turned-as m = at-pair flipBit m

@@ -6,14 +6,15 @@ use mathlib.Core.Bool.{Bool, cond, _||_}
 use mathlib.Core.List.{List, _∷_}
 use lib.Dec.{leb}
 use lib.ListN.{length, getD, set, replicate}
-use Rattle.mask.specs.Bits.{setBit}
+use Rattle.mask.specs.Bits.{setBit, flipBit}
 use Rattle.terms.specs.declared.Object.{Object}
 use Rattle.terms.specs.declared.Binding.{Binding}
 use Rattle.terms.specs.declared.Fact.{Fact}
 use Rattle.terms.specs.Steps.{objectOf}
 use Rattle.limits.specs.Limits.{factSize, atomsPerRelation, farCeiling}
 use Rattle.format.specs.Lists.{factsAt}
-use Rattle.observed.specs.Inverse.{paramOf, placeBound, factBound, marks, atomsIn, unboundChanged}
+use Rattle.observed.specs.Inverse.{paramOf, placeBound, factBound, marks, atomsIn, unboundChanged, turnMarks, someUnbound}
+use Rattle.turning.specs.Turning.{flipped}
 use Rattle.marks.specs.declared.Cursor.{Cursor}
 use Rattle.marks.specs.declared.Walk.{Walk}
 
@@ -32,9 +33,16 @@ placesOf b f = 4 * digit b (f .first) + digit b (f .second)
 unfoldable pub pairOf : List ℕ → Binding → Fact → ℕ
 pairOf atoms b f = cond (factBound atoms b f) (placesOf b f) atomsPerRelation
 
--- a set with the bound fact put in that a fact is by its pair, if it is one
-unfoldable pub markedAs : List ℕ → Fact → ℕ → List ℕ
-markedAs m f pair = cond (leb atomsPerRelation pair) m (setBit m (atomsPerRelation * (f .relation .0 - 1) + pair))
+-- what is made of a set at the bound fact that a fact is by its pair, if it is one
+unfoldable pub atPair : (List ℕ → ℕ → List ℕ) → List ℕ → Fact → ℕ → List ℕ
+atPair make m f pair = cond (leb atomsPerRelation pair) m (make m (atomsPerRelation * (f .relation .0 - 1) + pair))
+
+-- the set with that bound fact put in, and with it turned
+abbrev pub markedAs : List ℕ → Fact → ℕ → List ℕ
+markedAs = atPair setBit
+
+abbrev pub turnedAs : List ℕ → Fact → ℕ → List ℕ
+turnedAs = atPair flipBit
 
 unfoldable pub noDigits : List ℕ
 noDigits = replicate 256 atomsPerRelation
@@ -96,3 +104,9 @@ pub record StepMarked (atoms : List ℕ) (b : Binding) (pre post : List Fact) (m
   pub before : m ≡ atomsIn atoms b pre
   pub after : n ≡ atomsIn atoms b post
   pub unbound : r ≡ unboundChanged atoms b pre post
+
+-- the same of a state and the facts that turn in it, of the bound facts before it
+pub record StepTurned (atoms : List ℕ) (b : Binding) (ts : List Fact) (m m′ n n′ : List ℕ) (r : Bool) : Type 0 where
+  pub state : m′ ≡ flipped ts m
+  pub after : n′ ≡ turnMarks atoms b n ts
+  pub unbound : r ≡ someUnbound atoms b ts

@@ -1,5 +1,7 @@
-// Which bound facts (lifted atoms) of a step hold before and after it, and row 11: whether any other fact changed.
-// Uses terms for facts and bindings, mask for the sets, input, limits; the contracts cite observed and format, and specs/Marks.antt for the parts.
+// Which bound facts (lifted atoms) of a step hold before and after it, and row 11: whether any other fact changed. By the lists of both states, or
+// in a short book by the list of the facts that turn.
+// Uses terms for facts and bindings, mask for the sets, input, limits; the contracts cite observed, format and turning, and specs/Marks.antt for
+// the parts.
 ghost use mathlib.Core.Path.{_≡_};
 ghost use Prim.Native.Nat.{_+_, _*_, _≤_, _<_};
 ghost use mathlib.Core.List.{[]};
@@ -8,7 +10,10 @@ ghost use Rattle.limits.specs.Limits.{setSize, nearCeiling, farCeiling};
 ghost use Rattle.mask.specs.Sets.{empty};
 ghost use Rattle.format.specs.Lists.{listAt, listEnd};
 ghost use Rattle.observed.specs.Inverse.{marks, sameFact, unboundChanged};
+ghost use Rattle.mask.specs.Bits.{flipBit};
+ghost use Rattle.terms.specs.Facts.{factNumber};
 ghost use Rattle.marks.specs.Marks.{noDigits, givenEach, Inverts, placesOf, pairOf, markedAs, rest, next, Ahead, Comes, Turned, StepMarked};
+ghost use Rattle.marks.specs.Marks.{turnedAs, StepTurned};
 use terms::Binding;
 use terms::Fact;
 use terms::Object;
@@ -121,7 +126,7 @@ struct Cursor {
 }
 
 impl Cursor {
-    fn of_state(s: &[u8], at: usize) -> Cursor
+    fn of_list(s: &[u8], at: usize) -> Cursor
         requires { ⌜ (at ≤ nearCeiling) × (listEnd (now s) at ≤ length (now s)) ⌝ }
         ensures { λ r. ⌜ (rest (now (s .entry)) r ≡ listAt (now (s .entry)) at) × Ahead (now (s .entry)) r ⌝ }
     {
@@ -138,16 +143,24 @@ impl Cursor {
         Fact::read(s, self.at)
     }
 
+    // Past the next fact.
+    fn on(self) -> Cursor
+        requires { ⌜ (0 < self .left) × (self .at ≤ farCeiling) ⌝ }
+        ensures { λ r. ⌜ r ≡ next self ⌝ }
+    {
+        Cursor {
+            at: self.at + limits::FACT_SIZE,
+            left: self.left - 1,
+        }
+    }
+
     // Past the next fact `f`, which is marked.
     fn pass(self, m: &mut [u8], f: Fact, pair: usize) -> Cursor
         requires { ⌜ (0 < self .left) × (self .at ≤ farCeiling) ⌝ }
         ensures { λ r. ⌜ (now (m .exit) ≡ markedAs (now (m .entry)) f pair) × (r ≡ next self) ⌝ }
     {
         mark(m, f, pair);
-        Cursor {
-            at: self.at + limits::FACT_SIZE,
-            left: self.left - 1,
-        }
+        self.on()
     }
 }
 
@@ -236,8 +249,8 @@ pub fn mark_step(
 {
     invert(t, b);
     let mut w = Walk {
-        pre: Cursor::of_state(s, pre),
-        post: Cursor::of_state(s, post),
+        pre: Cursor::of_list(s, pre),
+        post: Cursor::of_list(s, post),
         changed: false,
     };
     while (0 < w.pre.left) & (0 < w.post.left) {
@@ -249,4 +262,46 @@ pub fn mark_step(
     let only_after = mark_rest(after, s, t, atoms, b, q);
     restore(t, b);
     w.changed | only_before | only_after
+}
+
+// ---- the facts that turn
+
+// Turns a fact in a state, and the bound fact that it is by its pair in a set of these.
+fn turn_fact(state: &mut [u8], after: &mut [u8], f: Fact, pair: usize)
+    ensures { λ _. ⌜ (now (state .exit) ≡ flipBit (now (state .entry)) (factNumber f)) × (now (after .exit) ≡ turnedAs (now (after .entry)) f pair) ⌝ }
+{
+    mask::flip_bit(state, f.number());
+    if UNBOUND <= pair {
+        return;
+    }
+    mask::flip_bit(after, UNBOUND * terms::index(f.relation.0) + pair);
+}
+
+// Row 11 of the step with the binding `b` in a short book: the facts of the list at an offset turn in the state, and those that are bound facts in
+// `after`, which has those before the step. The table `t` is lent for the step.
+pub fn mark_turned(
+    s: &[u8],
+    t: &mut [u8],
+    atoms: &[u8],
+    b: Binding,
+    at: usize,
+    state: &mut [u8],
+    after: &mut [u8],
+) -> bool
+    requires { ⌜ (at ≤ nearCeiling) × (listEnd (now s) at ≤ length (now s)) × (now t ≡ noDigits) ⌝ }
+    ensures { λ _. ⌜ now (t .exit) ≡ noDigits ⌝ }
+    ensures { λ r. ⌜ StepTurned (now (atoms .entry)) b (listAt (now (s .entry)) at) (now (state .entry)) (now (state .exit)) (now (after .entry)) (now (after .exit)) r ⌝ }
+{
+    invert(t, b);
+    let mut c = Cursor::of_list(s, at);
+    let mut unbound = false;
+    while 0 < c.left {
+        let f = c.fact(s);
+        let x = pair(t, atoms, b, f);
+        turn_fact(state, after, f, x);
+        c = c.on();
+        unbound = unbound | (UNBOUND <= x);
+    }
+    restore(t, b);
+    unbound
 }

@@ -6,7 +6,7 @@ use mathlib.Core.Path.{_≡_, refl}
 use Prim.Native.Nat.{_%_}
 use lib.Count.{ones}
 use lib.Dec.{eqb}
-use Rattle.mask.specs.Bits.{bitOf, without, testBit, setBit, clearBit}
+use Rattle.mask.specs.Bits.{bitOf, without, testBit, setBit, clearBit, flipBit}
 use Rattle.mask.specs.Sets.{bytewise, intersection, union, difference, empty, cardinality, maskOf}
 
 -- 10 is bit 2 of byte 1
@@ -21,6 +21,10 @@ ten-found = refl
 ten-out : clearBit (255 ∷ 255 ∷ []) 10 ≡ 255 ∷ 251 ∷ []
 unfolding clearBit without
 ten-out = refl
+
+ten-flipped : flipBit (0 ∷ 4 ∷ []) 10 ≡ 0 ∷ 0 ∷ []
+unfolding flipBit
+ten-flipped = refl
 
 past-the-end : setBit (1 ∷ 2 ∷ []) 16 ≡ 1 ∷ 2 ∷ []
 unfolding setBit

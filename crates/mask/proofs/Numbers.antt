@@ -46,7 +46,7 @@ bit-or =
     bit-by bitOr (λ a b. a || b) or-shr or-mod
     (on-digits (λ x y. eqb (bitOr x y) 1 ≡ (eqb x 1 || eqb y 1)) refl refl refl refl)
 
-bit-xor : (a b k : ℕ) → bitOf (bitXor a b) k ≡ not (Bool·beq (bitOf a k) (bitOf b k))
+pub bit-xor : (a b k : ℕ) → bitOf (bitXor a b) k ≡ not (Bool·beq (bitOf a k) (bitOf b k))
 bit-xor =
     bit-by bitXor (λ a b. not (Bool·beq a b)) xor-shr xor-mod
     (on-digits (λ x y. eqb (bitXor x y) 1 ≡ not (Bool·beq (eqb x 1) (eqb y 1))) refl refl refl refl)
@@ -109,6 +109,9 @@ and-byte x y p = omega (arith, and-le-l x y)
 pub without-byte : (x y : ℕ) → x < 256 → without x y < 256
 unfolding without
 without-byte x y p = xor-lt 8 x (bitAnd x y) p (and-byte x y p)
+
+pub xor-byte : (x y : ℕ) → x < 256 → y < 256 → bitXor x y < 256
+xor-byte x y p q = xor-lt 8 x y p q
 
 -- the complement of k bits has the other bits
 bit-complement : (k y j : ℕ) → y < 2 ^ k → j < k → bitOf ((2 ^ k - 1) - y) j ≡ not (bitOf y j)

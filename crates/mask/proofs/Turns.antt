@@ -15,15 +15,12 @@ use lib.Seq.{append-snoc, drop-cons, drop-drop, drop-set-lt, getD-drop, take-all
 use Rattle.mask.specs.Bits.{without}
 use Rattle.mask.specs.Sets.{bytewise, difference, cardinality}
 use Rattle.mask.proofs.Bytes.{byte-bytewise}
-use Rattle.mask.proofs.Laws.{power-byte, without-none}
+use Rattle.mask.proofs.Laws.{without-none}
 use Rattle.mask.proofs.Numbers.{and-not}
 
--- the bit of n as a shift computes it, and a byte without it
+-- the bit of n as a shift computes it
 pub shl-bit : (n : ℕ) → 1 * 2 ^ (n % 8) % 256 ≡ 2 ^ (n % 8)
 shl-bit n = shl-exact {a = 1} 1 (n % 8) 8 (lit< tt) (omega arith) ∙ one-mul (2 ^ (n % 8))
-
-pub and-not-bit : (x n : ℕ) → x < 256 → bitAnd x (255 - 1 * 2 ^ (n % 8) % 256) ≡ without x (2 ^ (n % 8))
-and-not-bit x n h = ap (λ (y : ℕ). bitAnd x (255 - y)) (shl-bit n) ∙ and-not x (2 ^ (n % 8)) h (power-byte n)
 
 -- the first i bytes of a as they are, and the rest with the rest of b
 pub rest : (ℕ → ℕ → ℕ) → List ℕ → List ℕ → ℕ → List ℕ

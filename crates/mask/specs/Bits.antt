@@ -27,6 +27,10 @@ setBit m n = set m (n / 8) (bitOr (getD m (n / 8) 0) (2 ^ (n % 8)))
 unfoldable pub clearBit : List ℕ → ℕ → List ℕ
 clearBit m n = set m (n / 8) (without (getD m (n / 8) 0) (2 ^ (n % 8)))
 
+-- the mask with n taken out where it was in, put in where it was not
+unfoldable pub flipBit : List ℕ → ℕ → List ℕ
+flipBit m n = set m (n / 8) (bitXor (getD m (n / 8) 0) (2 ^ (n % 8)))
+
 -- the mask with n put in where the value is true, taken out where it is false
 unfoldable pub putBit : Bool → List ℕ → ℕ → List ℕ
 putBit true m n = setBit m n

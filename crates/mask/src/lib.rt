@@ -4,7 +4,7 @@
 ghost use mathlib.Core.Path.{_≡_};
 ghost use Prim.Native.Nat.{_*_, _^_, _<_, _≤_};
 ghost use lib.ListN.{length, getD};
-ghost use Rattle.mask.specs.Bits.{testBit, setBit, clearBit, putBit};
+ghost use Rattle.mask.specs.Bits.{testBit, setBit, flipBit};
 ghost use Rattle.mask.specs.Sets.{intersection, union, difference, empty, cardinality};
 
 // The byte at an index, 0 past the end: no caller has an index to show.
@@ -33,14 +33,17 @@ pub fn set_bit(m: &mut [u8], n: usize)
     m[k] = m[k] | (1u8 << (n % 8));
 }
 
-pub fn clear_bit(m: &mut [u8], n: usize)
-    ensures { λ _. ⌜ now (m .exit) ≡ clearBit (now (m .entry)) n ⌝ }
+// Takes n out where it was in, puts it in where it was not, and says which: whether it was in.
+pub fn flip_bit(m: &mut [u8], n: usize) -> bool
+    ensures { λ r. ⌜ (r ≡ testBit (now (m .entry)) n) × (now (m .exit) ≡ flipBit (now (m .entry)) n) ⌝ }
 {
     let k = n / 8;
     if m.len() <= k {
-        return;
+        return false;
     }
-    m[k] = m[k] & !(1u8 << (n % 8));
+    let old = m[k];
+    m[k] = old ^ (1u8 << (n % 8));
+    (old >> (n % 8)) % 2 == 1
 }
 
 pub fn intersect(acc: &mut [u8], other: &[u8])
@@ -156,15 +159,4 @@ pub fn mark512(m: &mut [u8; 512], n: usize)
     ensures { λ _. ⌜ now (m .exit) ≡ setBit (now (m .entry)) n ⌝ }
 {
     set_bit(m, n);
-}
-
-// Puts n in where the value is true, and takes it out where it is false.
-pub fn assign512(m: &mut [u8; 512], n: usize, value: bool)
-    ensures { λ _. ⌜ now (m .exit) ≡ putBit value (now (m .entry)) n ⌝ }
-{
-    if value {
-        set_bit(m, n);
-        return;
-    }
-    clear_bit(m, n);
 }

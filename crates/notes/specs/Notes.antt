@@ -1,10 +1,25 @@
 -- What is observed after a step, in the parts that the functions compute. `IsObserved` and `observedStep` are for callers. Uses the definitions of observed and format.
-use Prim.Native.Nat.{ℕ}
+use Prim.Native.Nat.{ℕ, _+_, _≤_}
 use mathlib.Core.Path.{_≡_}
+use mathlib.Core.Bool.{false}
 use mathlib.Core.List.{List}
+use lib.ListN.{length}
+use Rattle.limits.specs.Limits.{maxLength, maxMoves, stepSize, stateSize, observedSize}
+use Rattle.mask.specs.Bits.{testBit}
 use Rattle.mask.specs.Sets.{intersection, union}
+use Rattle.terms.specs.declared.Fact.{Fact}
+use Rattle.terms.specs.declared.Sections.{Sections}
+use Rattle.terms.specs.declared.Step.{Step}
+use Rattle.terms.specs.Schema.{Schema}
+use Rattle.terms.specs.Steps.{stepAt}
+use Rattle.format.specs.Lists.{listEnd}
+use Rattle.atoms.specs.Atoms.{atomsEnd}
+use Rattle.grounding.specs.Grounding.{Bounded, heldAtoms}
+use Rattle.turning.specs.Turning.{flipped}
+use Rattle.observed.specs.Inverse.{turnMarks, someUnbound}
+use Rattle.format.specs.Form.{Form}
 use Rattle.format.specs.Decode.{recordedStep}
-use Rattle.observed.specs.Observed.{alwaysBefore, alwaysAfter, bound, Observed, setAt, onSet, observe}
+use Rattle.observed.specs.Observed.{alwaysBefore, alwaysAfter, bound, Observed, setAt, observedSet, onSet, noted, firstNamed, observe}
 
 -- the set at an offset, intersected and united with another
 unfoldable pub narrowed : ℕ → List ℕ → List ℕ → List ℕ
@@ -13,9 +28,9 @@ narrowed at m l = onSet at (λ x. intersection x m) l
 unfoldable pub widened : ℕ → List ℕ → List ℕ → List ℕ
 widened at m l = onSet at (λ x. union x m) l
 
--- what is observed after the step at an offset, with the state before it at another, of what was observed before it
-unfoldable pub observedStep : List ℕ → ℕ → ℕ → List ℕ → ℕ → Observed
-observedStep s pre at masks named = observe (recordedStep s pre at) (record { masks = masks; named = named })
+-- what is observed after the step at an offset, with the facts that hold before it, of what was observed before it
+unfoldable pub observedStep : Form → List ℕ → List Fact → ℕ → List ℕ → ℕ → Observed
+observedStep form s before at masks named = observe (recordedStep form s before at) (record { masks = masks; named = named })
 
 -- bytes and an offset that are what is observed
 pub record IsObserved (h : Observed) (bytes : List ℕ) (offset : ℕ) : Type 0 where
@@ -25,3 +40,30 @@ pub record IsObserved (h : Observed) (bytes : List ℕ) (offset : ℕ) : Type 0 
 -- the sets of a move before any record, where nothing was in them: what is so at every one of no steps is every bound fact
 unfoldable pub firstSets : ℕ → List ℕ → List ℕ → List ℕ
 firstSets a atoms l = widened (setAt a bound) atoms (widened (setAt a alwaysAfter) atoms (widened (setAt a alwaysBefore) atoms l))
+
+-- ---- a short book
+
+-- what is asked of the step at an offset: its list lies within the book, its move is one that there may be, a state has room for its objects, and the
+-- bound facts of its move are of relations that the book has
+pub record Turnable (h : Sections) (s : List ℕ) (at : ℕ) (m masks : List ℕ) : Type 0 where
+  pub near : at ≤ maxLength
+  pub within : listEnd s (at + stepSize) ≤ length s
+  pub counted : 1 ≤ stepAt s at .action .0
+  pub known : stepAt s at .action .0 ≤ maxMoves
+  pub bounded : Bounded (stepAt s at .binding)
+  pub ended : (n : ℕ) → atomsEnd (h .relations .count) ≤ n → testBit (observedSet masks (stepAt s at .action .0) bound) n ≡ false
+  pub sized : length masks ≡ observedSize
+  pub long : length m ≡ stateSize
+
+-- what is observed of a step by the state before it and the facts that turn, `atoms` being the bound facts of its move
+unfoldable pub observedTurned : Schema → Step → List ℕ → List ℕ → List Fact → ℕ → List ℕ → ℕ → Observed
+observedTurned sch st atoms m ts at masks named =
+    let held = heldAtoms sch (st .binding) atoms m in
+    record {
+      masks = noted (st .action .0) held (turnMarks atoms (st .binding) held ts) masks;
+      named = firstNamed named (someUnbound atoms (st .binding) ts) at;
+    }
+
+pub record TurnObserved (sch : Schema) (st : Step) (ts : List Fact) (at : ℕ) (masks : List ℕ) (named : ℕ) (masks′ : List ℕ) (r : ℕ) (m m′ : List ℕ) : Type 0 where
+  pub observed : IsObserved (observedTurned sch st (observedSet masks (st .action .0) bound) m ts at masks named) masks′ r
+  pub state : m′ ≡ flipped ts m

@@ -8,10 +8,11 @@ ghost use Rattle.limits.specs.Limits.{maxLength, maxMoves, stepSize, setSize, o
 ghost use Rattle.mask.specs.Sets.{difference, empty};
 ghost use Rattle.terms.specs.Schema.{schema};
 ghost use Rattle.terms.specs.Steps.{stepAt};
-ghost use Rattle.format.specs.Lists.{listEnd};
+ghost use Rattle.format.specs.Lists.{listAt, listEnd};
+ghost use Rattle.format.specs.Form.{full};
 ghost use Rattle.observed.specs.Observed.{noted, nothingSeen, firstNamed};
 ghost use Rattle.marks.specs.Marks.{noDigits};
-ghost use Rattle.notes.specs.Notes.{narrowed, widened, observedStep, IsObserved, firstSets};
+ghost use Rattle.notes.specs.Notes.{narrowed, widened, observedStep, IsObserved, firstSets, Turnable, TurnObserved};
 use terms::Move;
 use terms::Sections;
 use terms::Step;
@@ -83,7 +84,8 @@ fn first_named(named: usize, unbound: bool, at: usize) -> usize
     0
 }
 
-// What is observed after the step at `at`, before which the state at `pre` stands; the table `t` is lent for the step (`marks`). Returns the offset of the first step that row 11 names, 0 for none.
+// What is observed of a full book after the step at `at`, before which the state at `pre` stands; the table `t` is lent for the step (`marks`).
+// Returns the offset of the first step that row 11 names, 0 for none.
 pub fn observe(
     s: &[u8],
     pre: usize,
@@ -96,7 +98,7 @@ pub fn observe(
     requires { ⌜ (1 ≤ stepAt (now s) at .action .0) × (stepAt (now s) at .action .0 ≤ maxMoves) ⌝ }
     requires { ⌜ (listEnd (now s) pre ≤ length (now s)) × (listEnd (now s) (at + stepSize) ≤ length (now s)) ⌝ }
     ensures { λ _. ⌜ now (t .exit) ≡ noDigits ⌝ }
-    ensures { λ r. ⌜ IsObserved (observedStep (now (s .entry)) pre at (now (observed .entry)) named) (now (observed .exit)) r ⌝ }
+    ensures { λ r. ⌜ IsObserved (observedStep full (now (s .entry)) (listAt (now (s .entry)) pre) at (now (observed .entry)) named) (now (observed .exit)) r ⌝ }
 {
     let step = Step::read(s, at);
     let post = at + limits::STEP_SIZE;
@@ -112,6 +114,40 @@ pub fn observe(
         pre,
         post,
         &mut before,
+        &mut after,
+    );
+    note(observed, step.action, before, after);
+    first_named(named, unbound, at)
+}
+
+// What is observed of a short book after the step at `at`, by the state before it, in which the facts of its list turn: the bound facts are asked of
+// the state, and turned where they are listed.
+pub fn observe_turned(
+    s: &[u8],
+    h: Sections,
+    at: usize,
+    t: &mut [u8],
+    state: &mut [u8],
+    observed: &mut [u8],
+    named: usize,
+) -> usize
+    requires { ⌜ Turnable h (now s) at (now state) (now observed) × (now t ≡ noDigits) ⌝ }
+    ensures { λ _. ⌜ now (t .exit) ≡ noDigits ⌝ }
+    ensures { λ r. ⌜ TurnObserved (schema h (now (s .entry))) (stepAt (now (s .entry)) at) (listAt (now (s .entry)) (at + stepSize)) at (now (observed .entry)) named (now (observed .exit)) r (now (state .entry)) (now (state .exit)) ⌝ }
+{
+    let step = Step::read(s, at);
+    let list = at + limits::STEP_SIZE;
+    let bound = observed::set_at(step.action, observed::BOUND);
+    let end = bound + limits::SET_SIZE;
+    let before = grounding::held_atoms(s, h, step.binding, &observed[bound..end], state);
+    let mut after = before;
+    let unbound = marks::mark_turned(
+        s,
+        t,
+        &observed[bound..end],
+        step.binding,
+        list,
+        state,
         &mut after,
     );
     note(observed, step.action, before, after);

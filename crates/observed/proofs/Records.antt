@@ -2,6 +2,7 @@
 use Prim.Native.Nat.{ℕ, zero, suc, _+_}
 use mathlib.Core.Path.{_≡_, refl}
 use mathlib.Core.List.{List, [], _∷_, _++_}
+use Rattle.format.specs.Form.{Form}
 use Rattle.format.specs.Records.{lengthIn}
 use Rattle.format.specs.Decode.{RecordedStep, stepsOfRecord, stepsOfRecords}
 use Rattle.observed.specs.Observed.{Observed, observe, observeAll, observedAfter}
@@ -11,12 +12,12 @@ unfolding observeAll
 observe-append [] gs h = refl
 observe-append (f ∷ fs) gs h = observe-append fs gs (observe f h)
 
-module _ (s : List ℕ) (at : ℕ) (h : Observed) where
-  pub observed-none : observeAll (stepsOfRecords s zero at) h ≡ h
+module _ (form : Form) (s : List ℕ) (at : ℕ) (h : Observed) where
+  pub observed-none : observeAll (stepsOfRecords form s zero at) h ≡ h
   unfolding stepsOfRecords observeAll
   observed-none = refl
 
   -- Holding the steps of some records is holding those of the first, and then those of the rest.
-  pub observed-more : (n : ℕ) → observeAll (stepsOfRecords s (suc n) at) h ≡ observeAll (stepsOfRecords s n (at + lengthIn s at)) (observedAfter s at h)
+  pub observed-more : (n : ℕ) → observeAll (stepsOfRecords form s (suc n) at) h ≡ observeAll (stepsOfRecords form s n (at + lengthIn s at)) (observedAfter form s at h)
   unfolding stepsOfRecords observedAfter
-  observed-more n = observe-append (stepsOfRecord s at) (stepsOfRecords s n (at + lengthIn s at)) h
+  observed-more n = observe-append (stepsOfRecord form s at) (stepsOfRecords form s n (at + lengthIn s at)) h

@@ -5,12 +5,13 @@ use mathlib.Core.Bool.{Bool, true, false, cond, _&&_, _||_, not}
 use mathlib.Core.List.{List, [], _∷_}
 use lib.Dec.{eqb}
 use Rattle.limits.specs.Limits.{setSize}
-use Rattle.mask.specs.Bits.{testBit, setBit}
+use Rattle.mask.specs.Bits.{testBit, setBit, flipBit}
 use Rattle.mask.specs.Sets.{empty}
 use Rattle.terms.specs.declared.Object.{Object}
 use Rattle.terms.specs.declared.Binding.{Binding}
 use Rattle.terms.specs.declared.Fact.{Fact}
 use Rattle.terms.specs.Steps.{objectOf}
+use Rattle.model.specs.Quantify.{any}
 
 -- the binding gives parameter i the object
 unfoldable pub gives : Binding → ℕ → Object → Bool
@@ -62,3 +63,17 @@ sameFacts (f ∷ fs) (g ∷ gs) = sameFact f g && sameFacts fs gs
 -- row 11, for facts in order: what is no bound fact did not stay as it was
 unfoldable pub unboundChanged : List ℕ → Binding → List Fact → List Fact → Bool
 unboundChanged atoms b pre post = not (sameFacts (unbound atoms b pre) (unbound atoms b post))
+
+-- ---- facts that turn
+
+-- a set in which the bound fact that a fact is turns, if it is one
+unfoldable pub turnMark : List ℕ → Binding → List ℕ → Fact → List ℕ
+turnMark atoms b m f = cond (factBound atoms b f) (flipBit m (atomOf b f)) m
+
+unfoldable pub turnMarks : List ℕ → Binding → List ℕ → List Fact → List ℕ
+turnMarks atoms b m [] = m
+turnMarks atoms b m (f ∷ fs) = turnMarks atoms b (turnMark atoms b m f) fs
+
+-- row 11, for facts that turn: one is no bound fact
+unfoldable pub someUnbound : List ℕ → Binding → List Fact → Bool
+someUnbound atoms b fs = any (λ f. not (factBound atoms b f)) fs

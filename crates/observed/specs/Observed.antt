@@ -9,6 +9,7 @@ use Rattle.limits.specs.Limits.{setSize, observedSets, observedPerMove, observe
 use Rattle.mask.specs.Sets.{maskOf, intersection, union, difference}
 use Rattle.terms.specs.Schema.{Schema}
 use Rattle.terms.specs.Steps.{isAtom}
+use Rattle.format.specs.Form.{Form}
 use Rattle.format.specs.Decode.{RecordedStep, stepsOfRecord}
 use Rattle.observed.specs.Inverse.{atomsIn, unboundChanged}
 
@@ -89,8 +90,8 @@ observeAll [] h = h
 observeAll (f ∷ fs) h = observeAll fs (observe f h)
 
 -- what is observed after a record: made from what was observed before, that record and its offset
-unfoldable pub observedAfter : List ℕ → ℕ → Observed → Observed
-observedAfter s at h = observeAll (stepsOfRecord s at) h
+unfoldable pub observedAfter : Form → List ℕ → ℕ → Observed → Observed
+observedAfter form s at h = observeAll (stepsOfRecord form s at) h
 
 -- number n in set k of move a before any record: what holds at every one of no steps is every bound fact
 unfoldable pub atFirst : Schema → ℕ → ℕ → ℕ → Bool

@@ -2,7 +2,7 @@
 pub mod Params
 pub mod Atoms
 pub mod States
-pub mod Sorted
 pub mod Unbound
 pub mod UnboundEffects
+pub mod Turned
 pub mod ObservedRight

@@ -8,7 +8,7 @@ use Rattle.terms.specs.declared.Binding.{Binding}
 use Rattle.terms.specs.declared.Fact.{Fact}
 use Rattle.model.specs.Quantify.{Mem, here, there}
 use Rattle.observed.specs.Inverse.{factBound, unbound}
-use Rattle.observedright.proofs.Sorted.{Sorted, mem-cons}
+use Rattle.wellformed.proofs.Sorted.{Sorted, mem-cons}
 
 module _ (atoms : List ℕ) (b : Binding) where
   pub unbound-in : (fs : List Fact) {f : Fact} → Mem f fs → factBound atoms b f ≡ false → Mem f (unbound atoms b fs)

@@ -28,7 +28,7 @@ use Rattle.wellformed.specs.Right.{RightStep, Right}
 use Rattle.wellformed.proofs.Numbers.{number-below, number-injective}
 use Rattle.wellformed.proofs.Holding.{holding-in, holding-out}
 use Rattle.observedright.proofs.Atoms.{atomsOf, found-in, found-out}
-use Rattle.observedright.proofs.Sorted.{sorted, same-members}
+use Rattle.wellformed.proofs.Sorted.{sorted, same-members}
 use Rattle.observedright.proofs.Unbound.{unbound-in, unbound-out, sorted-unbound}
 
 -- the fact is that of a bound fact of the step

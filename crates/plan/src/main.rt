@@ -41,7 +41,7 @@ fn plan_line(book: &[u8], order: &[u8], line: &mut [u8; 128]) -> usize
     ensures { λ r. ⌜ Counts r (now (line .exit)) × (take r (now (line .exit)) ≡ planPrinted (now (book .entry)) (now (order .entry))) ⌝ }
 {
     let mut end = [0u8; limits::END_SHEET_SIZE];
-    let r = checker::check(book, order, &mut end);
+    let r = checker::check(book, false, order, &mut end);
     let a = r.answer;
     answer_line(a, line)
 }

@@ -1,4 +1,5 @@
--- The record at an offset of a book, for every list of bytes and every number: past the paper's greatest length it is row 6.
+-- The record at an offset of a book, for every list of bytes and every number: past the paper's greatest length, or with more relations than there
+-- may be, it is row 6.
 use Prim.Native.Nat.{ℕ, _≤_}
 use mathlib.Core.Path.{_≡_, _∙_}
 use mathlib.Core.Bool.{_||_}
@@ -11,20 +12,23 @@ use Rattle.answer.specs.Answer.{_>>=_, refuse}
 use Rattle.answer.specs.Laws.{refuse-unmet}
 use Rattle.terms.specs.declared.Sections.{Sections}
 use Rattle.terms.specs.Sections.{sectionsOf}
-use Rattle.limits.specs.Limits.{maxLength}
+use Rattle.limits.specs.Limits.{maxLength, maxRelations}
+use Rattle.format.specs.Form.{Form}
 use Rattle.format.specs.Records.{recordAt}
 
 -- where the next record starts, or the first refusal met in this one
-unfoldable pub recordFrom : List ℕ → ℕ → Answer
-recordFrom s at = do
-  _ ← refuse (ltb maxLength (length s) || ltb maxLength at) 6 at
-  recordAt (sectionsOf s) s at
+unfoldable pub recordFrom : Form → List ℕ → ℕ → Answer
+recordFrom form s at = do
+  _ ← refuse (ltb maxLength (length s) || ltb maxLength at || ltb maxRelations (sectionsOf s .relations .count)) 6 at
+  recordAt form (sectionsOf s) s at
 
--- within the greatest length it is the record of the book's sections
-pub record-from : (s : List ℕ) (at : ℕ) → length s ≤ maxLength → at ≤ maxLength → recordFrom s at ≡ recordAt (sectionsOf s) s at
+-- within the limits it is the record of the book's sections
+pub record-from : (form : Form) (s : List ℕ) (at : ℕ) → length s ≤ maxLength → at ≤ maxLength → sectionsOf s .relations .count ≤ maxRelations
+    → recordFrom form s at ≡ recordAt form (sectionsOf s) s at
 unfolding recordFrom
-record-from s at l m = refuse-unmet _ _ _ _ (rw (le-ltb maxLength (length s) l, le-ltb maxLength at m))
+record-from form s at l m k = refuse-unmet _ _ _ _ (rw (le-ltb maxLength (length s) l, le-ltb maxLength at m, le-ltb maxRelations (sectionsOf s .relations .count) k))
 
 -- what the reader answers, by the header that was read before
-pub record-by : (s : List ℕ) (h : Sections) (at : ℕ) {r : Answer} → h ≡ sectionsOf s → length s ≤ maxLength → at ≤ maxLength → r ≡ recordFrom s at → r ≡ recordAt h s at
-record-by s h at own l m e = e ∙ record-from s at l m ∙ rw own
+pub record-by : (form : Form) (s : List ℕ) (h : Sections) (at : ℕ) {r : Answer} → h ≡ sectionsOf s → length s ≤ maxLength → at ≤ maxLength → sectionsOf s .relations .count ≤ maxRelations
+    → r ≡ recordFrom form s at → r ≡ recordAt form h s at
+record-by form s h at own l m k e = e ∙ record-from form s at l m k ∙ rw own

@@ -11,14 +11,18 @@ pub struct Reader<'a> {
     pub at: usize,
 }
 
-// The record at an offset: where the next one starts.
-pub fn record_of(s: &[u8], at: usize) -> Answer
-    ensures { λ r. ⌜ r ≡ recordFrom (now (s .entry)) at ⌝ }
+// The record at an offset, in a book of either form: where the next one starts.
+pub fn record_of(s: &[u8], at: usize, short: bool) -> Answer
+    ensures { λ r. ⌜ r ≡ recordFrom short (now (s .entry)) at ⌝ }
 {
-    if (limits::MAX_LENGTH < s.len()) | (limits::MAX_LENGTH < at) {
+    let h = Sections::read(s);
+    if (limits::MAX_LENGTH < s.len())
+        | (limits::MAX_LENGTH < at)
+        | (limits::MAX_RELATIONS < h.relations.count)
+    {
         return Answer::Refused(6, at);
     }
-    records::record_at(s, Sections::read(s), at)
+    records::record_at(s, short, h, at)
 }
 
 // A book, at its first byte.
@@ -36,14 +40,14 @@ pub fn moved<'a>(r: Reader<'a>, at: usize) -> Reader<'a>
 }
 
 // The record at which the reader stands.
-pub fn read<'a>(r: Reader<'a>) -> Answer
-    ensures { λ t. ⌜ t ≡ recordFrom (now (r .entry .src)) (r .entry .at) ⌝ }
+pub fn read<'a>(r: Reader<'a>, short: bool) -> Answer
+    ensures { λ t. ⌜ t ≡ recordFrom short (now (r .entry .src)) (r .entry .at) ⌝ }
 {
-    record_of(r.src, r.at)
+    record_of(r.src, r.at, short)
 }
 
-pub fn record_from(s: &[u8], at: usize) -> Answer
-    ensures { λ t. ⌜ t ≡ recordFrom (now (s .entry)) at ⌝ }
+pub fn record_from(s: &[u8], at: usize, short: bool) -> Answer
+    ensures { λ t. ⌜ t ≡ recordFrom short (now (s .entry)) at ⌝ }
 {
-    read(moved(new(s), at))
+    read(moved(new(s), at), short)
 }

@@ -9,14 +9,17 @@ use Rattle.answer.specs.declared.Answer.the-variants.{Good}
 use Rattle.truth.specs.Bools.{neither}
 use Rattle.answer.specs.Laws.{parted}
 use Rattle.answer.specs.Walk.{walk}
+use Rattle.terms.specs.declared.Fact.{Fact}
 use Rattle.terms.specs.declared.Sections.{Sections}
 use Rattle.terms.specs.Schema.{Schema, TypedObjects}
-use Rattle.limits.specs.Limits.{headSize, maxSteps}
+use Rattle.limits.specs.Limits.{headSize, stepSize, maxSteps, maxFacts}
+use Rattle.format.specs.Lists.{listAt}
+use Rattle.format.specs.Form.{Form, stateAfter}
 use Rattle.format.specs.States.{cut}
-use Rattle.format.specs.Records.{lengthIn, object, step, trajectory, body, recordAt, stepRefused, closed}
+use Rattle.format.specs.Records.{lengthIn, object, step, steps, trajectory, body, recordAt, stepRefused, closed}
 use Rattle.format.specs.LookOver.{stepTotal}
 use Rattle.answer.specs.Bounds.{Bounded, bounded-good, bounded-then, bounded-row, bounded-walk, bounded-wider}
-use Rattle.format.proofs.States.{state-bounded}
+use Rattle.format.proofs.States.{list-bounded, next-bounded}
 use Rattle.format.proofs.Records.{head-limits, record-within, record-steps}
 
 object-bounded : (kinds : ℕ) (s : List ℕ) (end at : ℕ) → at ≤ end → Bounded end (object kinds s end at)
@@ -24,31 +27,37 @@ unfolding object cut
 object-bounded kinds s end at h =
     bounded-row end _ _ _ _ (omega arith) h (λ e. bounded-good end _ (ltb-false _ _ (neither _ _ e .0)))
 
-module _ (sch : Schema) (ob : TypedObjects) (s : List ℕ) (end : ℕ) where
-  step-bounded : (at : ℕ) → at ≤ end → Bounded end (step sch ob s end at)
+module _ (form : Form) (sch : Schema) (ob : TypedObjects) (s : List ℕ) (end : ℕ) where
+  step-bounded : (before : List Fact) (at : ℕ) → at ≤ end → Bounded end (step form sch ob s end before at)
   unfolding step stepRefused cut
-  step-bounded at h =
+  step-bounded before at h =
       bounded-row end _ _ _ _ (omega arith) h
       (λ e.
       bounded-row end _ _ _ _ (omega arith) h
-      (λ f. state-bounded 8 sch ob s end (omega arith) _ (ltb-false _ _ (neither _ _ e .0))))
+      (λ f. next-bounded form sch ob s end before _ (ltb-false _ _ (neither _ _ e .0))))
 
-  trajectory-bounded : (n at : ℕ) → at ≤ end → Bounded end (trajectory sch ob s end n at)
+  steps-bounded : (n : ℕ) (before : List Fact) (at : ℕ) → at ≤ end → Bounded end (steps form sch ob s end n before at)
+  unfolding steps
+  steps-bounded zero before at h = bounded-good end at h
+  steps-bounded (suc n) before at h =
+      bounded-then end _ _ (step-bounded before at h) (λ next e i. steps-bounded n (stateAfter form s before (at + stepSize)) next i)
+
+  trajectory-bounded : (n at : ℕ) → at ≤ end → Bounded end (trajectory form sch ob s end n at)
   unfolding trajectory
   trajectory-bounded n at h =
-      bounded-then end _ _ (state-bounded 8 sch ob s end (omega arith) at h)
-      (λ next e i. bounded-walk end _ step-bounded n next i)
+      bounded-then end _ _ (list-bounded maxFacts 8 sch ob s end (omega arith) at h)
+      (λ next e i. steps-bounded n (listAt s at) next i)
 
-module _ (h : Sections) (s : List ℕ) where
-  body-bounded : (at end : ℕ) → at + headSize ≤ end → Bounded end (body h s at end)
+module _ (form : Form) (h : Sections) (s : List ℕ) where
+  body-bounded : (at end : ℕ) → at + headSize ≤ end → Bounded end (body form h s at end)
   unfolding body closed
   body-bounded at end l =
       bounded-then end _ _ (bounded-walk end _ (object-bounded (h .kinds) s end) _ _ l)
       (λ first e i.
-      bounded-then end _ _ (trajectory-bounded _ _ s end _ first i)
+      bounded-then end _ _ (trajectory-bounded form _ _ s end _ first i)
       (λ last f j. bounded-row end _ _ _ _ (omega arith) (omega arith) (λ g. bounded-good end end (omega arith))))
 
-  pub record-bounded : (at : ℕ) → at ≤ length s → Bounded (length s) (recordAt h s at)
+  pub record-bounded : (at : ℕ) → at ≤ length s → Bounded (length s) (recordAt form h s at)
   unfolding recordAt
   record-bounded at l =
       bounded-row (length s) _ _ _ _ (omega arith) l
@@ -56,16 +65,16 @@ module _ (h : Sections) (s : List ℕ) where
       let w = head-limits s at e in
       bounded-wider _ (length s) _ (w .2) (body-bounded at (at + lengthIn s at) (omega arith)))
 
-  pub records-bounded : (n at : ℕ) → at ≤ length s → Bounded (length s) (walk (recordAt h s) n at)
+  pub records-bounded : (n at : ℕ) → at ≤ length s → Bounded (length s) (walk (recordAt form h s) n at)
   records-bounded n at l = bounded-walk (length s) _ record-bounded n at l
 
   -- good records have at most 64 steps each
-  pub total-bounded : (n at last : ℕ) → walk (recordAt h s) n at ≡ Good last → stepTotal s n at ≤ maxSteps * n
+  pub total-bounded : (n at last : ℕ) → walk (recordAt form h s) n at ≡ Good last → stepTotal s n at ≤ maxSteps * n
   unfolding walk stepTotal
   total-bounded zero at last e = omega arith
   total-bounded (suc n) at last e =
       let p = parted _ _ _ e in
-      let q = record-within h s at (p .0) (p .1) .0 in
-      let l = record-steps h s at (p .0) (p .1) in
+      let q = record-within form h s at (p .0) (p .1) .0 in
+      let l = record-steps form h s at (p .0) (p .1) in
       let r = rw q at (total-bounded n (p .0) last (p .2)) in
       omega arith

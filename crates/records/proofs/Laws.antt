@@ -16,18 +16,19 @@ use Rattle.answer.specs.Walk.{walk}
 use Rattle.terms.specs.declared.Sections.{Sections}
 use Rattle.terms.specs.Schema.{schema, typedObjects}
 use Rattle.limits.specs.Limits.{headSize}
+use Rattle.format.specs.Form.{Form}
 use Rattle.format.specs.Records.{stepsIn, lengthIn, headBad, object, objectsOf, trajectory, body, recordAt, closed}
 use Rattle.format.specs.LookOver.{stepTotal, allRecords}
 use Rattle.answer.specs.Turns.{part-stays, part-follows}
 use Rattle.records.specs.declared.Head.{Head}
 use Rattle.records.specs.Head.{headOf}
 
-module _ (h : Sections) (s : List ℕ) (at end : ℕ) (head : Head) (read : head ≡ headOf s at) where
+module _ (form : Form) (h : Sections) (s : List ℕ) (at end : ℕ) (head : Head) (read : head ≡ headOf s at) where
   pub body-stays : (a : Answer) (b : Bool)
       → a ≡ walk (object (h .kinds) s end) (head .objects) (at + headSize)
       → b ≡ isRefused a
       → b ≡ true
-      → a ≡ body h s at end
+      → a ≡ body form h s at end
   unfolding body headOf
   body-stays a b p q r = part-stays _ _ a b (rw read at p) q r
 
@@ -37,13 +38,13 @@ module _ (h : Sections) (s : List ℕ) (at end : ℕ) (head : Head) (read : head
       → b ≡ isRefused a
       → b ≡ false
       → v ≡ valueOf a
-      → t ≡ trajectory (schema h s) (typedObjects (record { count = head .objects; at = at + headSize }) s) s end (head .steps) v
-      → closed at end t ≡ body h s at end
+      → t ≡ trajectory form (schema h s) (typedObjects (record { count = head .objects; at = at + headSize }) s) s end (head .steps) v
+      → closed at end t ≡ body form h s at end
   unfolding body objectsOf closed headOf
   body-rest v a b t p q r u w =
       rw (w, read)
       (part-follows _
-      (λ first. closed at end (trajectory (schema h s) (typedObjects (objectsOf s at) s) s end (stepsIn s at) first))
+      (λ first. closed at end (trajectory form (schema h s) (typedObjects (objectsOf s at) s) s end (stepsIn s at) first))
       a b v (rw read at p) q r u)
 
 module _ (at end : ℕ) (a : Answer) (b : Bool) where
@@ -59,8 +60,8 @@ module _ (at end : ℕ) (a : Answer) (b : Bool) where
   unfolding closed
   closed-good v q r u l = sym (sym (part-follows a _ a b v refl q r u) ∙ refuse-unmet _ _ _ _ (le-ltb _ _ l))
 
-module _ (h : Sections) (s : List ℕ) where
-  pub record-refused : (at : ℕ) (b : Bool) → b ≡ headBad s at → b ≡ true → Refused 6 at ≡ recordAt h s at
+module _ (form : Form) (h : Sections) (s : List ℕ) where
+  pub record-refused : (at : ℕ) (b : Bool) → b ≡ headBad s at → b ≡ true → Refused 6 at ≡ recordAt form h s at
   unfolding recordAt
   record-refused at b p e = sym (refuse-met _ _ _ _ (sym p ∙ e))
 
@@ -68,25 +69,25 @@ module _ (h : Sections) (s : List ℕ) where
       → head ≡ headOf s at
       → b ≡ headBad s at
       → b ≡ false
-      → r ≡ body h s at (at + head .length)
-      → r ≡ recordAt h s at
+      → r ≡ body form h s at (at + head .length)
+      → r ≡ recordAt form h s at
   unfolding recordAt headOf
   record-body at head b r q p e u = u ∙ rw q (sym (refuse-unmet _ _ _ _ (sym p ∙ e)))
 
   -- the records of a book, by what a loop over them has in hand
-  pub all-refused : (n from k p : ℕ) → Refused k p ≡ walk (recordAt h s) n from → Refused k p ≡ allRecords h s n from
+  pub all-refused : (n from k p : ℕ) → Refused k p ≡ walk (recordAt form h s) n from → Refused k p ≡ allRecords form h s n from
   unfolding allRecords
   all-refused n from k p e = sym (bind-refused _ _ _ _ (sym e))
 
-  pub all-left : (n from last : ℕ) → Good last ≡ walk (recordAt h s) n from → last < length s → Refused 6 last ≡ allRecords h s n from
+  pub all-left : (n from last : ℕ) → Good last ≡ walk (recordAt form h s) n from → last < length s → Refused 6 last ≡ allRecords form h s n from
   unfolding allRecords
   all-left n from last e l = sym (bind-good _ _ _ (sym e) ∙ refuse-met _ _ _ _ (lt-ltb _ _ l))
 
   pub all-good : (n from last total : ℕ)
-      → Good last ≡ walk (recordAt h s) n from
+      → Good last ≡ walk (recordAt form h s) n from
       → length s ≤ last
       → total ≡ stepTotal s n from
-      → Good total ≡ allRecords h s n from
+      → Good total ≡ allRecords form h s n from
   unfolding allRecords
   all-good n from last total e l t = rw t (sym (bind-good _ _ _ (sym e) ∙ refuse-unmet _ _ _ _ (le-ltb _ _ l)))
 

@@ -1,15 +1,31 @@
--- What the functions over one record ask of it.
-use Prim.Native.Nat.{ℕ, _≤_}
+-- What the functions over one record ask of it, and what one of them computes.
+use Prim.Native.Nat.{ℕ, _+_, _≤_}
 use mathlib.Core.List.{List}
 use lib.ListN.{length}
-use Rattle.limits.specs.Limits.{maxLength}
-use Rattle.terms.specs.Schema.{schema, typedObjects}
+use Rattle.limits.specs.Limits.{maxLength, maxObjects, maxRelations, stepSize}
+use Rattle.answer.specs.declared.Answer.{Answer}
+use Rattle.answer.specs.Answer.{_>>=_, refuse}
+use Rattle.terms.specs.Schema.{Schema, TypedObjects, schema, typedObjects}
+use Rattle.terms.specs.Steps.{stepAt, repeats}
+use Rattle.format.specs.Form.{Form, mostListed}
+use Rattle.format.specs.States.{list}
+use Rattle.format.specs.Records.{stepRefused}
 use Rattle.tables.specs.Tables.{RightByKind, RightByPlace}
 use Rattle.records.specs.declared.Scope.{Scope}
 
--- the record ends within the book, at an offset that can be added to, and the tables are right for its objects
+-- the record ends within the book, at an offset that can be added to; relations and objects are no more than there may be; and the tables are right
+-- for its objects
 pub record Readable (s : List ℕ) (c : Scope) (ks t : List ℕ) : Type 0 where
   pub within : c .end ≤ length s
-  pub short : c .end ≤ maxLength
+  pub near : c .end ≤ maxLength
+  pub known : c .h .relations .count ≤ maxRelations
+  pub few : c .objects .count ≤ maxObjects
   pub kinds : RightByKind (schema (c .h) s) (typedObjects (c .objects) s) ks
   pub table : RightByPlace (schema (c .h) s) (typedObjects (c .objects) s) t
+
+-- rows 9 and 10, then row 8 for the list after the step, before it is asked how many facts that leaves
+unfoldable pub stepListed : Form → Schema → TypedObjects → List ℕ → ℕ → ℕ → Answer
+stepListed form sch ob s end at = do
+  _ ← refuse (stepRefused sch ob s end at) 9 at
+  _ ← refuse (repeats (stepAt s at)) 10 at
+  list 8 (mostListed form) sch ob s end (at + stepSize)

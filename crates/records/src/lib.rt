@@ -1,5 +1,5 @@
-// Rows 6 to 10 of the refusal table: one record of a book, to its end.
-// Uses answer, input, limits, terms, tables, states, and the definitions of format.
+// Rows 6 to 10 of the refusal table: one record of a book, to its end. In a short book the state is carried on from step to step.
+// Uses answer, input, limits, mask, terms, tables, states, turning, and the definitions of format.
 use answer::Answer;
 use terms::Objects;
 use terms::Sections;
@@ -9,11 +9,15 @@ ghost use Prim.Native.Nat.{_≤_};
 ghost use lib.ListN.{length};
 ghost use Rattle.answer.specs.Walk.{walk};
 ghost use Rattle.terms.specs.Schema.{schema, typedObjects};
-ghost use Rattle.limits.specs.Limits.{maxLength, maxObjects, nearCeiling};
-ghost use Rattle.format.specs.Records.{headBad, object, stepRefused, step, trajectory, closed, body, recordAt};
+ghost use Rattle.limits.specs.Limits.{maxLength, maxObjects, maxRelations, maxTurns, nearCeiling};
+ghost use Rattle.format.specs.Lists.{listAt};
+ghost use Rattle.format.specs.Form.{mostListed};
+ghost use Rattle.format.specs.States.{state};
+ghost use Rattle.format.specs.Records.{headBad, object, stepRefused, steps, trajectory, closed, body, recordAt};
+ghost use Rattle.answer.specs.declared.Answer.the-variants.{Good};
 ghost use Rattle.tables.specs.Tables.{ForRightByKind};
 ghost use Rattle.records.specs.Head.{headOf};
-ghost use Rattle.records.specs.Readable.{Readable};
+ghost use Rattle.records.specs.Readable.{Readable, stepListed};
 
 // A record's head: how many objects it has, how many steps, and how many bytes.
 pub struct Head {
@@ -76,18 +80,28 @@ fn step_refused(book: &[u8], h: Sections, kinds: &[u32; 256], end: usize, at: us
     tables::step_bad(book, h, kinds, Step::read(book, at))
 }
 
-// What a trajectory is read within: the book's header, the record's objects, its number of steps, and where it ends.
+// What a trajectory is read within: whether the book is short, its header, the record's objects, its number of steps, and where it ends.
 struct Scope {
+    short: bool,
     h: Sections,
     objects: Objects,
     steps: usize,
     end: usize,
 }
 
-// Rows 9 and 10, then row 8 for the state after the step.
+fn most_listed(short: bool) -> u16
+    ensures { λ r. ⌜ (r ≡ mostListed short) × (r ≤ maxTurns) ⌝ }
+{
+    if short {
+        return limits::MAX_TURNS;
+    }
+    limits::MAX_FACTS
+}
+
+// Rows 9 and 10, then row 8 for the list after the step.
 fn step(book: &[u8], c: Scope, kinds: &[u32; 256], table: &[u32; 512], at: usize) -> Answer
     requires { ⌜ Readable (now book) c (now kinds) (now table) × (at ≤ maxLength) ⌝ }
-    ensures { λ r. ⌜ r ≡ step (schema (c .h) (now (book .entry))) (typedObjects (c .objects) (now (book .entry))) (now (book .entry)) (c .end) at ⌝ }
+    ensures { λ r. ⌜ r ≡ stepListed (c .short) (schema (c .h) (now (book .entry))) (typedObjects (c .objects) (now (book .entry))) (now (book .entry)) (c .end) at ⌝ }
 {
     if step_refused(book, c.h, kinds, c.end, at) {
         return Answer::Refused(9, at);
@@ -96,13 +110,30 @@ fn step(book: &[u8], c: Scope, kinds: &[u32; 256], table: &[u32; 512], at: usize
     if st.repeats() {
         return Answer::Refused(10, at);
     }
-    states::state(8, book, table, c.end, at + limits::STEP_SIZE)
+    states::list(
+        8,
+        most_listed(c.short),
+        book,
+        table,
+        c.end,
+        at + limits::STEP_SIZE,
+    )
 }
 
-fn steps(book: &[u8], c: Scope, kinds: &[u32; 256], table: &[u32; 512], from: usize) -> Answer
-    requires { ⌜ Readable (now book) c (now kinds) (now table) × (from ≤ maxLength) ⌝ }
-    ensures { λ r. ⌜ r ≡ walk (step (schema (c .h) (now (book .entry))) (typedObjects (c .objects) (now (book .entry))) (now (book .entry)) (c .end)) (c .steps) from ⌝ }
+// The steps behind a record's first state, each with the state after it, which is refused at its count if it has too many facts.
+fn steps(
+    book: &[u8],
+    c: Scope,
+    kinds: &[u32; 256],
+    table: &[u32; 512],
+    first: usize,
+    from: usize,
+) -> Answer
+    requires { ⌜ Readable (now book) c (now kinds) (now table) × (first ≤ nearCeiling) × (from ≤ maxLength) × (state 8 (schema (c .h) (now book)) (typedObjects (c .objects) (now book)) (now book) (c .end) first ≡ Good from) ⌝ }
+    ensures { λ r. ⌜ r ≡ steps (c .short) (schema (c .h) (now (book .entry))) (typedObjects (c .objects) (now (book .entry))) (now (book .entry)) (c .end) (c .steps) (listAt (now (book .entry)) first) from ⌝ }
 {
+    let mut state = mask::empty512();
+    let mut count = turning::carry(book, c.short, first, &mut state, 0);
     let mut left = c.steps;
     let mut at = from;
     while 0 < left {
@@ -111,6 +142,11 @@ fn steps(book: &[u8], c: Scope, kinds: &[u32; 256], table: &[u32; 512], from: us
                 return Answer::Refused(k, p);
             }
             Answer::Good(next) => {
+                let listed = at + limits::STEP_SIZE;
+                count = turning::carry(book, c.short, listed, &mut state, count);
+                if (limits::MAX_FACTS as usize) < count {
+                    return Answer::Refused(8, listed);
+                }
                 at = next;
             }
         }
@@ -122,13 +158,13 @@ fn steps(book: &[u8], c: Scope, kinds: &[u32; 256], table: &[u32; 512], from: us
 // A state, then steps each with the state after it.
 fn trajectory(book: &[u8], c: Scope, kinds: &[u32; 256], table: &[u32; 512], at: usize) -> Answer
     requires { ⌜ Readable (now book) c (now kinds) (now table) × (at ≤ nearCeiling) ⌝ }
-    ensures { λ r. ⌜ r ≡ trajectory (schema (c .h) (now (book .entry))) (typedObjects (c .objects) (now (book .entry))) (now (book .entry)) (c .end) (c .steps) at ⌝ }
+    ensures { λ r. ⌜ r ≡ trajectory (c .short) (schema (c .h) (now (book .entry))) (typedObjects (c .objects) (now (book .entry))) (now (book .entry)) (c .end) (c .steps) at ⌝ }
 {
     let first = states::state(8, book, table, c.end, at);
     if answer::is_refused(first) {
         return first;
     }
-    steps(book, c, kinds, table, answer::value_of(first))
+    steps(book, c, kinds, table, at, answer::value_of(first))
 }
 
 // What a record answers, once its trajectory has: bytes left in it are row 6.
@@ -145,9 +181,9 @@ fn closed(a: Answer, at: usize, end: usize) -> Answer
 }
 
 // A record whose head is right.
-fn body(s: &[u8], h: Sections, head: Head, at: usize, end: usize) -> Answer
-    requires { ⌜ (at ≤ maxLength) × (end ≤ maxLength) × (end ≤ length (now s)) × (head ≡ headOf (now s) at) × (head .objects ≤ maxObjects) ⌝ }
-    ensures { λ r. ⌜ r ≡ body h (now (s .entry)) at end ⌝ }
+fn body(s: &[u8], short: bool, h: Sections, head: Head, at: usize, end: usize) -> Answer
+    requires { ⌜ (h .relations .count ≤ maxRelations) × (at ≤ maxLength) × (end ≤ maxLength) × (end ≤ length (now s)) × (head ≡ headOf (now s) at) × (head .objects ≤ maxObjects) ⌝ }
+    ensures { λ r. ⌜ r ≡ body short h (now (s .entry)) at end ⌝ }
 {
     let listed = Objects {
         count: head.objects,
@@ -166,6 +202,7 @@ fn body(s: &[u8], h: Sections, head: Head, at: usize, end: usize) -> Answer
     let kinds = tables::kinds_of(s, h, s, listed);
     let table = tables::table_of(s, h, &kinds);
     let scope = Scope {
+        short,
         h,
         objects: listed,
         steps: head.steps as usize,
@@ -179,13 +216,13 @@ fn body(s: &[u8], h: Sections, head: Head, at: usize, end: usize) -> Answer
 }
 
 // One record: where the next one starts.
-pub fn record_at(s: &[u8], h: Sections, at: usize) -> Answer
-    requires { ⌜ (length (now s) ≤ maxLength) × (at ≤ maxLength) ⌝ }
-    ensures { λ r. ⌜ r ≡ recordAt h (now (s .entry)) at ⌝ }
+pub fn record_at(s: &[u8], short: bool, h: Sections, at: usize) -> Answer
+    requires { ⌜ (h .relations .count ≤ maxRelations) × (length (now s) ≤ maxLength) × (at ≤ maxLength) ⌝ }
+    ensures { λ r. ⌜ r ≡ recordAt short h (now (s .entry)) at ⌝ }
 {
     let head = Head::read(s, at);
     if head_bad(s, head, at) {
         return Answer::Refused(6, at);
     }
-    body(s, h, head, at, at + head.length as usize)
+    body(s, short, h, head, at, at + head.length as usize)
 }

@@ -30,7 +30,7 @@ unused-at (suc (suc zero)) = refl
 unused-at (suc (suc (suc zero))) = refl
 unused-at (suc (suc (suc (suc q)))) = refl
 
-unused-small : Indices unused
+pub unused-small : Indices unused
 unused-small q = omega (arith, unused-at q)
 
 -- ---- the columns of a set of parameters
@@ -133,6 +133,9 @@ tables-by ys small a b c d ea eb ec ed =
     }
 
 -- ---- a relation's places
+pub starts : (n : ℕ) → n % 16 ≡ 0 → n < 256 → StartsRelation n
+starts n e h = record { whole = e; within = omega arith }
+
 pub place-small : (places i : ℕ) (xs : List ℕ) → Indices xs → Indices (inPlace places i xs)
 unfolding inPlace
 place-small places i xs small = go (leb i places)

@@ -43,7 +43,7 @@ module _ (p : ℕ → Bool) where
   number-not at zero = refl
   number-not at (suc k) = omega (arith, pow-suc 2 k, number-not (suc at) k, number-lt p (suc at) k, digit-not (p at))
 
-  number-none : (at k : ℕ) → ((j : ℕ) → j < k → p (at + j) ≡ false) → number p at k ≡ 0
+  pub number-none : (at k : ℕ) → ((j : ℕ) → j < k → p (at + j) ≡ false) → number p at k ≡ 0
   number-none at k none =
       bits-ext k (number p at k) 0 (number-lt p at k) (omega (arith, number-lt p at k)) (λ j l. bit-number p at k j l ∙ none j l ∙ sym (bit-none j))
 

@@ -73,6 +73,12 @@ facts p ys j = 16 * rowOf p (j / 4) + getD ys (j % 4) 0
 abbrev pub ForColumns : List ℕ → Placement → (List ℕ → Type 0) → Type 0
 ForColumns t p P = (ys : List ℕ) → Indices ys → Tabled t (p .at) ys → P ys
 
+-- ---- values
+
+-- the bits of a row in four columns
+unfoldable pub inColumns : ℕ → List ℕ → ℕ
+inColumns row ys = number (λ q. bitOf row (getD ys q 0)) 0 maxParams
+
 -- ---- needs
 
 -- none of sixteen facts holds

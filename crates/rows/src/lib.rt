@@ -1,15 +1,15 @@
 // A state of facts as a mask of 512 bytes, taken by rows: the facts of a relation with one first object are sixteen bits, one for each second object.
 // A table made once for a step has, for each set of its parameters, the bits of their objects; with it sixteen bound facts of a relation are tested,
-// or put into the state, by four rows. Uses limits, and the definitions of mask; each contract names its definition.
+// or put into the state, by four rows; without it their values are gathered. Uses limits, and the definitions of mask; each contract names its definition.
 ghost use mathlib.Core.Path.{_≡_};
 ghost use mathlib.Core.Bool.{true};
 ghost use Prim.Native.Nat.{_+_, _*_, _^_, _≤_, _<_};
 ghost use lib.ListN.{length};
 ghost use Rattle.limits.specs.Limits.{maxAtoms, maxObjects, maxParams, stateSize, atomsPerRelation};
-ghost use Rattle.mask.specs.Bits.{testBit, Bytes};
-ghost use Rattle.mask.specs.Sets.{number};
+ghost use Rattle.mask.specs.Bits.{bitOf, testBit, Bytes};
+ghost use Rattle.mask.specs.Sets.{digit, number};
 ghost use Rattle.rows.specs.Rows.{StartsRelation, Indices, rowsFrom, placementOf, Within, rowOf, facts, columnSet, Tables, ForColumns};
-ghost use Rattle.rows.specs.Rows.{Clear, rowUnmet, wordUnmet, changed, putAt, inRow, inWord};
+ghost use Rattle.rows.specs.Rows.{inPlace, inColumns, Clear, rowUnmet, wordUnmet, changed, putAt, inRow, inWord};
 
 // ---- words
 
@@ -124,15 +124,59 @@ fn columns(t: &[u16; 32], p: Placement, k: u16) -> u16
     t[i]
 }
 
-// ---- needs
+// The columns of the parameters in the second place of a relation with so many places.
+pub fn columns_of(places: u8, xs: [usize; 4]) -> [usize; 4]
+    requires { ⌜ Indices xs ⌝ }
+    ensures { λ ys. ⌜ (ys ≡ inPlace places 2 xs) × Indices ys ⌝ }
+{
+    if 1 < places {
+        return xs;
+    }
+    [0, 0, 0, 0]
+}
+
+// ---- values
 
 // The facts of a state in the row of a parameter.
-fn row_word(p: Placement, q: usize, state: &[u8; limits::STATE_SIZE]) -> u16
-    requires { ⌜ Within p × (q < maxParams) ⌝ }
+fn row_word(p: Placement, q: usize, state: &[u8]) -> u16
+    requires { ⌜ (length (now state) ≡ stateSize) × Within p × (q < maxParams) ⌝ }
     ensures { λ r. ⌜ r ≡ number (testBit (now (state .entry))) (16 * rowOf p q) atomsPerRelation ⌝ }
 {
     word_at(state, 2 * row(p, q))
 }
+
+fn bit_at(row: u16, y: usize) -> u16
+    requires { ⌜ y < maxObjects ⌝ }
+    ensures { λ r. ⌜ (r ≡ digit (bitOf row y)) × (r < 2) ⌝ }
+{
+    (row >> y) % 2
+}
+
+// The bits of a row in four columns.
+fn in_columns(row: u16, ys: [usize; 4]) -> u16
+    requires { ⌜ Indices ys ⌝ }
+    ensures { λ r. ⌜ (r ≡ inColumns row ys) × (r < 16) ⌝ }
+{
+    bit_at(row, ys[0]) + bit_at(row, ys[1]) * 2 + bit_at(row, ys[2]) * 4 + bit_at(row, ys[3]) * 8
+}
+
+// Which of a relation's bound facts hold in a state, by the columns of the parameters in the second place: from each of four rows four bits. In most
+// rows of a state none of the facts holds.
+pub fn values_at(p: Placement, ys: [usize; 4], state: &[u8]) -> u16
+    requires { ⌜ (length (now state) ≡ stateSize) × Within p × Indices ys ⌝ }
+    ensures { λ r. ⌜ r ≡ number (λ j. testBit (now (state .entry)) (facts p ys j)) 0 atomsPerRelation ⌝ }
+{
+    let a = row_word(p, 0, state);
+    let b = row_word(p, 1, state);
+    let c = row_word(p, 2, state);
+    let d = row_word(p, 3, state);
+    if (a | b | c | d) == 0 {
+        return 0;
+    }
+    in_columns(a, ys) + in_columns(b, ys) * 16 + in_columns(c, ys) * 256 + in_columns(d, ys) * 4096
+}
+
+// ---- needs
 
 // No fact of a relation holds in the rows and columns of the parameters.
 fn rows_clear(t: &[u16; 32], p: Placement, state: &[u8; limits::STATE_SIZE]) -> bool

@@ -10,24 +10,23 @@ use Rattle.answer.specs.Laws.{refuse-met, refuse-unmet}
 use Rattle.input.specs.Bytes.{two}
 use Rattle.terms.specs.Schema.{Schema, TypedObjects}
 use Rattle.terms.specs.Facts.{noFact}
-use Rattle.limits.specs.Limits.{maxFacts}
-use Rattle.format.specs.States.{cut, countBad, facts, state}
+use Rattle.format.specs.States.{cut, countBad, facts, list}
 
-module _ (s : List ℕ) (end : ℕ) where
-  pub count-cut : (at : ℕ) → end < at + 2 → true ≡ countBad s end at
+module _ (most : ℕ) (s : List ℕ) (end : ℕ) where
+  pub count-cut : (at : ℕ) → end < at + 2 → true ≡ countBad most s end at
   unfolding countBad cut
   count-cut at h = rw (lt-ltb end (at + 2) h) refl
 
-  pub count-whole : (at n : ℕ) → at + 2 ≤ end → n ≡ two s at → ltb maxFacts n ≡ countBad s end at
+  pub count-whole : (at n : ℕ) → at + 2 ≤ end → n ≡ two s at → ltb most n ≡ countBad most s end at
   unfolding countBad cut
   count-whole at n h e = rw (e, le-ltb end (at + 2) h) refl
 
-module _ (num : ℕ) (sch : Schema) (ob : TypedObjects) (s : List ℕ) (end : ℕ) where
-  -- a state whose count is refused, and one whose count is not
-  pub state-refused : (at : ℕ) → countBad s end at ≡ true → state num sch ob s end at ≡ Refused num at
-  unfolding state
-  state-refused at e = refuse-met _ _ _ _ e
+module _ (num most : ℕ) (sch : Schema) (ob : TypedObjects) (s : List ℕ) (end : ℕ) where
+  -- a list whose count is refused, and one whose count is not
+  pub list-refused : (at : ℕ) → countBad most s end at ≡ true → list num most sch ob s end at ≡ Refused num at
+  unfolding list
+  list-refused at e = refuse-met _ _ _ _ e
 
-  pub state-facts : (at n : ℕ) → countBad s end at ≡ false → n ≡ two s at → state num sch ob s end at ≡ facts num sch ob s end n noFact (at + 2)
-  unfolding state
-  state-facts at n e q = rw q (refuse-unmet _ _ _ _ e)
+  pub list-facts : (at n : ℕ) → countBad most s end at ≡ false → n ≡ two s at → list num most sch ob s end at ≡ facts num sch ob s end n noFact (at + 2)
+  unfolding list
+  list-facts at n e q = rw q (refuse-unmet _ _ _ _ e)

@@ -1,4 +1,4 @@
-// Row 8 of the refusal table, and row 16: the facts of a state, in order, by a cursor that carries the fact before. What suits is told by a table of
+// Row 8 of the refusal table, and row 16: a list of facts, in order, by a cursor that carries the fact before. What suits is told by a table of
 // the record or order, so that both are looked at by the same functions; goal entries are looked at by the same cursor.
 // Uses answer, input, limits, terms, and the definitions of format and tables.
 use answer::Answer;
@@ -6,11 +6,11 @@ use terms::Fact;
 ghost use mathlib.Core.Path.{_≡_};
 ghost use Prim.Native.Nat.{_+_, _-_, _*_, _≤_, _<_};
 ghost use lib.ListN.{length};
-ghost use Rattle.limits.specs.Limits.{maxLength, countSize, maxFacts, factSize, nearCeiling};
+ghost use Rattle.limits.specs.Limits.{maxLength, countSize, maxTurns, factSize, nearCeiling};
 ghost use Rattle.input.specs.Bytes.{two};
 ghost use Rattle.terms.specs.Facts.{noFact};
 ghost use Rattle.terms.specs.Told.{factKey};
-ghost use Rattle.format.specs.States.{countBad, facts, state};
+ghost use Rattle.format.specs.States.{countBad, facts, list, state};
 ghost use Rattle.format.specs.Lists.{listEnd};
 ghost use Rattle.tables.specs.Tables.{ForRightByPlace};
 ghost use Rattle.states.specs.Cursor.{Ahead, factOf, misplaced};
@@ -86,7 +86,7 @@ fn uncut(end: usize, n: usize, from: usize) -> usize
 
 // A number of facts from an offset, each refused with the number given.
 fn facts(number: usize, t: &[u8], table: &[u32; 512], end: usize, n: usize, from: usize) -> Answer
-    requires { ⌜ (end ≤ length (now t)) × (from ≤ nearCeiling + countSize) × (n ≤ maxFacts) ⌝ }
+    requires { ⌜ (end ≤ length (now t)) × (from ≤ nearCeiling + countSize) × (n ≤ maxTurns) ⌝ }
     ensures { λ r. ⌜ ForRightByPlace (now (table .entry)) (λ sch ob. r ≡ facts number sch ob (now (t .entry)) end n noFact from) ⌝ }
 {
     let whole = uncut(end, n, from);
@@ -117,7 +117,7 @@ fn count(s: &[u8], at: usize) -> u16
     joined(s[at], s[at + 1])
 }
 
-// Where a state ends, whether it is good or not.
+// Where a list ends, whether it is good or not.
 pub fn list_end(s: &[u8], at: usize) -> usize
     requires { ⌜ at ≤ maxLength ⌝ }
     ensures { λ r. ⌜ (r ≡ listEnd (now (s .entry)) at) × (r ≤ nearCeiling) ⌝ }
@@ -125,22 +125,22 @@ pub fn list_end(s: &[u8], at: usize) -> usize
     at + limits::COUNT_SIZE + limits::FACT_SIZE * input::two_at(s, at) as usize
 }
 
-fn count_bad(s: &[u8], end: usize, at: usize) -> bool
+fn count_bad(s: &[u8], most: u16, end: usize, at: usize) -> bool
     requires { ⌜ (end ≤ length (now s)) × (at ≤ nearCeiling) ⌝ }
-    ensures { λ r. ⌜ r ≡ countBad (now (s .entry)) end at ⌝ }
+    ensures { λ r. ⌜ r ≡ countBad most (now (s .entry)) end at ⌝ }
 {
     if end < at + limits::COUNT_SIZE {
         return true;
     }
-    limits::MAX_FACTS < count(s, at)
+    most < count(s, at)
 }
 
-// Row 8 of a book's state, row 16 of an order's start: a state, refused with the number given.
-pub fn state(number: usize, t: &[u8], table: &[u32; 512], end: usize, at: usize) -> Answer
-    requires { ⌜ (end ≤ length (now t)) × (at ≤ nearCeiling) ⌝ }
-    ensures { λ r. ⌜ ForRightByPlace (now (table .entry)) (λ sch ob. r ≡ state number sch ob (now (t .entry)) end at) ⌝ }
+// A list of facts, at most so many, refused with the number given.
+pub fn list(number: usize, most: u16, t: &[u8], table: &[u32; 512], end: usize, at: usize) -> Answer
+    requires { ⌜ (most ≤ maxTurns) × (end ≤ length (now t)) × (at ≤ nearCeiling) ⌝ }
+    ensures { λ r. ⌜ ForRightByPlace (now (table .entry)) (λ sch ob. r ≡ list number most sch ob (now (t .entry)) end at) ⌝ }
 {
-    if count_bad(t, end, at) {
+    if count_bad(t, most, end, at) {
         return Answer::Refused(number, at);
     }
     facts(
@@ -151,4 +151,12 @@ pub fn state(number: usize, t: &[u8], table: &[u32; 512], end: usize, at: usize)
         count(t, at) as usize,
         at + limits::COUNT_SIZE,
     )
+}
+
+// Row 8 of a record's first state, row 16 of an order's start.
+pub fn state(number: usize, t: &[u8], table: &[u32; 512], end: usize, at: usize) -> Answer
+    requires { ⌜ (end ≤ length (now t)) × (at ≤ nearCeiling) ⌝ }
+    ensures { λ r. ⌜ ForRightByPlace (now (table .entry)) (λ sch ob. r ≡ state number sch ob (now (t .entry)) end at) ⌝ }
+{
+    list(number, limits::MAX_FACTS, t, table, end, at)
 }

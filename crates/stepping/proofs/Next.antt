@@ -23,9 +23,10 @@ use Rattle.observed.specs.Rules.{ruleSet}
 use Rattle.statemask.specs.Statemask.{effects, nextIn, stepNext}
 use Rattle.statemask.proofs.Masks as masks
 use Rattle.rows.specs.Rows.{StartsRelation, putAt, inWord}
-use Rattle.stepping.specs.Stepping.{Bounded, touched, nextBelow}
+use Rattle.grounding.specs.Grounding.{Bounded}
+use Rattle.stepping.specs.Stepping.{touched, nextBelow}
 use Rattle.rows.proofs.Tests.{below-join}
-use Rattle.stepping.proofs.Objects.{ground-relation}
+use Rattle.grounding.proofs.Objects.{ground-relation}
 use Rattle.rows.proofs.Effects.{put-none, put-mask, put-length}
 
 next-mask : (sch : Schema) (l : List ℕ) (st : Step) (m : List ℕ) (n : ℕ) → nextBelow sch l st m n ≡ maskOf 512 (testBit (nextBelow sch l st m n))

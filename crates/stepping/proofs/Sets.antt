@@ -11,9 +11,6 @@ use Rattle.observed.specs.Observed.{setAt, observedSet}
 use Rattle.observed.proofs.Parts.{part-byte}
 use Rattle.rows.specs.Rows.{StartsRelation}
 
-pub starts : (n : ℕ) → n % 16 ≡ 0 → n < 256 → StartsRelation n
-starts n e h = record { whole = e; within = omega arith }
-
 pub set-word-by : (l : List ℕ) (a k n at w : ℕ) → StartsRelation n → at ≡ setAt a k → w ≡ number (testBit l) (8 * (at + n / 8)) 16 → w ≡ number (testBit (observedSet l a k)) n 16
 unfolding observedSet testBit
 set-word-by l a k n at w first e f = f ∙ rw (← e) (number-same (testBit (take 32 (drop at l))) (testBit l) n (8 * (at + n / 8)) 16 same)

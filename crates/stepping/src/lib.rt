@@ -1,6 +1,6 @@
 // One step over a state of facts as a mask of 512 bytes: whether it is inapplicable, and the state after it, by what is observed of its move. Sets of
 // bound facts are read where they stand, sixteen of a relation at once, and tested or put by rows of the state.
-// Uses limits, terms, rows, the places of a move's sets from observed, and the definitions of mask and statemask; each contract names its definition.
+// Uses limits, terms, rows, grounding, the places of a move's sets from observed, and the definitions of mask and statemask; each contract names its definition.
 ghost use mathlib.Core.Path.{_≡_};
 ghost use Prim.Native.Nat.{_<_};
 ghost use lib.ListN.{length};
@@ -8,34 +8,15 @@ ghost use Rattle.limits.specs.Limits.{stateSize, observedSets, atomsPerRelation
 ghost use Rattle.mask.specs.Bits.{testBit};
 ghost use Rattle.mask.specs.Sets.{number};
 ghost use Rattle.terms.specs.Schema.{schema};
-ghost use Rattle.rows.specs.Rows.{StartsRelation, Indices, Tables};
+ghost use Rattle.rows.specs.Rows.{StartsRelation, Tables};
+ghost use Rattle.grounding.specs.Grounding.{indices};
 ghost use Rattle.observed.specs.Observed.{observedSet};
 ghost use Rattle.statemask.specs.Statemask.{stepInapplicable, stepNext};
-ghost use Rattle.stepping.specs.Stepping.{Steppable, Bounded, indices, Placed, relationUnmet, Advances, StepExecuted};
-use rows::Placement;
-use terms::Binding;
-use terms::Param;
+ghost use Rattle.stepping.specs.Stepping.{Steppable, relationUnmet, Advances, StepExecuted};
 use terms::Sections;
 use terms::Step;
 
-// ---- objects and sets
-
-// What the object of each parameter adds in a used place: its row in the first, its column in the second.
-fn indices(b: Binding) -> [usize; 4]
-    requires { ⌜ Bounded b ⌝ }
-    ensures { λ xs. ⌜ (xs ≡ indices b) × Indices xs ⌝ }
-{
-    let x1 = b.object(Param(1));
-    let x2 = b.object(Param(2));
-    let x3 = b.object(Param(3));
-    let x4 = b.object(Param(4));
-    [
-        terms::index(x1.0),
-        terms::index(x2.0),
-        terms::index(x3.0),
-        terms::index(x4.0),
-    ]
-}
+// ---- sets
 
 // A relation's bound facts in set k of the step's move, n being the first of them.
 fn set_word(observed: &[u8], step: Step, k: usize, n: usize) -> u16
@@ -43,14 +24,6 @@ fn set_word(observed: &[u8], step: Step, k: usize, n: usize) -> u16
     ensures { λ r. ⌜ r ≡ number (testBit (observedSet (now (observed .entry)) (step .action .0) k)) n atomsPerRelation ⌝ }
 {
     rows::word_at(observed, observed::set_at(step.action, k) + n / 8)
-}
-
-// Where a relation's bound facts stand in a state for these objects, n being the first of them.
-fn placement(book: &[u8], h: Sections, xs: [usize; 4], n: usize) -> Placement
-    requires { ⌜ Indices xs × StartsRelation n ⌝ }
-    ensures { λ p. ⌜ Placed (schema h (now (book .entry))) xs n p ⌝ }
-{
-    rows::placement_of(h.places(book, terms::atom_relation(n)), xs, n)
 }
 
 // ---- needs
@@ -75,7 +48,13 @@ fn relation_unmet(
     if (positive | negative) == 0 {
         return false;
     }
-    rows::needs_unmet(t, placement(book, h, xs, n), state, positive, negative)
+    rows::needs_unmet(
+        t,
+        grounding::placement(book, h, xs, n),
+        state,
+        positive,
+        negative,
+    )
 }
 
 // A need of one of the bound facts of a step's move is unmet, relation by relation.
@@ -122,7 +101,7 @@ fn put_relation(
     if (deleted | added) == 0 {
         return;
     }
-    let p = placement(book, h, xs, n);
+    let p = grounding::placement(book, h, xs, n);
     rows::put_rows(t, p, deleted, false, state);
     rows::put_rows(t, p, added, true, state);
 }
@@ -158,7 +137,7 @@ pub fn execute_step(
     requires { ⌜ Steppable (now observed) step ⌝ }
     ensures { λ r. ⌜ StepExecuted (schema h (now (book .entry))) (now (observed .entry)) step (now (state .entry)) r (now (state .exit)) ⌝ }
 {
-    let xs = indices(step.binding);
+    let xs = grounding::indices(step.binding);
     let t = rows::column_table(xs);
     if is_inapplicable(book, h, step, observed, xs, &t, state) {
         return true;

@@ -6,7 +6,7 @@ ghost use lib.ListN.{length};
 ghost use Rattle.limits.specs.Limits.{maxParams, maxAtoms, factSize, stepSize, nearCeiling, farCeiling};
 ghost use Rattle.terms.specs.Sections.{sectionsOf};
 ghost use Rattle.terms.specs.Schema.{schema, outOfRange, relationAt, moveAt};
-ghost use Rattle.terms.specs.Facts.{factAt, precedes, noFact};
+ghost use Rattle.terms.specs.Facts.{factAt, precedes, noFact, factNumber};
 ghost use Rattle.terms.specs.Told.{suits, factKey};
 ghost use Rattle.terms.specs.Steps.{objectOf, stepAt, samePair, repeats, atomRelation, atomFirst, atomSecond};
 
@@ -193,6 +193,13 @@ impl Fact {
         let r = self.relation.0 as usize;
         objectset::member(objectset::entry(table, r), self.first.0)
             & objectset::member(objectset::entry(table, 256 + r), self.second.0)
+    }
+
+    // Its number in a state's mask.
+    pub fn number(self) -> usize
+        ensures { λ r. ⌜ r ≡ factNumber self ⌝ }
+    {
+        256 * index(self.relation.0) + 16 * index(self.first.0) + index(self.second.0)
     }
 
     // Its bytes as one number: facts stand in the order of their keys.

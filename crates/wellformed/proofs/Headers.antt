@@ -7,19 +7,20 @@ use Rattle.terms.specs.Schema.{schema}
 use Rattle.terms.specs.Sections.{sectionsOf}
 use Rattle.terms.specs.Typing.{RightSchema}
 use Rattle.limits.specs.Limits.{maxRelations, maxMoves}
+use Rattle.format.specs.Form.{Form}
 use Rattle.format.specs.LookOver.{lookOver}
 use Rattle.format.proofs.LookOver.{look-over-good}
 use Rattle.format.proofs.Typing.{schema-right}
 use Rattle.jobs.specs.Planning.{schemaOf}
 
-pub relations-few : (s : List ℕ) (n : ℕ) → lookOver s ≡ Good n → schemaOf s .relations ≤ maxRelations
+pub relations-few : (form : Form) (s : List ℕ) (n : ℕ) → lookOver form s ≡ Good n → schemaOf s .relations ≤ maxRelations
 unfolding schemaOf schema
-relations-few s n e = look-over-good s n e .sections .counts .relations
+relations-few form s n e = look-over-good form s n e .sections .counts .relations
 
-pub moves-few : (s : List ℕ) (n : ℕ) → lookOver s ≡ Good n → schemaOf s .moves ≤ maxMoves
+pub moves-few : (form : Form) (s : List ℕ) (n : ℕ) → lookOver form s ≡ Good n → schemaOf s .moves ≤ maxMoves
 unfolding schemaOf schema
-moves-few s n e = look-over-good s n e .sections .counts .moves
+moves-few form s n e = look-over-good form s n e .sections .counts .moves
 
-pub right-schema : (s : List ℕ) (n : ℕ) → lookOver s ≡ Good n → RightSchema (schemaOf s)
+pub right-schema : (form : Form) (s : List ℕ) (n : ℕ) → lookOver form s ≡ Good n → RightSchema (schemaOf s)
 unfolding schemaOf
-right-schema s n e = schema-right (sectionsOf s) s _ (look-over-good s n e .sections)
+right-schema form s n e = schema-right (sectionsOf s) s _ (look-over-good form s n e .sections)

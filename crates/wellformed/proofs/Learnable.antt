@@ -8,6 +8,7 @@ use Rattle.answer.specs.declared.Answer.the-variants.{Good, Refused}
 use Rattle.truth.specs.Bools.{clash, decide, neither}
 use Rattle.answer.specs.Laws.{bind-good, bind-refused, refuse-met, refuse-unmet}
 use Rattle.terms.specs.Schema.{Schema}
+use Rattle.format.specs.Form.{Form}
 use Rattle.format.specs.Decode.{RecordedStep}
 use Rattle.format.specs.LookOver.{lookOver}
 use Rattle.model.specs.Quantify.{any, below, least}
@@ -50,21 +51,21 @@ conflicting-some sch ts e = go (least (sch .moves) (conflicting (domain sch) ts)
     go (suc a) h = (suc a, refl)
 
 -- the transitions of the book are inconsistent: some has an unbound effect, or some move has a conflict
-abbrev pub inconsistentIn : List ℕ → Bool
-inconsistentIn s = inconsistent (domain (schemaOf s)) (transitionsOf s)
+abbrev pub inconsistentIn : Form → List ℕ → Bool
+inconsistentIn form s = inconsistent (domain (schemaOf s)) (transitionsOf form s)
 
-module _ (s : List ℕ) (n : ℕ) (good : lookOver s ≡ Good n) where
+module _ (form : Form) (s : List ℕ) (n : ℕ) (good : lookOver form s ≡ Good n) where
   -- Where they are consistent, a book of good form is learnable,
-  pub learnable-clean : inconsistentIn s ≡ false → learnable s ≡ Good n
+  pub learnable-clean : inconsistentIn form s ≡ false → learnable form s ≡ Good n
   unfolding learnable inconsistent transitionsOf domain
   learnable-clean clean =
-      let (unbound-free, conflicting-free) = neither (any (unboundEffect (domain (schemaOf s))) (transitionsOf s)) (below (schemaOf s .moves) (λ a. conflicting (domain (schemaOf s)) (transitionsOf s) (suc a))) clean in
-      bind-good (lookOver s) _ n good
-      ∙ bind-good (unboundEffects (schemaOf s) (stepsOfBook s)) _ 0 (unbound-effects-none (schemaOf s) (stepsOfBook s) unbound-free)
-      ∙ bind-good (conflictingMove (schemaOf s) (transitionsOf s)) _ 0 (conflicting-none (schemaOf s) (transitionsOf s) conflicting-free)
+      let (unbound-free, conflicting-free) = neither (any (unboundEffect (domain (schemaOf s))) (transitionsOf form s)) (below (schemaOf s .moves) (λ a. conflicting (domain (schemaOf s)) (transitionsOf form s) (suc a))) clean in
+      bind-good (lookOver form s) _ n good
+      ∙ bind-good (unboundEffects (schemaOf s) (stepsOfBook form s)) _ 0 (unbound-effects-none (schemaOf s) (stepsOfBook form s) unbound-free)
+      ∙ bind-good (conflictingMove (schemaOf s) (transitionsOf form s)) _ 0 (conflicting-none (schemaOf s) (transitionsOf form s) conflicting-free)
 
   -- and with one it is refused with 11 or 12.
-  pub learnable-inconsistent : inconsistentIn s ≡ true → (num p : ℕ) × (learnable s ≡ Refused num p) × ((num ≡ 11) ⊎ (num ≡ 12))
+  pub learnable-inconsistent : inconsistentIn form s ≡ true → (num p : ℕ) × (learnable form s ≡ Refused num p) × ((num ≡ 11) ⊎ (num ≡ 12))
   unfolding learnable inconsistent transitionsOf domain
   learnable-inconsistent e = go (decide (any (unboundEffect D) ts))
     where
@@ -72,18 +73,18 @@ module _ (s : List ℕ) (n : ℕ) (good : lookOver s ≡ Good n) where
       D = domain (schemaOf s)
 
       ts : List Transition
-      ts = transitionsOf s
+      ts = transitionsOf form s
 
-      go : (any (unboundEffect D) ts ≡ true) ⊎ (any (unboundEffect D) ts ≡ false) → (num p : ℕ) × (learnable s ≡ Refused num p) × ((num ≡ 11) ⊎ (num ≡ 12))
+      go : (any (unboundEffect D) ts ≡ true) ⊎ (any (unboundEffect D) ts ≡ false) → (num p : ℕ) × (learnable form s ≡ Refused num p) × ((num ≡ 11) ⊎ (num ≡ 12))
       go (inl h) =
-          let (p, q) = unbound-effects-some (schemaOf s) (stepsOfBook s) h in
-          (11, p, bind-good (lookOver s) _ n good ∙ bind-refused (unboundEffects (schemaOf s) (stepsOfBook s)) _ 11 p q, inl refl)
+          let (p, q) = unbound-effects-some (schemaOf s) (stepsOfBook form s) h in
+          (11, p, bind-good (lookOver form s) _ n good ∙ bind-refused (unboundEffects (schemaOf s) (stepsOfBook form s)) _ 11 p q, inl refl)
       go (inr h) =
           let (p, q) = conflicting-some (schemaOf s) ts (rw h at e) in (
             12,
             p,
-            bind-good (lookOver s) _ n good
-                ∙ bind-good (unboundEffects (schemaOf s) (stepsOfBook s)) _ 0 (unbound-effects-none (schemaOf s) (stepsOfBook s) h)
+            bind-good (lookOver form s) _ n good
+                ∙ bind-good (unboundEffects (schemaOf s) (stepsOfBook form s)) _ 0 (unbound-effects-none (schemaOf s) (stepsOfBook form s) h)
                 ∙ bind-refused (conflictingMove (schemaOf s) ts) _ 12 p q,
             inr refl,
           )

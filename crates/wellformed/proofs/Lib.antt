@@ -1,5 +1,5 @@
 -- Theorems about good form, from bytes up to the hypotheses of `model`. To cite: recorded-right (Records), formed (Formed), order-right and grounded (Orders),
--- fact-of-atom and fact-of-places (Inverse).
+-- fact-of-atom and fact-of-places (Inverse); of states in which facts turn, the laws of Toggled and Turned.
 pub mod Lists
 pub mod States
 pub mod Headers
@@ -10,6 +10,9 @@ pub mod Atoms
 pub mod Inverse
 pub mod Holding
 pub mod Values
+pub mod Sorted
+pub mod Toggled
+pub mod Turned
 pub mod Formed
 pub mod Orders
 pub mod Learnable

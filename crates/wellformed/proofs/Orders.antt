@@ -14,12 +14,12 @@ use Rattle.terms.specs.Schema.{Schema, TypedObjects, typedObjects}
 use Rattle.terms.specs.Typing.{Falling, RightObjects}
 use Rattle.terms.specs.Facts.{factAt, factBad, noFact}
 use Rattle.terms.specs.Steps.{stepAt, stepBad, repeats, isAtom}
-use Rattle.limits.specs.Limits.{maxObjects, entrySize, stepSize}
+use Rattle.limits.specs.Limits.{maxObjects, maxFacts, entrySize, stepSize}
 use Rattle.format.specs.States.{state}
 use Rattle.format.specs.Lists.{listEnd}
 use Rattle.format.specs.Order.{GoalEntry, startCount, goalCount, stepCount, startAt, goalAt, stepsAt, orderObjects, entries, planStep, orderForm, startsFrom, starts, goalFrom, goal, planFrom, plan, entryAt, planStepBad}
 use Rattle.format.proofs.Chains.{chain-parted}
-use Rattle.format.proofs.States.{state-ends}
+use Rattle.format.proofs.States.{list-ends}
 use Rattle.format.proofs.Orders.{plan-step-entry, goal-chain, goal-entry-suits}
 use Rattle.format.proofs.Typing.{order-objects-known}
 use Rattle.format.proofs.OrderForm.{order-good}
@@ -57,7 +57,7 @@ module _ (sch : Schema) (ob : TypedObjects) (typed : RightObjects sch ob) (o : L
       state-right 16 sch ob o end at next good
   starts-right end (suc n) at last e fs (there m) =
       let (next, good, rest) = walk-parted (state 16 sch ob o end) n at last e in
-      let place = state-ends 16 sch ob o end at next good .0 in
+      let place = list-ends maxFacts 16 sch ob o end at next good .0 in
       starts-right end n (listEnd o at) last (subst (λ (x : ℕ). walk (state 16 sch ob o end) n x ≡ Good last) place rest) fs m
 
   -- the facts of good goal entries suit

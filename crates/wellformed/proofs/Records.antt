@@ -7,90 +7,95 @@ use lib.ListN.{length}
 use Rattle.answer.specs.declared.Answer.the-variants.{Good}
 use Rattle.answer.specs.Walk.{walk, walk-parted}
 use Rattle.terms.specs.declared.Sections.{Sections}
+use Rattle.terms.specs.declared.Fact.{Fact}
 use Rattle.terms.specs.Sections.{sectionsOf}
 use Rattle.terms.specs.Schema.{Schema, TypedObjects, schema, typedObjects}
 use Rattle.terms.specs.declared.Object.{Object}
 use Rattle.terms.specs.Typing.{IsKind, Falling, RightObjects}
-use Rattle.terms.specs.Steps.{stepAt}
-use Rattle.limits.specs.Limits.{headSize, stepSize, maxObjects}
-use Rattle.format.specs.States.{state}
-use Rattle.format.specs.Records.{objectsIn, stepsIn, lengthIn, step, objectsOf, recordAt}
+use Rattle.limits.specs.Limits.{stepSize, maxObjects}
+use Rattle.format.specs.Form.{Form, stateAfter}
+use Rattle.format.specs.Records.{objectsIn, stepsIn, lengthIn, step, steps, objectsOf, recordAt}
 use Rattle.format.specs.LookOver.{lookOver}
-use Rattle.format.specs.Lists.{listEnd}
-use Rattle.format.specs.Decode.{RecordedStep, recordedStepsAt, stepsOfRecord, stepsOfRecords, recordedSteps, recordedStep}
-use Rattle.format.proofs.Records.{head-objects, step-good, trajectory-parted, record-good}
+use Rattle.format.specs.Lists.{listAt, listEnd}
+use Rattle.format.specs.Decode.{RecordedStep, firstAt, recordedStepsAt, stepsOfRecord, stepsOfRecords, recordedSteps, recordedStep}
+use Rattle.format.proofs.Records.{head-objects, step-good, steps-parted, record-good}
 use Rattle.format.proofs.Typing.{schema-right, objects-known}
 use Rattle.format.proofs.LookOver.{look-over-good}
 use Rattle.model.specs.Quantify.{Mem, here, there}
 use Rattle.model.proofs.Members.{mem-out}
 use Rattle.jobs.specs.Planning.{schemaOf, stepsOfBook}
-use Rattle.wellformed.specs.Right.{RightStep, Right, RightSomewhere}
-use Rattle.wellformed.proofs.States.{state-right}
+use Rattle.wellformed.specs.Right.{RightState, Right, RightSomewhere}
+use Rattle.wellformed.proofs.States.{state-right, next-right}
 
-module _ (sch : Schema) (ob : TypedObjects) (typed : RightObjects sch ob) (s : List ℕ) (end : ℕ) where
-  -- a step of good form is right, and so is the state after it
-  pub step-parted : (at next : ℕ) → step sch ob s end at ≡ Good next → RightStep sch ob (stepAt s at) × (state 8 sch ob s end (at + stepSize) ≡ Good next)
-  step-parted at next e =
-      let (suits, different, rest) = step-good sch ob s end at next e in
-      (record { typed = typed; suits = suits; different = different }, rest)
+module _ (form : Form) (sch : Schema) (ob : TypedObjects) (typed : RightObjects sch ob) (s : List ℕ) (end : ℕ) where
+  -- a step of good form is right, and so is the state after it if the state before it is
+  pub step-right : (before : List Fact) (at next : ℕ) → step form sch ob s end before at ≡ Good next → RightState sch ob before → Right sch ob (recordedStep form s before at)
+  unfolding recordedStep
+  step-right before at next e right =
+      let (suits, different, rest) = step-good form sch ob s end before at next e in
+      record {
+        step = record { typed = typed; suits = suits; different = different };
+        pre = right;
+        post = next-right form sch ob s end before (at + stepSize) next right rest;
+      }
 
   -- The steps of a good trajectory are right, with the states about them.
-  pub trajectory-right : (n at next last : ℕ) → state 8 sch ob s end at ≡ Good next → walk (step sch ob s end) n next ≡ Good last
-      → (f : RecordedStep) → Mem f (recordedStepsAt s n at) → Right sch ob f
-  unfolding recordedStepsAt recordedStep
-  trajectory-right (suc n) at next last e w f here =
-      let (after, good, rest) = trajectory-parted sch ob s end n at next last e w in
-      let (right, behind) = step-parted (listEnd s at) after good in
-      record { step = right; pre = state-right 8 sch ob s end at next e; post = state-right 8 sch ob s end (listEnd s at + stepSize) after behind }
-  trajectory-right (suc n) at next last e w f (there m) =
-      let (after, good, rest) = trajectory-parted sch ob s end n at next last e w in
-      trajectory-right n (listEnd s at + stepSize) after last (step-parted (listEnd s at) after good .1) rest f m
+  pub steps-right : (n : ℕ) (before : List Fact) (at last : ℕ) → RightState sch ob before → steps form sch ob s end n before at ≡ Good last
+      → (f : RecordedStep) → Mem f (recordedStepsAt form s n before at) → Right sch ob f
+  unfolding recordedStepsAt
+  steps-right (suc n) before at last right e f here =
+      step-right before at _ (steps-parted form sch ob s end n before at last e .0) right
+  steps-right (suc n) before at last right e f (there m) =
+      let (good, rest) = steps-parted form sch ob s end n before at last e in
+      let behind = step-good form sch ob s end before at _ good .2 in
+      steps-right n (stateAfter form s before (at + stepSize)) (listEnd s (at + stepSize)) last (next-right form sch ob s end before (at + stepSize) _ right behind) rest f m
 
-module _ (h : Sections) (s : List ℕ) (fall : Falling (schema h s)) where
+module _ (form : Form) (h : Sections) (s : List ℕ) (fall : Falling (schema h s)) where
   -- A record of good form ends where its length says, has at most 16 objects, and every step recorded in it is right over them.
-  pub record-right : (at next : ℕ) → recordAt h s at ≡ Good next
-      → (next ≡ at + lengthIn s at) × (typedObjects (objectsOf s at) s .count ≤ maxObjects) × ((f : RecordedStep) → Mem f (stepsOfRecord s at) → Right (schema h s) (typedObjects (objectsOf s at) s) f)
+  pub record-right : (at next : ℕ) → recordAt form h s at ≡ Good next
+      → (next ≡ at + lengthIn s at) × (typedObjects (objectsOf s at) s .count ≤ maxObjects) × ((f : RecordedStep) → Mem f (stepsOfRecord form s at) → Right (schema h s) (typedObjects (objectsOf s at) s) f)
   unfolding stepsOfRecord typedObjects objectsOf schema
   record-right at next e =
-      let g = record-good h s at next e in
+      let g = record-good form h s at next e in
       let known : (x : Object) → 1 ≤ x .0 → x .0 ≤ objectsIn s at → IsKind (schema h s) (typedObjects (objectsOf s at) s .kind x) =
       λ x low high. objects-known s (h .kinds) _ _ _ _ (g .objects) (x .0) low high in (
         g .end,
         head-objects s at (g .head),
-        trajectory-right (schema h s) (typedObjects (objectsOf s at) s) (record { falling = fall; known = known }) s (at + lengthIn s at) (stepsIn s at) (at + headSize + objectsIn s at) (g .after) (g .last) (g .start) (g .steps),
+        steps-right form (schema h s) (typedObjects (objectsOf s at) s) (record { falling = fall; known = known }) s (at + lengthIn s at) (stepsIn s at) (listAt s (firstAt s at)) (listEnd s (firstAt s at)) (g .last)
+            (state-right 8 _ _ s _ _ _ (g .start)) (g .steps),
       )
 
   -- A step that is recorded in good records is recorded in one of them.
-  records-recorded : (n at last : ℕ) → walk (recordAt h s) n at ≡ Good last → {f : RecordedStep} → Mem f (stepsOfRecords s n at)
-      → (from next : ℕ) × (recordAt h s from ≡ Good next) × Mem f (stepsOfRecord s from)
+  records-recorded : (n at last : ℕ) → walk (recordAt form h s) n at ≡ Good last → {f : RecordedStep} → Mem f (stepsOfRecords form s n at)
+      → (from next : ℕ) × (recordAt form h s from ≡ Good next) × Mem f (stepsOfRecord form s from)
   unfolding stepsOfRecords
   records-recorded (suc n) at last e {f} m =
-      let (next, good, rest) = walk-parted (recordAt h s) n at last e in
+      let (next, good, rest) = walk-parted (recordAt form h s) n at last e in
       let place = record-right at next good .0 in
-      go next good (mem-out (stepsOfRecord s at) m)
-      (λ k. records-recorded n (at + lengthIn s at) last (subst (λ (x : ℕ). walk (recordAt h s) n x ≡ Good last) place rest) k)
+      go next good (mem-out (stepsOfRecord form s at) m)
+      (λ k. records-recorded n (at + lengthIn s at) last (subst (λ (x : ℕ). walk (recordAt form h s) n x ≡ Good last) place rest) k)
     where
-      go : (next : ℕ) → recordAt h s at ≡ Good next → Mem f (stepsOfRecord s at) ⊎ Mem f (stepsOfRecords s n (at + lengthIn s at))
-          → (Mem f (stepsOfRecords s n (at + lengthIn s at)) → (from next : ℕ) × (recordAt h s from ≡ Good next) × Mem f (stepsOfRecord s from))
-          → (from next : ℕ) × (recordAt h s from ≡ Good next) × Mem f (stepsOfRecord s from)
+      go : (next : ℕ) → recordAt form h s at ≡ Good next → Mem f (stepsOfRecord form s at) ⊎ Mem f (stepsOfRecords form s n (at + lengthIn s at))
+          → (Mem f (stepsOfRecords form s n (at + lengthIn s at)) → (from next : ℕ) × (recordAt form h s from ≡ Good next) × Mem f (stepsOfRecord form s from))
+          → (from next : ℕ) × (recordAt form h s from ≡ Good next) × Mem f (stepsOfRecord form s from)
       go next good (inl k) deeper = (at, next, good, k)
       go next good (inr k) deeper = deeper k
 
-module _ (s : List ℕ) (n : ℕ) (e : lookOver s ≡ Good n) where
+module _ (form : Form) (s : List ℕ) (n : ℕ) (e : lookOver form s ≡ Good n) where
   falls : Falling (schema (sectionsOf s) s)
-  falls = schema-right (sectionsOf s) s _ (look-over-good s n e .sections) .falling
+  falls = schema-right (sectionsOf s) s _ (look-over-good form s n e .sections) .falling
 
   -- Every step that is recorded in a book of good form is recorded in a good record,
-  pub recorded-somewhere : {f : RecordedStep} → Mem f (stepsOfBook s) → (from next : ℕ) × (recordAt (sectionsOf s) s from ≡ Good next) × Mem f (stepsOfRecord s from)
+  pub recorded-somewhere : {f : RecordedStep} → Mem f (stepsOfBook form s) → (from next : ℕ) × (recordAt form (sectionsOf s) s from ≡ Good next) × Mem f (stepsOfRecord form s from)
   unfolding stepsOfBook recordedSteps
   recorded-somewhere m =
       let h : Sections = sectionsOf s in
-      records-recorded h s falls (h .records .count) (h .records .at) (length s) (look-over-good s n e .records) m
+      records-recorded form h s falls (h .records .count) (h .records .at) (length s) (look-over-good form s n e .records) m
 
   -- and is right, over typed objects, at most 16 of them.
-  pub recorded-right : (f : RecordedStep) → Mem f (stepsOfBook s) → RightSomewhere (schemaOf s) f
+  pub recorded-right : (f : RecordedStep) → Mem f (stepsOfBook form s) → RightSomewhere (schemaOf s) f
   unfolding schemaOf
   recorded-right f m =
       let (from, next, good, k) = recorded-somewhere m in
-      let (place, few, right) = record-right (sectionsOf s) s falls from next good in
+      let (place, few, right) = record-right form (sectionsOf s) s falls from next good in
       (typedObjects (objectsOf s from) s, few, right f k)

@@ -1,7 +1,7 @@
 -- Facts and states of good form: each fact suits, and they strictly increase.
-use Prim.Native.Nat.{ℕ, zero, suc, _+_}
+use Prim.Native.Nat.{ℕ, zero, suc, _+_, _≤_}
 use mathlib.Core.Path.{_≡_, refl, ap}
-use mathlib.Core.Bool.{true, false}
+use mathlib.Core.Bool.{true, false, cond}
 use mathlib.Core.List.{List}
 use native.Mathlib.Omega.{arith}
 use lib.ListN.{length}
@@ -10,13 +10,16 @@ use Rattle.input.specs.Bytes.{two}
 use Rattle.terms.specs.declared.Fact.{Fact}
 use Rattle.terms.specs.Schema.{Schema, TypedObjects}
 use Rattle.terms.specs.Facts.{factAt, factBad, precedes, noFact}
-use Rattle.limits.specs.Limits.{factSize}
-use Rattle.format.specs.States.{facts, state}
+use Rattle.limits.specs.Limits.{factSize, maxFacts}
+use Rattle.format.specs.Toggled.{toggled}
+use Rattle.format.specs.Form.{Form, mostListed, stateAfter}
+use Rattle.format.specs.States.{facts, list, state, nextState}
 use Rattle.format.specs.Lists.{factsAt, listAt}
 use Rattle.format.proofs.Chains.{chain-parted}
-use Rattle.format.proofs.States.{fact-good, facts-chain, state-good}
+use Rattle.format.proofs.States.{fact-good, facts-chain, list-good, next-good}
 use Rattle.model.specs.Quantify.{Mem, here, there}
 use Rattle.wellformed.specs.Right.{Increasing, RightState}
+use Rattle.wellformed.proofs.Toggled.{toggled-right}
 
 pub length-facts : (s : List ℕ) (n at : ℕ) → length (factsAt s n at) ≡ n
 unfolding factsAt
@@ -47,13 +50,38 @@ module _ (num : ℕ) (sch : Schema) (ob : TypedObjects) (s : List ℕ) (end : �
       let (bad, order, rest) = facts-parted n last at next e in
       (order, facts-increase n (factAt s at) (at + factSize) next rest)
 
--- A state of good form is right.
+-- A list of good form has facts that suit, strictly increasing,
+module _ (most num : ℕ) (sch : Schema) (ob : TypedObjects) (s : List ℕ) (end at next : ℕ) (good : list num most sch ob s end at ≡ Good next) where
+  pub list-suits : (f : Fact) → Mem f (listAt s at) → factBad sch ob f ≡ false
+  unfolding listAt
+  list-suits = facts-suit num sch ob s end (two s at) noFact (at + 2) next (list-good most num sch ob s end at next good .2)
+
+  pub list-increasing : Increasing noFact (listAt s at)
+  unfolding listAt
+  list-increasing = facts-increase num sch ob s end (two s at) noFact (at + 2) next (list-good most num sch ob s end at next good .2)
+
+  pub list-few : length (listAt s at) ≤ most
+  unfolding listAt
+  list-few = omega (arith, list-good most num sch ob s end at next good .1, length-facts s (two s at) (at + 2))
+
+-- and a state of good form is right.
 pub state-right : (num : ℕ) (sch : Schema) (ob : TypedObjects) (s : List ℕ) (end at next : ℕ) → state num sch ob s end at ≡ Good next → RightState sch ob (listAt s at)
-unfolding listAt
 state-right num sch ob s end at next good =
-    let (reach, few, rest) = state-good num sch ob s end at next good in
     record {
-      suits = facts-suit num sch ob s end (two s at) noFact (at + 2) next rest;
-      increasing = facts-increase num sch ob s end (two s at) noFact (at + 2) next rest;
-      few = omega (arith, few, length-facts s (two s at) (at + 2));
+      suits = list-suits maxFacts num sch ob s end at next good;
+      increasing = list-increasing maxFacts num sch ob s end at next good;
+      few = list-few maxFacts num sch ob s end at next good;
     }
+
+-- So is a state after a step, in either form, if the state before it is.
+pub next-right : (form : Form) (sch : Schema) (ob : TypedObjects) (s : List ℕ) (end : ℕ) (before : List Fact) (at next : ℕ)
+    → RightState sch ob before → nextState form sch ob s end before at ≡ Good next → RightState sch ob (stateAfter form s before at)
+unfolding stateAfter
+next-right form sch ob s end before at next right good =
+    let (list, few) = next-good form sch ob s end before at next good in
+    go form (list-suits (mostListed form) 8 sch ob s end at next list) (list-increasing (mostListed form) 8 sch ob s end at next list) few
+  where
+    go : (form : Form) → ((f : Fact) → Mem f (listAt s at) → factBad sch ob f ≡ false) → Increasing noFact (listAt s at)
+        → length (cond form (toggled before (listAt s at)) (listAt s at)) ≤ maxFacts → RightState sch ob (cond form (toggled before (listAt s at)) (listAt s at))
+    go false suits order few = record { suits = suits; increasing = order; few = few }
+    go true suits order few = toggled-right sch ob before (listAt s at) right suits order few

@@ -1,5 +1,6 @@
 //! Compares the built static library with this implementation, and with the
-//! judge on tiny halls and on those in which over 256 facts hold.
+//! judge on tiny halls and on those in which over 256 facts hold; books in both
+//! forms.
 //!
 //! `compare [seed] [count]`; exit status 1 on any difference or when something
 //! was met too seldom, 2 without a library to compare with.
@@ -36,7 +37,9 @@ fn main() -> ExitCode {
     for job in Job::ALL {
         // About half of the books learn.
         let factor = if job == Job::Learn { 2 } else { 1 };
-        good &= compare_job(&library, job, Run { seed, count: factor * count });
+        for &form in job.forms() {
+            good &= compare_job(&library, job, form, Run { seed, count: factor * count });
+        }
     }
     let tiny = Run { seed, count: count / 3 };
     good &= compare_judge("tiny halls", tiny, |run| judge(run, &library));
@@ -56,15 +59,14 @@ fn main() -> ExitCode {
 fn compare_job(
     library: &library::Library,
     job: second::calls::Job,
+    form: second::calls::Form,
     run: second::compare::Run,
 ) -> bool {
     use second::calls::Job;
 
-    let call = job.name();
+    let call = format!("{}, {} books", job.name(), form.name());
     let started = std::time::Instant::now();
-    let outcome =
-        second::compare::job(job, run, |book, other, output| job.run(library, book, other, output));
-    match outcome {
+    match second::compare::job(job, form, run, library) {
         Ok(tally) => {
             let seconds = started.elapsed().as_secs_f64();
             println!("{call}: no difference in {} cases, {seconds:.1} s", run.count);

@@ -1,4 +1,4 @@
-//! Runs the two built programs and compares what they print.
+//! Runs the two built programs, which read full books, and compares what they print.
 //!
 //! `programs FOLDER`, the folder having `rules` and `plan`. What is expected
 //! comes from the test vectors and, for listings and drawn cases, from
@@ -9,7 +9,7 @@ use std::io;
 use std::path::{Path, PathBuf};
 use std::process::{Command, ExitCode, Stdio};
 
-use second::calls::Job;
+use second::calls::{Form, Job};
 use second::gen::stream::JobStream;
 use second::limits::END_SHEET_LENGTH;
 use second::vectors::Vector;
@@ -57,7 +57,7 @@ fn compare(folder: &Path, work: &Path) -> io::Result<(usize, usize)> {
     let folder = folder.canonicalize()?;
     let (rules, plan) = (folder.join("rules"), folder.join("plan"));
     let mut programs = Programs { rules, plan, work: work.to_path_buf(), runs: 0, differ: 0 };
-    for vector in vectors::all() {
+    for vector in vectors::all().into_iter().filter(|vector| vector.form == Form::Full.number()) {
         let name = &vector.name;
         if vector.jobs.contains(&Job::Learn) && vector.answer.number != 13 {
             programs.rules(name, &vector.book, &rules_text(vector.answer, &vector.book))?;
@@ -67,7 +67,7 @@ fn compare(folder: &Path, work: &Path) -> io::Result<(usize, usize)> {
             programs.plan(name, files, &plan_text(&vector))?;
         }
     }
-    let [books, orders] = [Job::Learn, Job::Check].map(|job| JobStream::new(job, 1));
+    let [books, orders] = [Job::Learn, Job::Check].map(|job| JobStream::new(job, Form::Full, 1));
     for index in 0..DRAWN {
         let case = books.case(index);
         programs.rules("drawn", &case.book, &listing::rules(&case.book))?;

@@ -39,8 +39,8 @@ fn run(file: &str) -> ExitCode {
         }
     };
     let mut good = true;
-    for (job, number) in vectors::missing(&read) {
-        println!("no vector for {} with number {number}", job.name());
+    for (job, form, number) in vectors::missing(&read) {
+        println!("no vector for {} of a {} book with number {number}", job.name(), form.name());
         good = false;
     }
     let mut report = |who: &str, (runs, failures): (usize, Vec<vectors::Failure>)| {

@@ -13,27 +13,35 @@ use crate::Second;
 pub struct Capped;
 
 impl Calls for Capped {
-    fn look_over(&self, book: &[u8]) -> u64 {
-        Second.look_over(book)
+    fn look_over(&self, book: &[u8], form: u32) -> u64 {
+        Second.look_over(book, form)
     }
 
-    fn learn(&self, book: &[u8], sheet: &mut [u8]) -> u64 {
-        Second.learn(book, sheet)
+    fn learn(&self, book: &[u8], form: u32, sheet: &mut [u8]) -> u64 {
+        Second.learn(book, form, sheet)
     }
 
-    fn check(&self, book: &[u8], order: &[u8], end: &mut [u8]) -> u64 {
-        let right = Second.check(book, order, &mut vec![0; end.len()]);
+    fn check(&self, book: &[u8], form: u32, order: &[u8], end: &mut [u8]) -> u64 {
+        let right = Second.check(book, form, order, &mut vec![0; end.len()]);
         // The rows before these are met before the plan is executed.
         if !matches!(unpacked(right).number, 0 | 19 | 20) {
             return right;
         }
         let mut rules = vec![0; RULES_LENGTH * usize::from(book[5])];
-        Second.learn(book, &mut rules);
+        Second.learn(book, form, &mut rules);
         execute(book, order, &rules, end).packed()
     }
 
-    fn add(&self, book: &[u8], record: &[u8], out: &mut [u8]) -> u64 {
-        Second.add(book, record, out)
+    fn add(&self, book: &[u8], form: u32, record: &[u8], out: &mut [u8]) -> u64 {
+        Second.add(book, form, record, out)
+    }
+
+    fn to_short(&self, book: &[u8], out: &mut [u8]) -> u64 {
+        Second.to_short(book, out)
+    }
+
+    fn to_full(&self, book: &[u8], out: &mut [u8]) -> u64 {
+        Second.to_full(book, out)
     }
 }
 

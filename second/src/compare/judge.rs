@@ -1,13 +1,16 @@
 //! Demand 3 on tiny halls and on crowded ones: learning and checking give the
-//! judge's verdict, from each start alone and from all of them.
+//! judge's verdict, from each start alone and from all of them, in both forms of a
+//! book.
 //!
 //! The judge enumerates the action models; nothing of this implementation's
 //! learning or checking is asked.
 
+use std::fmt;
+
 use super::verdicts::{Decision, Kind, Verdicts, CROWDED, TINY};
 use super::Run;
 use crate::answer::{Answer, Refusal};
-use crate::calls::{unpacked, Calls};
+use crate::calls::{unpacked, Calls, Form};
 use crate::gen::order::Plan;
 use crate::gen::{crowded_hall, tiny, OrderDraft, Rng};
 use crate::judge::{self, Judgement, Verdict};
@@ -39,40 +42,78 @@ fn compare_halls(
     let mut met = Verdicts::of_kinds(kinds);
     for index in 0..run.count {
         let plan = draw(&mut Rng::of_case(run.seed, index));
-        let (book, order) = (plan.book.bytes(), plan.order.bytes());
-        let judgements = judge::judge(&book, &order);
-        let given = Given::by(calls, &book, &order, plan.book.moves.len());
-        let agrees = match judgements.first() {
-            Some(Judgement { verdict: Verdict::Impossible, .. }) => {
-                given.impossible() && impossible_anyhow(calls, &book, given.end_answer)
-            }
-            _ => {
-                given.learned == Answer::success(plan.book.steps())
-                    && given.checks_as(&judgements)
-                    && agrees_alone(calls, &plan, &judgements)
-            }
-        };
-        if !agrees {
+        let halls = Form::BOTH.map(|form| Hall::new(calls, &plan, form));
+        // He is shown each form of a book in turn; the calls are asked about both.
+        let shown = &halls[index % halls.len()];
+        let judgements = judge::judge(&shown.book, shown.form, &plan.order.bytes());
+        let differs = |hall: &&Hall| !hall.agrees(calls, &plan, &judgements);
+        if let Some(hall) = halls.iter().find(differs) {
             let verdicts: Vec<&Verdict> = judgements.iter().map(|of| &of.verdict).collect();
-            return Err(format!(
-                "seed {} hall {index}: the judge says {verdicts:?}; learned {}, checked {}\n\
-                 book {book:02x?}\norder {order:02x?}",
-                run.seed, given.learned, given.end_answer
-            ));
+            return Err(format!("seed {} hall {index}: {hall}, {verdicts:?}", run.seed));
+        }
+        if halls[0].given.sheet != halls[1].given.sheet {
+            return Err(format!("seed {} hall {index}: two sheets for one book", run.seed));
         }
         met.count(Some(&Decision::of(&judgements)).filter(|_| is_counted(&judgements)));
     }
     Ok(met)
 }
 
-/// Demand 3 is said of each start alone.
-fn agrees_alone(calls: &impl Calls, plan: &Plan, judgements: &[Judgement]) -> bool {
-    let (book, moves) = (plan.book.bytes(), plan.book.moves.len());
-    judgements.iter().zip(&plan.order.starts).all(|(judgement, start)| {
-        let order = OrderDraft { starts: vec![start.clone()], ..plan.order.clone() };
-        let given = Given::by(calls, &book, &order.bytes(), moves);
-        given.checks_as(std::slice::from_ref(judgement))
-    })
+/// A hall in one form of its book, and what the calls say of it.
+struct Hall {
+    form: Form,
+    book: Vec<u8>,
+    order: Vec<u8>,
+    given: Given,
+}
+
+impl Hall {
+    fn new(calls: &impl Calls, plan: &Plan, form: Form) -> Self {
+        let (book, order) = (plan.book.in_form(form).bytes(), plan.order.bytes());
+        let given = Given::by(calls, &book, form, &order, plan.book.moves.len());
+        Self { form, book, order, given }
+    }
+
+    fn agrees(&self, calls: &impl Calls, plan: &Plan, judgements: &[Judgement]) -> bool {
+        let given = &self.given;
+        match judgements.first() {
+            Some(Judgement { verdict: Verdict::Impossible, .. }) => {
+                given.impossible() && self.impossible_anyhow(calls, given.end_answer)
+            }
+            _ => {
+                given.learned == Answer::success(plan.book.steps())
+                    && given.checks_as(judgements)
+                    && self.agrees_alone(calls, plan, judgements)
+            }
+        }
+    }
+
+    /// Demand 3 is said of each start alone.
+    fn agrees_alone(&self, calls: &impl Calls, plan: &Plan, judgements: &[Judgement]) -> bool {
+        judgements.iter().zip(&plan.order.starts).all(|(judgement, start)| {
+            let order = OrderDraft { starts: vec![start.clone()], ..plan.order.clone() }.bytes();
+            let given = Given::by(calls, &self.book, self.form, &order, plan.book.moves.len());
+            given.checks_as(std::slice::from_ref(judgement))
+        })
+    }
+
+    /// An impossible book is so whatever order and output come with it.
+    fn impossible_anyhow(&self, calls: &impl Calls, answer: Answer) -> bool {
+        let (book, form) = (&self.book, self.form.number());
+        let mut wrong_length = [FILL; 3];
+        unpacked(calls.learn(book, form, &mut wrong_length)) == answer
+            && unpacked(calls.check(book, form, &[], &mut wrong_length)) == answer
+            && unpacked(calls.check(book, form, &[0xff; 20], &mut [])) == answer
+            && untouched(&wrong_length)
+    }
+}
+
+impl fmt::Display for Hall {
+    fn fmt(&self, f: &mut fmt::Formatter<'_>) -> fmt::Result {
+        let Self { form, book, order, given } = self;
+        writeln!(f, "learned {}, checked {}", given.learned, given.end_answer)?;
+        write!(f, "{} book {book:02x?}\norder {order:02x?}\nthe judge says", form.name())
+    }
 }
 
 /// What the two calls gave.
@@ -84,11 +125,11 @@ struct Given {
 }
 
 impl Given {
-    fn by(calls: &impl Calls, book: &[u8], order: &[u8], moves: usize) -> Self {
+    fn by(calls: &impl Calls, book: &[u8], form: Form, order: &[u8], moves: usize) -> Self {
         let mut sheet = vec![FILL; RULES_LENGTH * moves];
         let mut end = vec![FILL; END_SHEET_LENGTH];
-        let learned = unpacked(calls.learn(book, &mut sheet));
-        let end_answer = unpacked(calls.check(book, order, &mut end));
+        let learned = unpacked(calls.learn(book, form.number(), &mut sheet));
+        let end_answer = unpacked(calls.check(book, form.number(), order, &mut end));
         Self { learned, sheet, end_answer, end }
     }
 
@@ -132,15 +173,6 @@ impl Given {
 
 fn untouched(lent: &[u8]) -> bool {
     lent.iter().all(|&byte| byte == FILL)
-}
-
-/// An impossible book is so whatever order and output come with it.
-fn impossible_anyhow(calls: &impl Calls, book: &[u8], answer: Answer) -> bool {
-    let mut wrong_length = [FILL; 3];
-    unpacked(calls.learn(book, &mut wrong_length)) == answer
-        && unpacked(calls.check(book, &[], &mut wrong_length)) == answer
-        && unpacked(calls.check(book, &[0xff; 20], &mut [])) == answer
-        && untouched(&wrong_length)
 }
 
 /// The end sheet with just these facts.

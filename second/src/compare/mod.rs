@@ -1,18 +1,21 @@
 //! Compares this implementation with another one, call by call, and another
 //! one with the judge.
 //!
-//! The other one is given as functions, so that the same runs serve the built
+//! The other one is given by its calls, so that the same runs serve the built
 //! library (the bin `compare`) and deliberately wrong ones (the tests).
 
 mod alone;
+mod by;
 mod capped;
 mod job;
 mod judge;
 mod lent;
 mod report;
 mod tally;
+mod twins;
 mod verdicts;
 
+pub use by::By;
 pub use capped::Capped;
 pub use job::job;
 pub use judge::{judge, judge_crowded};

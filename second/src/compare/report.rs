@@ -26,6 +26,8 @@ pub struct Difference {
     pub packed: u64,
     /// What else differs, such as a lent byte.
     pub note: String,
+    /// What the call was told of the book.
+    pub form: u32,
     /// The inputs of the call, by name.
     pub inputs: Vec<(&'static str, Vec<u8>)>,
 }
@@ -38,6 +40,7 @@ pub struct Compared {
     pub packed: u64,
     /// What differs beside the answers, such as a lent byte; else empty.
     pub note: String,
+    pub form: u32,
     pub inputs: Vec<(&'static str, Vec<u8>)>,
 }
 
@@ -61,8 +64,9 @@ pub fn compare_all(
             Some(aimed) if missed => format!("the generator aimed at {aimed}; {}", compared.note),
             _ => compared.note,
         };
-        let Compared { label, expected, packed, inputs, .. } = compared;
-        let found = Difference { run, differing, index, label, expected, packed, note, inputs };
+        let Compared { label, expected, packed, form, inputs, .. } = compared;
+        let found =
+            Difference { run, differing, index, label, expected, packed, note, form, inputs };
         if shortest.as_ref().is_none_or(|shortest| found.length() < shortest.length()) {
             shortest = Some(Box::new(found));
         }
@@ -86,7 +90,7 @@ impl fmt::Display for Difference {
     fn fmt(&self, f: &mut fmt::Formatter<'_>) -> fmt::Result {
         let Run { seed, count } = self.run;
         writeln!(f, "{} of {count} cases differ; the shortest one:", self.differing)?;
-        writeln!(f, "seed {seed} case {} ({})", self.index, self.label)?;
+        writeln!(f, "seed {seed} case {} ({}), form {}", self.index, self.label, self.form)?;
         let expected = self.expected;
         writeln!(f, "this implementation: {expected} (packed {:#018x})", expected.packed())?;
         let other = unpacked(self.packed);

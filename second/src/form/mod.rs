@@ -1,4 +1,5 @@
-//! The form of books and orders: rows 1 to 10, 21, 22 and 14 to 18.
+//! The form of books and orders: rows 1 to 10, 21, 22 and 14 to 18. All that reads
+//! a book is told whether it is a full or a short one.
 
 mod hall;
 mod header;
@@ -13,8 +14,10 @@ pub use header::Header;
 pub use order::Order;
 pub use record::{walk_records, Observer, Transition};
 pub use signature::{Move, Relation, Signature};
+pub use state::States;
 
 use crate::answer::Answer;
+use crate::calls::Form;
 
 /// What of a good book does not need its records read again.
 pub struct Front {
@@ -30,18 +33,18 @@ pub struct Front {
 /// The observer sees transitions of records before a fault that a later row
 /// or a later record may still bring, so it must act on nothing but its own
 /// memory until this returns.
-pub fn walk(book: &[u8], observer: &mut impl Observer) -> Result<Front, Answer> {
+pub fn walk(book: &[u8], form: Form, observer: &mut impl Observer) -> Result<Front, Answer> {
     let header = Header::read(book)?;
     let signature = Signature::read(book, &header)?;
     observer.begin(&signature);
-    let steps = walk_records(book, &signature, header.records_at, header.records, observer)?;
+    let steps = walk_records(book, form, &signature, header.records_at, header.records, observer)?;
     Ok(Front { header, signature, steps })
 }
 
 /// Rows 1 to 10 and 21; success has the count of all steps as its place.
 #[must_use]
-pub fn look_over(book: &[u8]) -> Answer {
-    walk(book, &mut ()).map_or_else(|refusal| refusal, |front| Answer::success(front.steps))
+pub fn look_over(book: &[u8], form: Form) -> Answer {
+    walk(book, form, &mut ()).map_or_else(|refusal| refusal, |front| Answer::success(front.steps))
 }
 
 /// A two-byte number, high byte first.

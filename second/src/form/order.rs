@@ -1,12 +1,12 @@
 //! The order of one plan: rows 14 to 18, and 22.
 
 use super::hall::fact_key;
-use super::state::read_state;
+use super::state::read_facts;
 use super::{two_bytes, Hall, Signature};
 use crate::answer::{Answer, Refusal};
 use crate::limits::{
-    COUNT_LENGTH, FACT_LENGTH, GOAL_LENGTH, GOAL_LIMIT, HEADER_LENGTH, OBJECT_LIMIT, START_LIMIT,
-    STEP_LENGTH, STEP_LIMIT,
+    COUNT_LENGTH, FACT_LENGTH, FACT_LIMIT, GOAL_LENGTH, GOAL_LIMIT, HEADER_LENGTH, OBJECT_LIMIT,
+    START_LIMIT, STEP_LENGTH, STEP_LIMIT,
 };
 
 /// An order of good form, by the bytes of its sections.
@@ -97,7 +97,7 @@ impl<'a> Order<'a> {
 fn check_starts(bytes: &[u8], start_at: usize, count: usize, hall: &Hall) -> Result<(), Answer> {
     let mut cursor = start_at;
     for _ in 0..count {
-        read_state(bytes, hall, &mut cursor, Refusal::Start)?;
+        read_facts(bytes, hall, FACT_LIMIT, &mut cursor, Refusal::Start)?;
     }
     if cursor < bytes.len() {
         return Err(Refusal::Start.at(cursor));

@@ -1,37 +1,35 @@
 //! Records (trajectories), walked in file order: rows 6 to 10.
 
-use super::state::read_state;
+use super::state::{read_facts, State, States};
 use super::{two_bytes, Hall, Signature};
 use crate::answer::{Answer, Refusal};
-use crate::limits::{HEAD_LENGTH, OBJECT_LIMIT, STEP_LENGTH, STEP_LIMIT};
+use crate::calls::Form;
+use crate::limits::{FACT_LIMIT, HEAD_LENGTH, OBJECT_LIMIT, STEP_LENGTH, STEP_LIMIT, TURN_LIMIT};
 
-/// A step with the facts of the states before and after it, all of good form.
+/// A step with the states before and after it, all of good form.
 pub struct Transition<'a> {
     pub step_at: usize,
     pub step: &'a [u8],
-    pub before: &'a [u8],
-    pub after: &'a [u8],
+    pub states: States<'a>,
 }
 
 /// What a walk shows its transitions to.
 pub trait Observer {
     /// Before the first record.
-    fn begin(&mut self, signature: &Signature);
-    fn observe(&mut self, transition: &Transition<'_>);
+    fn begin(&mut self, _: &Signature) {}
+    /// A record: its bytes up to the facts of its first state, and these.
+    fn begin_record(&mut self, _front: &[u8], _first: &[u8]) {}
+    fn observe(&mut self, _: &Transition<'_>) {}
+    fn end_record(&mut self) {}
 }
 
 /// Looking over needs nothing of the transitions.
-impl Observer for () {
-    #[inline]
-    fn begin(&mut self, _: &Signature) {}
-
-    #[inline]
-    fn observe(&mut self, _: &Transition<'_>) {}
-}
+impl Observer for () {}
 
 /// Walks `count` records from `at` to the book's end; answers the step total.
 pub fn walk_records(
     book: &[u8],
+    form: Form,
     signature: &Signature,
     mut at: usize,
     count: usize,
@@ -40,7 +38,7 @@ pub fn walk_records(
     let mut total = 0;
     for _ in 0..count {
         let record = Record::head(book, at)?;
-        record.walk(signature, observer)?;
+        record.walk(form, signature, observer)?;
         at = record.bytes.len();
         total += record.steps;
     }
@@ -78,20 +76,29 @@ impl<'a> Record<'a> {
     }
 
     /// Objects, then state, step, state, and so on, then the tail.
-    fn walk(&self, signature: &Signature, observer: &mut impl Observer) -> Result<(), Answer> {
+    fn walk(
+        &self,
+        form: Form,
+        signature: &Signature,
+        observer: &mut impl Observer,
+    ) -> Result<(), Answer> {
         let mut cursor = self.at + HEAD_LENGTH;
         let hall = self.hall(signature, &mut cursor)?;
-        let mut before = self.state(&hall, &mut cursor)?;
+        let first = self.facts(&hall, FACT_LIMIT, &mut cursor)?;
+        observer.begin_record(&self.bytes[self.at..cursor - first.len()], first);
+        let mut state = State::first(form, first);
         for _ in 0..self.steps {
             let step_at = cursor;
             let step = self.step(signature, &hall, &mut cursor)?;
-            let after = self.state(&hall, &mut cursor)?;
-            observer.observe(&Transition { step_at, step, before, after });
-            before = after;
+            let count_at = cursor;
+            let list = self.facts(&hall, list_limit(form), &mut cursor)?;
+            let states = state.next(list).ok_or(Refusal::State.at(count_at))?;
+            observer.observe(&Transition { step_at, step, states });
         }
         if cursor < self.bytes.len() {
             return Err(Refusal::Record.at(self.at));
         }
+        observer.end_record();
         Ok(())
     }
 
@@ -111,9 +118,9 @@ impl<'a> Record<'a> {
         Ok(Hall::new(signature, kinds))
     }
 
-    /// Row 8; answers the bytes of the state's facts.
-    fn state(&self, hall: &Hall, cursor: &mut usize) -> Result<&'a [u8], Answer> {
-        read_state(self.bytes, hall, cursor, Refusal::State)
+    /// Row 8 but for the state that a list leaves; answers the bytes of the facts.
+    fn facts(&self, hall: &Hall, limit: usize, cursor: &mut usize) -> Result<&'a [u8], Answer> {
+        read_facts(self.bytes, hall, limit, cursor, Refusal::State)
     }
 
     /// Rows 9 and 10; answers the step's bytes.
@@ -128,5 +135,13 @@ impl<'a> Record<'a> {
         hall.check_step(signature, step).map_err(|refusal| refusal.at(at))?;
         *cursor += STEP_LENGTH;
         Ok(step)
+    }
+}
+
+/// The most facts that are listed for a state after a step.
+const fn list_limit(form: Form) -> usize {
+    match form {
+        Form::Full => FACT_LIMIT,
+        Form::Short => TURN_LIMIT,
     }
 }

@@ -1,13 +1,15 @@
-//! Books with a record to add and an output for the new book.
+//! Books of one form with a record to add, of the same form, and an output for the
+//! new book.
 
 use super::aim::{Aim, Label};
 use super::draft::{BookDraft, RecordDraft};
 use super::hall::Dynamics;
 use super::mixed::BookStream;
 use super::rng::Rng;
-use super::{book, fullbook, record_faults, JobCase};
+use super::twin::told;
+use super::{book, fullbook, record_faults, turns, JobCase};
 use crate::answer::{Answer, Refusal};
-use crate::calls::Job;
+use crate::calls::{Form, Job};
 
 pub struct AddStream {
     books: BookStream,
@@ -17,6 +19,8 @@ pub struct AddStream {
 
 const DAMAGED_BOOK: &str = "old book damaged";
 const DAMAGED_RECORD: &str = "record damaged";
+/// Of a short book alone.
+const TURNS: &str = "record at a limit of turns, or beyond";
 
 impl AddStream {
     /// What only adding meets, and adding that succeeds.
@@ -32,9 +36,9 @@ impl AddStream {
     ];
 
     #[must_use]
-    pub fn new(seed: u64) -> Self {
+    pub fn new(form: Form, seed: u64) -> Self {
         // Faults of the record count and of the book's end are not the record's.
-        let mut record_aims = record_faults::aims();
+        let mut record_aims = record_faults::aims(form);
         record_aims.retain(|aim| {
             !matches!(
                 aim.label.what,
@@ -45,13 +49,15 @@ impl AddStream {
                     | "of a record, the next one taken in"
             )
         });
-        Self { books: BookStream::new(seed), record_aims, seed }
+        Self { books: BookStream::new(form, seed), record_aims, seed }
     }
 
     #[must_use]
     pub fn labels(&self) -> Vec<Label> {
         let label = |what| Label { part: "add", what };
-        [DAMAGED_BOOK, DAMAGED_RECORD].into_iter().chain(Self::OTHERS).map(label).collect()
+        let turns = (self.books.form() == Form::Short).then_some(TURNS);
+        let damaged = [DAMAGED_BOOK, DAMAGED_RECORD].into_iter().chain(turns);
+        damaged.chain(Self::OTHERS).map(label).collect()
     }
 
     #[must_use]
@@ -61,6 +67,7 @@ impl AddStream {
         let (round, turn) = (index / 14, index % 14);
         let what = match turn {
             0..=3 => DAMAGED_BOOK,
+            4 if self.books.form() == Form::Short && round % 2 == 1 => TURNS,
             4..=5 => DAMAGED_RECORD,
             _ => Self::OTHERS[turn - 6],
         };
@@ -78,8 +85,8 @@ impl AddStream {
             _ if aimed.is_some_and(|answer| answer.number != 0) && rng.chance(20) => 0,
             _ => length + *rng.pick(&[0, 0, 1, 100]).expect("there are four"),
         };
-        let label = Label { part: "add", what };
-        JobCase { job: Job::Add, label, aimed, book, other: record, output }
+        let (label, form) = (Label { part: "add", what }, told(self.books.form(), rng));
+        JobCase { job: Job::Add, label, aimed, book, form, other: record, output }
     }
 
     /// The old book, the record's bytes and the answer to be met.
@@ -90,35 +97,34 @@ impl AddStream {
         turn: usize,
         rng: &mut Rng,
     ) -> (Vec<u8>, Vec<u8>, Option<Answer>) {
-        if what == DAMAGED_BOOK {
-            let case = self.books.of_row(4 * round + turn, rng);
-            return (case.book, vec![0, 0, 0, 6, 0, 0], case.aimed);
-        }
-        if let "new length 60,000" | "new length over 60,000" = what {
-            let record = RecordDraft {
-                objects: vec![1; rng.range(0, 16)],
-                states: vec![Vec::new()],
-                steps: Vec::new(),
-            };
-            let over = if what == "new length 60,000" { 0 } else { rng.range(1, 6) };
-            let book = fullbook::of_length(60_000 - record.length() + over, rng);
-            let answer = if over == 0 { Answer::success(60_000) } else { Refusal::Length.at(0) };
-            return (book, record.bytes(), Some(answer));
-        }
-        if what == DAMAGED_RECORD {
-            let (book, record, answer) = self.damaged_record(2 * round + turn - 4, rng);
-            return (book, record, Some(answer));
-        }
+        let (book, record, answer) = match what {
+            DAMAGED_BOOK => {
+                let case = self.books.of_row(4 * round + turn, rng);
+                return (case.book, vec![0, 0, 0, 6, 0, 0], case.aimed);
+            }
+            DAMAGED_RECORD => self.damaged_record(2 * round + turn - 4, rng),
+            TURNS => turns::addition(rng),
+            "new length 60,000" | "new length over 60,000" => new_length(what, rng),
+            _ => self.good(what, rng),
+        };
+        (book, record, Some(answer))
+    }
+
+    /// A good book, and a record that is good but for bytes behind it.
+    fn good(&self, what: &str, rng: &mut Rng) -> (Vec<u8>, Vec<u8>, Answer) {
         let shape = if rng.chance(90) { book::SMALL } else { book::MEDIUM };
         let mut world = book::of_shape(&shape, Dynamics::Follows, rng);
         let dynamics = if rng.chance(70) { Dynamics::Follows } else { Dynamics::Random };
-        let mut record = world.record(&shape, dynamics, rng).bytes();
+        let record = world.record(&shape, dynamics, rng);
         if let "64 records before" | "63 records before" = what {
             let count = if what == "64 records before" { 64 } else { 63 };
             let small = RecordDraft { states: vec![Vec::new()], ..RecordDraft::default() };
             world.book.records.resize(count, small);
         }
-        let book = world.book.bytes();
+        world.book.records.push(record);
+        let mut draft = world.book.in_form(self.books.form());
+        let mut record = draft.records.pop().expect("the one to be added").bytes();
+        let book = draft.bytes();
         let length = book.len() + record.len();
         let answer = match what {
             "record empty" => {
@@ -133,7 +139,7 @@ impl AddStream {
             "output short" => Refusal::Output.at(0),
             _ => Answer::success(length),
         };
-        (book, record, Some(answer))
+        (book, record, answer)
     }
 
     /// The faults of rows 6 to 10 that a record added can have.
@@ -146,7 +152,7 @@ impl AddStream {
     pub fn damaged_record(&self, index: usize, rng: &mut Rng) -> (Vec<u8>, Vec<u8>, Answer) {
         let aim = &self.record_aims[index % self.record_aims.len()];
         let draw = |rng: &mut Rng| {
-            let mut draft = book::to_damage(rng);
+            let mut draft = book::to_damage(self.books.form(), rng);
             draft.records.truncate(1);
             draft
         };
@@ -161,4 +167,17 @@ impl AddStream {
         let answer = Answer { place: moved as u32, ..answer };
         (old, bytes[front..].to_vec(), answer)
     }
+}
+
+/// A record without steps, with which a book has 60,000 bytes or more.
+fn new_length(what: &str, rng: &mut Rng) -> (Vec<u8>, Vec<u8>, Answer) {
+    let record = RecordDraft {
+        objects: vec![1; rng.range(0, 16)],
+        states: vec![Vec::new()],
+        steps: Vec::new(),
+    };
+    let over = if what == "new length 60,000" { 0 } else { rng.range(1, 6) };
+    let book = fullbook::of_length(60_000 - record.length() + over, rng);
+    let answer = if over == 0 { Answer::success(60_000) } else { Refusal::Length.at(0) };
+    (book, record.bytes(), answer)
 }

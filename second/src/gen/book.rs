@@ -3,6 +3,7 @@
 use super::draft::BookDraft;
 use super::hall::{Dynamics, Shape, World};
 use super::rng::Rng;
+use crate::calls::Form;
 use crate::limits::BOOK_LIMIT;
 
 pub const SMALL: Shape =
@@ -28,12 +29,15 @@ const SIZES: [(&str, Shape, usize); 5] = [
     ("large", LARGE, 10),
 ];
 
-/// Draws a size, then a book of that size that follows `dynamics`.
-pub fn any_size(dynamics: Dynamics, rng: &mut Rng) -> (&'static str, World) {
+/// Draws a size, then a book of that size and form that follows `dynamics`.
+pub fn any_size(form: Form, dynamics: Dynamics, rng: &mut Rng) -> (&'static str, BookDraft) {
     let mut drawn = rng.below(1000);
     for (label, shape, weight) in SIZES {
         if drawn < weight {
-            return (label, of_shape(&shape, dynamics, rng));
+            let mut world = World::draw(&shape, rng);
+            let records = rng.count(shape.records);
+            fill_in(form, &mut world, &shape, records, dynamics, rng);
+            return (label, world.book.in_form(form));
         }
         drawn -= weight;
     }
@@ -49,20 +53,36 @@ pub fn of_shape(shape: &Shape, dynamics: Dynamics, rng: &mut Rng) -> World {
 }
 
 pub fn fill(world: &mut World, shape: &Shape, records: usize, dynamics: Dynamics, rng: &mut Rng) {
+    fill_in(Form::Full, world, shape, records, dynamics, rng);
+}
+
+/// Records that keep the book in its limit when it is written in this form. The
+/// world's book is a full one, and may then be too long.
+fn fill_in(
+    form: Form,
+    world: &mut World,
+    shape: &Shape,
+    records: usize,
+    dynamics: Dynamics,
+    rng: &mut Rng,
+) {
     let mut length = world.book.length();
     for _ in 0..records {
         let record = world.record(shape, dynamics, rng);
-        if length + record.length() > BOOK_LIMIT {
+        length += match form {
+            Form::Full => record.length(),
+            Form::Short => record.rewritten(form).length(),
+        };
+        if length > BOOK_LIMIT {
             break;
         }
-        length += record.length();
         world.book.records.push(record);
     }
 }
 
 /// A draft to be damaged: small most of the time, for many cases in little time.
-pub fn to_damage(rng: &mut Rng) -> BookDraft {
+pub fn to_damage(form: Form, rng: &mut Rng) -> BookDraft {
     let shape = if rng.chance(92) { SMALL } else { MEDIUM };
     let dynamics = if rng.chance(50) { Dynamics::Follows } else { Dynamics::Random };
-    of_shape(&shape, dynamics, rng).book
+    of_shape(&shape, dynamics, rng).book.fitting(form)
 }

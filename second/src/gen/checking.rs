@@ -1,4 +1,4 @@
-//! Books with an order to check, and a lent end sheet.
+//! Books of one form with an order to check, and a lent end sheet.
 
 use super::aim::{Aim, Label};
 use super::crowded::{self, Ending};
@@ -7,9 +7,10 @@ use super::mixed::BookStream;
 use super::order::{self, Plan};
 use super::rng::Rng;
 use super::several::{self, Starts};
+use super::twin::told;
 use super::{order_faults, JobCase};
 use crate::answer::{Answer, Refusal};
-use crate::calls::Job;
+use crate::calls::{Form, Job};
 use crate::limits::{END_SHEET_LENGTH, START_LIMIT};
 
 pub struct CheckStream {
@@ -20,8 +21,8 @@ pub struct CheckStream {
 
 impl CheckStream {
     #[must_use]
-    pub fn new(seed: u64) -> Self {
-        Self { books: BookStream::new(seed), aims: order_faults::aims(), seed }
+    pub fn new(form: Form, seed: u64) -> Self {
+        Self { books: BookStream::new(form, seed), aims: order_faults::aims(), seed }
     }
 
     /// Every aimed fault of an order and every aimed plan, so that a tally can
@@ -35,9 +36,9 @@ impl CheckStream {
     #[must_use]
     pub fn case(&self, index: usize) -> JobCase {
         let mut rng = Rng::of_case(self.seed ^ 0x5a5a, index);
-        let rng = &mut rng;
+        let (rng, form) = (&mut rng, self.books.form());
         let (round, turn) = (index / 20, index % 20);
-        match turn {
+        let mut case = match turn {
             // The order is for another book, which matters only if this one learns.
             0..=1 => {
                 let damaged = self.books.of_row(2 * round + turn, rng);
@@ -45,7 +46,7 @@ impl CheckStream {
                 case(damaged.label, damaged.aimed, damaged.book, order, end_length(90, rng))
             }
             2..=3 => {
-                let (label, book) = good_book(rng);
+                let (label, book) = good_book(form, rng);
                 let order = order::draw(rng).order.bytes();
                 case(label, None, book.bytes(), order, end_length(90, rng))
             }
@@ -54,20 +55,27 @@ impl CheckStream {
                 let plan = order::at_the_limits();
                 let answer = Answer::success(plan.order.steps.len());
                 let label = Label { part: "order", what: "at every limit but that of starts" };
-                aimed_plan(label, &plan, answer)
+                self.aimed_plan(label, &plan, answer)
             }
-            14 => crowded_plan(Ending::ALL[round % Ending::ALL.len()], rng),
+            14 => self.crowded_plan(Ending::ALL[round % Ending::ALL.len()], rng),
             15 => {
                 let kind = Starts::ALL[round % Starts::ALL.len()];
                 let (plan, answer) = several::case(kind, rng);
-                aimed_plan(kind.label(), &plan, answer)
+                self.aimed_plan(kind.label(), &plan, answer)
             }
             _ => {
                 let plan = order::draw(rng);
                 let label = Label { part: "order", what: "good" };
-                case(label, None, plan.book.bytes(), plan.order.bytes(), end_length(97, rng))
+                case(label, None, self.book(&plan), plan.order.bytes(), end_length(97, rng))
             }
-        }
+        };
+        case.form = told(form, rng);
+        case
+    }
+
+    /// Its book in the form of this stream; a plan's book is a full one.
+    fn book(&self, plan: &Plan) -> Vec<u8> {
+        plan.book.in_form(self.books.form()).bytes()
     }
 
     fn damaged_order(&self, index: usize, rng: &mut Rng) -> JobCase {
@@ -79,7 +87,23 @@ impl CheckStream {
             END_SHEET_LENGTH => (aim.label, answer),
             _ => (Label { part: "order", what: "damaged, and 13 before" }, Refusal::Output.at(0)),
         };
-        case(label, Some(aimed), plan.book.bytes(), order, output)
+        case(label, Some(aimed), self.book(&plan), order, output)
+    }
+
+    /// A plan in whose execution over 256 facts hold. At times it has equal starts:
+    /// they have the answer of the first, and no end sheet.
+    fn crowded_plan(&self, ending: Ending, rng: &mut Rng) -> JobCase {
+        let (mut plan, answer) = crowded::case(ending, rng);
+        if rng.chance(40) {
+            let start = plan.order.starts[0].clone();
+            plan.order.starts.resize(rng.range(2, START_LIMIT), start);
+        }
+        self.aimed_plan(ending.label(), &plan, answer)
+    }
+
+    /// A plan that must get this answer, with an end sheet of the right length.
+    fn aimed_plan(&self, label: Label, plan: &Plan, answer: Answer) -> JobCase {
+        case(label, Some(answer), self.book(plan), plan.order.bytes(), END_SHEET_LENGTH)
     }
 }
 
@@ -90,23 +114,7 @@ fn case(
     order: Vec<u8>,
     output: usize,
 ) -> JobCase {
-    JobCase { job: Job::Check, label, aimed, book, other: order, output }
-}
-
-/// A plan in whose execution over 256 facts hold. At times it has equal starts:
-/// they have the answer of the first, and no end sheet.
-fn crowded_plan(ending: Ending, rng: &mut Rng) -> JobCase {
-    let (mut plan, answer) = crowded::case(ending, rng);
-    if rng.chance(40) {
-        let start = plan.order.starts[0].clone();
-        plan.order.starts.resize(rng.range(2, START_LIMIT), start);
-    }
-    aimed_plan(ending.label(), &plan, answer)
-}
-
-/// A plan that must get this answer, with an end sheet of the right length.
-fn aimed_plan(label: Label, plan: &Plan, answer: Answer) -> JobCase {
-    case(label, Some(answer), plan.book.bytes(), plan.order.bytes(), END_SHEET_LENGTH)
+    JobCase { job: Job::Check, label, aimed, book, form: 0, other: order, output }
 }
 
 /// The right length in `percent` of 100 cases, else another one.

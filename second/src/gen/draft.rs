@@ -1,11 +1,15 @@
 //! Books, records and orders before they are bytes, and where each part then
 //! lies. A draft may break any limit: the bytes are laid out all the same.
 
+use crate::calls::Form;
+
 pub type Fact = [u8; 3];
 pub type Step = [u8; 5];
 
 #[derive(Clone, Debug, Default)]
 pub struct BookDraft {
+    /// What the states of its records say.
+    pub form: Form,
     pub kinds: usize,
     /// A byte for each kind, or none: the relations then begin at 16.
     pub parents: Vec<u8>,
@@ -17,7 +21,8 @@ pub struct BookDraft {
 #[derive(Clone, Debug, Default)]
 pub struct RecordDraft {
     pub objects: Vec<u8>,
-    /// One more than the steps.
+    /// One more than the steps. In a short book those after the first are the facts
+    /// that turn.
     pub states: Vec<Vec<Fact>>,
     pub steps: Vec<Step>,
 }

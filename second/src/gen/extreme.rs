@@ -3,12 +3,16 @@
 use super::aim::Label;
 use super::draft::{BookDraft, RecordDraft};
 use super::rng::Rng;
-use super::{fullbook, BookCase};
+use super::twin::told;
+use super::{fullbook, turns, BookCase};
 use crate::answer::{Answer, Refusal};
+use crate::calls::Form;
 
 /// Each maker gives a book and the answer that it must get.
 type Maker = fn(&mut Rng) -> (Vec<u8>, Answer);
 
+/// Their answers are the same in either form: what is listed for a state after a
+/// step may as well be what turns.
 const MAKERS: [(&str, Maker); 24] = [
     ("0 to 15 bytes", |rng| {
         let mut bytes = base().bytes();
@@ -70,16 +74,29 @@ const MAKERS: [(&str, Maker); 24] = [
 
 pub const COUNT: usize = MAKERS.len();
 
-/// The extreme case of this number below [`COUNT`].
-pub fn case(index: usize, rng: &mut Rng) -> BookCase {
-    let (what, make) = MAKERS[index];
-    let (book, answer) = make(rng);
-    BookCase { label: Label { part: "extreme", what }, book, aimed: Some(answer) }
+/// How many cases there are of this form.
+#[must_use]
+pub const fn count(form: Form) -> usize {
+    match form {
+        Form::Full => COUNT,
+        Form::Short => COUNT + turns::COUNT,
+    }
+}
+
+/// The extreme case of this number below [`count`].
+pub fn case(form: Form, index: usize, rng: &mut Rng) -> BookCase {
+    let (what, (book, answer)) = match index.checked_sub(COUNT) {
+        None => (MAKERS[index].0, MAKERS[index].1(rng)),
+        Some(index) => turns::case(index, rng),
+    };
+    let label = Label { part: "extreme", what };
+    BookCase { label, book, form: told(form, rng), aimed: Some(answer) }
 }
 
 /// All labels, so that a tally can miss one.
-pub fn labels() -> impl Iterator<Item = Label> {
-    MAKERS.iter().map(|&(what, _)| Label { part: "extreme", what })
+pub fn labels(form: Form) -> impl Iterator<Item = Label> {
+    let turns = turns::names().take(if form == Form::Short { turns::COUNT } else { 0 });
+    MAKERS.iter().map(|&(what, _)| what).chain(turns).map(|what| Label { part: "extreme", what })
 }
 
 /// One kind, one relation of two places, one move without parameters.
@@ -179,6 +196,7 @@ fn chain(count: usize, rng: &mut Rng) -> (Vec<u8>, Answer) {
         relations: vec![[2, 1, 1, 0], [1, last, 0, 0]],
         moves: vec![[2, rng.range(1, count) as u8, 1, 0, 0, 0]],
         records: vec![record],
+        ..BookDraft::default()
     };
     (draft.bytes(), if count > 8 { Refusal::HeaderCounts.at(0) } else { Answer::success(1) })
 }

@@ -1,4 +1,4 @@
-//! Full books: one of any given length, and the three that are timed.
+//! Books of any given length, up to the limit, and the three that are timed.
 
 use std::collections::BTreeSet;
 
@@ -11,8 +11,14 @@ pub fn first_facts(objects: usize, count: usize) -> Vec<Fact> {
 }
 
 /// A book of good form, but perhaps for its length, of exactly `length` bytes,
-/// which is at least 700 and fits in the header's end.
+/// which is at least 700 and fits in the header's end. Its form may be either.
 pub fn of_length(length: usize, rng: &mut Rng) -> Vec<u8> {
+    draft_of_length(length, rng).bytes()
+}
+
+/// Read as a full book, all states of a record are equal; as a short one, all facts
+/// turn with each step. The other form of either is shorter.
+pub fn draft_of_length(length: usize, rng: &mut Rng) -> BookDraft {
     const FACTS: usize = 150;
     let mut draft = BookDraft {
         kinds: 1,
@@ -45,7 +51,7 @@ pub fn of_length(length: usize, rng: &mut Rng) -> Vec<u8> {
         });
     }
     debug_assert_eq!(draft.length(), length);
-    draft.bytes()
+    draft
 }
 
 /// 59,741 bytes: 2 records of 16 objects, 77 states of 256 facts each. Moves 1

@@ -1,12 +1,13 @@
-//! Books to learn from, with a lent sheet.
+//! Books of one form to learn from, with a lent sheet.
 
 use super::aim::Label;
 use super::draft::BookDraft;
 use super::hall::Dynamics;
 use super::mixed::BookStream;
 use super::rng::Rng;
+use super::twin::told;
 use super::{book, JobCase};
-use crate::calls::Job;
+use crate::calls::{Form, Job};
 use crate::limits::RULES_LENGTH;
 
 pub struct LearnStream {
@@ -16,8 +17,8 @@ pub struct LearnStream {
 
 impl LearnStream {
     #[must_use]
-    pub fn new(seed: u64) -> Self {
-        Self { books: BookStream::new(seed), seed }
+    pub fn new(form: Form, seed: u64) -> Self {
+        Self { books: BookStream::new(form, seed), seed }
     }
 
     /// Of twenty in turn, four books are damaged.
@@ -31,23 +32,24 @@ impl LearnStream {
             let moves = case.book.get(5).copied().unwrap_or(0);
             (case.label, case.book, usize::from(moves % 33))
         } else {
-            let (label, draft) = good_book(&mut rng);
+            let (label, draft) = good_book(self.books.form(), &mut rng);
             (label, draft.bytes(), draft.moves.len())
         };
         let output = sheet_length(moves, &mut rng);
-        JobCase { job: Job::Learn, label, aimed: None, book, other: Vec::new(), output }
+        let form = told(self.books.form(), &mut rng);
+        JobCase { job: Job::Learn, label, aimed: None, book, form, other: Vec::new(), output }
     }
 }
 
 /// A book of good form, which may be impossible.
-pub(super) fn good_book(rng: &mut Rng) -> (Label, BookDraft) {
+pub(super) fn good_book(form: Form, rng: &mut Rng) -> (Label, BookDraft) {
     let (what, dynamics) = match rng.below(100) {
         0..=44 => ("follows its rules", Dynamics::Follows),
         45..=89 => ("slips", Dynamics::Slips),
         _ => ("random states", Dynamics::Random),
     };
-    let (_, world) = book::any_size(dynamics, rng);
-    (Label { part: "book", what }, world.book)
+    let (_, draft) = book::any_size(form, dynamics, rng);
+    (Label { part: "book", what }, draft)
 }
 
 /// The right length most of the time, else one near it.

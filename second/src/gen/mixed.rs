@@ -1,14 +1,18 @@
-//! The stream of books to look over: good, aimed, extreme and random ones.
+//! The stream of books to look over, of one form: good, aimed, extreme and random
+//! ones.
 
 use super::aim::{Aim, Label};
 use super::draft::{put_number, BookDraft};
 use super::hall::Dynamics;
 use super::rng::Rng;
+use super::twin::told;
 use super::{book, extreme, front_faults, record_faults, BookCase};
 use crate::answer::Answer;
+use crate::calls::Form;
 
 pub struct BookStream {
     aims: Vec<Aim<BookDraft>>,
+    form: Form,
     seed: u64,
 }
 
@@ -29,36 +33,54 @@ const RANDOM: [&str; 8] = [
 
 impl BookStream {
     #[must_use]
-    pub fn new(seed: u64) -> Self {
+    pub fn new(form: Form, seed: u64) -> Self {
         let mut aims = front_faults::aims();
-        aims.extend(record_faults::aims());
-        Self { aims, seed }
+        aims.extend(record_faults::aims(form));
+        Self { aims, form, seed }
+    }
+
+    #[must_use]
+    pub fn form(&self) -> Form {
+        self.form
     }
 
     /// Every aimed or extreme label, so that a tally can miss one.
     #[must_use]
     pub fn labels(&self) -> Vec<Label> {
-        self.aims.iter().map(|aim| aim.label).chain(extreme::labels()).collect()
+        self.aims.iter().map(|aim| aim.label).chain(extreme::labels(self.form)).collect()
     }
 
     /// The case of this index, the same for the same seed.
     #[must_use]
     pub fn case(&self, index: usize) -> BookCase {
         let mut rng = Rng::of_case(self.seed, index);
-        // Of twenty in turn: two good, eleven aimed, two extreme, five random.
+        // Of twenty in turn: two good, eleven aimed, three extreme, four random.
         let (round, turn) = (index / 20, index % 20);
         match turn {
-            0..=1 => good(&mut rng),
+            0..=1 => self.good(&mut rng),
             2..=12 => self.aimed(11 * round + turn - 2, &mut rng),
-            13..=14 => extreme::case((2 * round + turn - 13) % extreme::COUNT, &mut rng),
-            _ => self.random(5 * round + turn - 15, &mut rng),
+            13..=15 => {
+                let index = (3 * round + turn - 13) % extreme::count(self.form);
+                extreme::case(self.form, index, &mut rng)
+            }
+            _ => self.random(4 * round + turn - 16, &mut rng),
         }
     }
 
     fn aimed(&self, index: usize, rng: &mut Rng) -> BookCase {
         let aim = &self.aims[index % self.aims.len()];
-        let (_, book, answer) = aim.hit(rng, book::to_damage);
-        BookCase { label: aim.label, book, aimed: Some(answer) }
+        let (_, book, answer) = aim.hit(rng, |rng| book::to_damage(self.form, rng));
+        BookCase { label: aim.label, book, form: told(self.form, rng), aimed: Some(answer) }
+    }
+
+    fn good(&self, rng: &mut Rng) -> BookCase {
+        let dynamics = *rng
+            .pick(&[Dynamics::Follows, Dynamics::Slips, Dynamics::Random])
+            .expect("there are three");
+        let (what, draft) = book::any_size(self.form, dynamics, rng);
+        let (label, book) = (Label { part: "good", what }, draft.bytes());
+        let aimed = Some(Answer::success(draft.steps()));
+        BookCase { label, book, form: told(self.form, rng), aimed }
     }
 
     /// A book with a fault of a row of its form: of each in turn.
@@ -74,7 +96,7 @@ impl BookStream {
 
     fn random(&self, index: usize, rng: &mut Rng) -> BookCase {
         let what = RANDOM[index % RANDOM.len()];
-        let draft = book::to_damage(rng);
+        let draft = book::to_damage(self.form, rng);
         let mut bytes = draft.bytes();
         match what {
             "two faults" => bytes = self.two_faults(rng),
@@ -103,7 +125,8 @@ impl BookStream {
             }
             _ => bytes = random_bytes(rng),
         }
-        BookCase { label: Label { part: "random", what }, book: bytes, aimed: None }
+        let label = Label { part: "random", what };
+        BookCase { label, book: bytes, form: told(self.form, rng), aimed: None }
     }
 
     /// An aimed fault on a book that is already damaged elsewhere: which of the
@@ -111,7 +134,7 @@ impl BookStream {
     fn two_faults(&self, rng: &mut Rng) -> Vec<u8> {
         let mut aim = || &self.aims[rng.below(self.aims.len())];
         let (first, second) = (aim(), aim());
-        let draft = book::to_damage(rng);
+        let draft = book::to_damage(self.form, rng);
         let good = draft.bytes();
         // Both faults are put into one draft; where their lengths agree, the
         // bytes that the second changed are copied over the first.
@@ -138,15 +161,6 @@ fn set_offsets(bytes: &mut [u8], draft: &BookDraft, relations_at: usize) {
     for (field, at) in (4..).zip([relations_at, moves_at, records_at]) {
         put_number(bytes, 2 * field, at);
     }
-}
-
-fn good(rng: &mut Rng) -> BookCase {
-    let dynamics = *rng
-        .pick(&[Dynamics::Follows, Dynamics::Slips, Dynamics::Random])
-        .expect("there are three");
-    let (what, world) = book::any_size(dynamics, rng);
-    let aimed = Some(Answer::success(world.book.steps()));
-    BookCase { label: Label { part: "good", what }, book: world.book.bytes(), aimed }
 }
 
 /// Half of the time a byte of the kind that the format is made of.

@@ -1,4 +1,5 @@
-//! Seeded generators of books, records and orders: good, damaged and extreme.
+//! Seeded generators of books, records and orders: good, damaged and extreme. A
+//! book is drawn full and may then be written short.
 //!
 //! Nothing here rests on the code under test. A damaged case carries the answer
 //! that its fault must bring, worked out from where the fault was put.
@@ -7,6 +8,7 @@ pub mod addition;
 pub mod aim;
 pub mod book;
 pub mod checking;
+pub mod converting;
 pub mod crowded;
 pub mod crowded_hall;
 pub mod draft;
@@ -23,6 +25,7 @@ pub mod mixed;
 pub mod order;
 pub mod order_faults;
 pub mod parent_faults;
+pub mod parsed;
 pub mod record_faults;
 pub mod rng;
 pub mod several;
@@ -32,6 +35,8 @@ pub mod starts;
 pub mod stream;
 pub mod taught;
 pub mod tiny;
+pub mod turns;
+pub mod twin;
 
 pub use aim::{Aim, Hit, Label};
 pub use draft::{BookDraft, Fact, OrderDraft, RecordDraft, Step};
@@ -45,6 +50,8 @@ use crate::calls::Job;
 pub struct BookCase {
     pub label: Label,
     pub book: Vec<u8>,
+    /// What the call is told of the book.
+    pub form: u32,
     pub aimed: Option<Answer>,
 }
 
@@ -55,6 +62,8 @@ pub struct JobCase {
     pub label: Label,
     pub aimed: Option<Answer>,
     pub book: Vec<u8>,
+    /// What the call is told of the book; no converter is told anything.
+    pub form: u32,
     /// The order or the record; empty for a call that takes none.
     pub other: Vec<u8>,
     /// The length of the output lent; 0 for a call that takes none.
@@ -64,7 +73,7 @@ pub struct JobCase {
 impl From<BookCase> for JobCase {
     /// The book to be looked over.
     fn from(case: BookCase) -> Self {
-        let BookCase { label, book, aimed } = case;
-        Self { job: Job::LookOver, label, aimed, book, other: Vec::new(), output: 0 }
+        let BookCase { label, book, form, aimed } = case;
+        Self { job: Job::LookOver, label, aimed, book, form, other: Vec::new(), output: 0 }
     }
 }

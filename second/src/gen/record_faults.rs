@@ -5,11 +5,13 @@ use super::draft::{put_number, BookDraft, Fact, RecordDraft, RecordLayout};
 use super::rng::Rng;
 use super::spoil::{over, Scene, FACT_FAULTS, STEP_FAULTS, TWICE_FAULTS};
 use crate::answer::Refusal;
+use crate::calls::Form;
 
-pub fn aims() -> Vec<Aim<BookDraft>> {
+/// For drafts of this form.
+pub fn aims(form: Form) -> Vec<Aim<BookDraft>> {
     let mut aims = head_and_tail();
     aims.extend(objects());
-    aims.extend(states());
+    aims.extend(states(form));
     aims.extend(steps());
     aims
 }
@@ -192,21 +194,49 @@ fn put_fact(mut site: Site<'_>, state: usize, index: usize, fact: Fact) -> Optio
     site.hit(place)
 }
 
-fn states() -> Vec<Aim<BookDraft>> {
-    let mut aims = vec![
-        Aim::new("state", "count cut", Refusal::State, |draft: &BookDraft, rng| {
+/// The count of one of a record's states that are wanted, by their number from 0.
+fn count_over(what: &'static str, wanted: fn(&usize) -> bool) -> Aim<BookDraft> {
+    Aim::new("state", what, Refusal::State, move |draft: &BookDraft, rng: &mut Rng| {
+        let mut site = site(draft, rng)?;
+        let states: Vec<usize> = (0..site.layout.states.len()).filter(wanted).collect();
+        let state = *rng.pick(&states)?;
+        let (place, over) = (site.layout.states[state], draft.list_limit(state) + 1);
+        let count = if rng.chance(50) { over } else { rng.range(over, 0xffff) };
+        put_number(&mut site.bytes, place, count);
+        site.hit(place)
+    })
+}
+
+fn states(form: Form) -> Vec<Aim<BookDraft>> {
+    let mut aims =
+        vec![Aim::new("state", "count cut", Refusal::State, |draft: &BookDraft, rng| {
             let mut site = site(draft, rng)?;
             let place = *rng.pick(&site.layout.states)?;
             site.end_record(place + rng.below(2));
             site.hit(place)
-        }),
-        Aim::new("state", "count over 256", Refusal::State, |draft: &BookDraft, rng| {
-            let mut site = site(draft, rng)?;
-            let place = *rng.pick(&site.layout.states)?;
-            let count = if rng.chance(50) { 257 } else { rng.range(257, 0xffff) };
-            put_number(&mut site.bytes, place, count);
-            site.hit(place)
-        }),
+        })];
+    match form {
+        Form::Full => aims.push(count_over("count over 256", |_| true)),
+        Form::Short => aims.extend([
+            count_over("count over 256", |&state| state == 0),
+            count_over("turns over 512", |&state| state > 0),
+        ]),
+    }
+    aims.extend(lists());
+    aims.extend(FACT_FAULTS.into_iter().map(|(what, spoil)| {
+        Aim::new("state", what, Refusal::State, move |draft: &BookDraft, rng: &mut Rng| {
+            let (site, state, index) = fact_site(draft, rng)?;
+            let scene = scene(draft, site.record);
+            let fact = spoil(site.record.states[state][index], &scene, rng)?;
+            put_fact(site, state, index, fact)
+        })
+    }));
+    aims
+}
+
+/// A list of facts that is cut or out of order.
+fn lists() -> Vec<Aim<BookDraft>> {
+    vec![
         Aim::new("state", "fact cut by the length", Refusal::State, |draft: &BookDraft, rng| {
             let (mut site, state, fact) = fact_site(draft, rng)?;
             let place = site.layout.states[state] + 2 + 3 * fact;
@@ -217,10 +247,11 @@ fn states() -> Vec<Aim<BookDraft>> {
             let mut site = site(draft, rng)?;
             let state = site.record.states.last()?;
             let at = *site.layout.states.last()?;
-            if state.len() == 256 {
+            let limit = draft.list_limit(site.record.steps.len());
+            if state.len() == limit {
                 return None;
             }
-            put_number(&mut site.bytes, at, rng.range(state.len() + 1, 256));
+            put_number(&mut site.bytes, at, rng.range(state.len() + 1, limit));
             let place = site.layout.end;
             site.hit(place)
         }),
@@ -237,16 +268,7 @@ fn states() -> Vec<Aim<BookDraft>> {
             site.bytes[earlier..earlier + 3].copy_from_slice(&here);
             put_fact(site, state, fact, before)
         }),
-    ];
-    aims.extend(FACT_FAULTS.into_iter().map(|(what, spoil)| {
-        Aim::new("state", what, Refusal::State, move |draft: &BookDraft, rng: &mut Rng| {
-            let (site, state, index) = fact_site(draft, rng)?;
-            let scene = scene(draft, site.record);
-            let fact = spoil(site.record.states[state][index], &scene, rng)?;
-            put_fact(site, state, index, fact)
-        })
-    }));
-    aims
+    ]
 }
 
 fn scene<'a>(draft: &'a BookDraft, record: &'a RecordDraft) -> Scene<'a> {

@@ -1,28 +1,33 @@
-//! The cases of each of the four calls.
+//! The cases of each call, on books of one form.
 
 use super::addition::AddStream;
 use super::aim::Label;
 use super::checking::CheckStream;
+use super::converting::ConvertStream;
 use super::learning::LearnStream;
 use super::mixed::BookStream;
 use super::JobCase;
-use crate::calls::Job;
+use crate::calls::{Form, Job};
 
 pub enum JobStream {
     LookOver(BookStream),
     Learn(LearnStream),
     Check(CheckStream),
     Add(AddStream),
+    Convert(ConvertStream),
 }
 
 impl JobStream {
+    /// A converter has the form that it reads, whatever is given.
     #[must_use]
-    pub fn new(job: Job, seed: u64) -> Self {
+    pub fn new(job: Job, form: Form, seed: u64) -> Self {
         match job {
-            Job::LookOver => Self::LookOver(BookStream::new(seed)),
-            Job::Learn => Self::Learn(LearnStream::new(seed)),
-            Job::Check => Self::Check(CheckStream::new(seed)),
-            Job::Add => Self::Add(AddStream::new(seed)),
+            Job::LookOver => Self::LookOver(BookStream::new(form, seed)),
+            Job::Learn => Self::Learn(LearnStream::new(form, seed)),
+            Job::Check => Self::Check(CheckStream::new(form, seed)),
+            Job::Add => Self::Add(AddStream::new(form, seed)),
+            Job::ToShort => Self::Convert(ConvertStream::new(Form::Full, seed)),
+            Job::ToFull => Self::Convert(ConvertStream::new(Form::Short, seed)),
         }
     }
 
@@ -34,6 +39,7 @@ impl JobStream {
             Self::Learn(_) => Vec::new(),
             Self::Check(stream) => stream.labels(),
             Self::Add(stream) => stream.labels(),
+            Self::Convert(stream) => stream.labels(),
         }
     }
 
@@ -45,6 +51,7 @@ impl JobStream {
             Self::Learn(stream) => stream.case(index),
             Self::Check(stream) => stream.case(index),
             Self::Add(stream) => stream.case(index),
+            Self::Convert(stream) => stream.case(index),
         }
     }
 }

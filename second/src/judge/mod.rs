@@ -3,13 +3,15 @@
 //! He enumerates every action model over the lifted atoms, keeps those that are
 //! consistent with each record, and carries the plan out under each. He knows
 //! nothing of learned needs, of effects seen or of the rule sheet, and reads
-//! the bytes, which must be of good form, by himself.
+//! the bytes, which must be of good form, by himself. Of a short book he holds the
+//! models that are consistent with the states that its lists make.
 
 mod reading;
 mod state;
 
 use std::cmp::Reverse;
 
+use crate::calls::Form;
 use reading::{is_tiny, read_book, read_order};
 use state::{State, FULL, TINY};
 
@@ -80,17 +82,17 @@ struct Plan<const WORDS: usize> {
 /// If a move has over 8 lifted atoms, or if the end states of a passing plan
 /// differ between models.
 #[must_use]
-pub fn verdicts(book: &[u8], order: &[u8]) -> Vec<Verdict> {
-    judge(book, order).into_iter().map(|judgement| judgement.verdict).collect()
+pub fn verdicts(book: &[u8], form: Form, order: &[u8]) -> Vec<Verdict> {
+    judge(book, form, order).into_iter().map(|judgement| judgement.verdict).collect()
 }
 
 /// As [`verdicts`], with how many facts held at most.
 #[must_use]
-pub fn judge(book: &[u8], order: &[u8]) -> Vec<Judgement> {
+pub fn judge(book: &[u8], form: Form, order: &[u8]) -> Vec<Judgement> {
     if is_tiny(book, order) {
-        judge_in::<TINY>(book, order)
+        judge_in::<TINY>(book, form, order)
     } else {
-        judge_in::<FULL>(book, order)
+        judge_in::<FULL>(book, form, order)
     }
 }
 
@@ -102,8 +104,8 @@ pub fn failing(judgements: &[Judgement]) -> Option<(usize, &Judgement)> {
     (1..).zip(judgements).find(|(_, judgement)| !passes(judgement))
 }
 
-fn judge_in<const WORDS: usize>(book: &[u8], order: &[u8]) -> Vec<Judgement> {
-    let (atoms, transitions) = read_book::<WORDS>(book);
+fn judge_in<const WORDS: usize>(book: &[u8], form: Form, order: &[u8]) -> Vec<Judgement> {
+    let (atoms, transitions) = read_book::<WORDS>(book, form);
     let kept = consistent(&atoms, &transitions);
     let plan = read_order::<WORDS>(order, &atoms);
     plan.starts.iter().map(|start| judge_start(start, &plan, &kept)).collect()

@@ -2,6 +2,7 @@
 
 use super::state::State;
 use super::{Atom, GroundStep, Plan, Transition};
+use crate::calls::Form;
 
 fn ground<const WORDS: usize>(step: &[u8], atoms: &[Vec<Atom>]) -> GroundStep {
     let action = usize::from(step[0]) - 1;
@@ -35,6 +36,15 @@ impl<'a> Reader<'a> {
         }
         state
     }
+
+    /// The state that a list of facts whose value turns makes of this one.
+    fn turned<const WORDS: usize>(&mut self, mut state: State<WORDS>) -> State<WORDS> {
+        for _ in 0..self.number() {
+            let fact = State::<WORDS>::fact(self.take(3));
+            state.set(fact, !state.holds(fact));
+        }
+        state
+    }
 }
 
 /// Whether no hall has over 3 objects, and there are 8 relations at most.
@@ -51,6 +61,7 @@ pub(super) fn is_tiny(book: &[u8], order: &[u8]) -> bool {
 /// The atoms of each move, and the transitions of all records.
 pub(super) fn read_book<const WORDS: usize>(
     book: &[u8],
+    form: Form,
 ) -> (Vec<Vec<Atom>>, Vec<Transition<WORDS>>) {
     let mut reader = Reader(book);
     let [_, relations, moves, records, relations_at] = [(); 5].map(|()| reader.number());
@@ -66,7 +77,10 @@ pub(super) fn read_book<const WORDS: usize>(
         let mut before: State<WORDS> = reader.state();
         for _ in 0..head[1] {
             let step = ground::<WORDS>(reader.take(5), &atoms);
-            let after: State<WORDS> = reader.state();
+            let after: State<WORDS> = match form {
+                Form::Full => reader.state(),
+                Form::Short => reader.turned(before.clone()),
+            };
             transitions.push(Transition { step, before, after: after.clone() });
             before = after;
         }

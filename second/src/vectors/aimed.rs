@@ -4,9 +4,11 @@
 use super::paper::check;
 use super::Vector;
 use crate::answer::Answer;
-use crate::calls::Job;
+use crate::calls::{Form, Job};
 use crate::gen::addition::AddStream;
-use crate::gen::{book, front_faults, order, order_faults, record_faults, Label, Rng};
+use crate::gen::{
+    book, front_faults, order, order_faults, record_faults, Aim, BookDraft, Label, Rng,
+};
 
 const TRIES: u64 = 300;
 
@@ -38,15 +40,28 @@ fn name(answer: u32, part: &str, label: Label) -> String {
 
 /// Rows 1 to 10: each of the four calls meets them.
 pub fn books() -> Vec<Vector> {
-    let aims = front_faults::aims().into_iter().chain(record_faults::aims());
+    let aims = front_faults::aims().into_iter().chain(record_faults::aims(Form::Full));
     aims.flat_map(|aim| {
         let name = name(aim.refusal as u32, "book", aim.label);
         two_of(&name, |rng| {
-            let (_, book, answer) = aim.hit(rng, book::to_damage);
-            Vector::new(&name, &Job::ALL, book, answer)
+            let (_, book, answer) = aim.hit(rng, |rng| book::to_damage(Form::Full, rng));
+            Vector::new(&name, &Job::OF_BOTH_FORMS, book, answer)
         })
     })
     .collect()
+}
+
+/// Rows 6 to 10 in a short book: each call that reads one meets them.
+pub fn short_books() -> Vec<Vector> {
+    let of_aim = |aim: Aim<BookDraft>| {
+        let name = name(aim.refusal as u32, "short book", aim.label);
+        let jobs = [Job::LookOver, Job::Learn, Job::Check, Job::Add, Job::ToFull];
+        two_of(&name, |rng| {
+            let (_, book, answer) = aim.hit(rng, |rng| book::to_damage(Form::Short, rng));
+            Vector::new(&name, &jobs, book, answer).form(Form::Short.number())
+        })
+    };
+    record_faults::aims(Form::Short).into_iter().flat_map(of_aim).collect()
 }
 
 /// Rows 14 to 18.
@@ -65,7 +80,7 @@ pub fn orders() -> Vec<Vector> {
 
 /// Adding: faults of the record added, then what only adding meets.
 pub fn additions() -> Vec<Vector> {
-    let stream = AddStream::new(0);
+    let stream = AddStream::new(Form::Full, 0);
     let with_fault = stream.record_aims().iter().enumerate().flat_map(|(index, aim)| {
         let name = name(aim.refusal as u32, "record added", aim.label);
         let stream = &stream;

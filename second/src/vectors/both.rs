@@ -34,7 +34,7 @@ pub fn all() -> Vec<Vector> {
 }
 
 fn every(name: &str, book: Vec<u8>, answer: Answer) -> Vector {
-    Vector::new(name, &Job::ALL, book, answer)
+    Vector::new(name, &Job::OF_BOTH_FORMS, book, answer)
 }
 
 fn fronts() -> Vec<Vector> {

@@ -26,7 +26,7 @@ pub fn all() -> Vec<Vector> {
                 50..=51 => (Refusal::State, AFTER),
                 _ => (Refusal::State, AFTER + 2 + (end - AFTER - 2) / 3 * 3),
             };
-            Vector::new(format!("cut at {end}"), &Job::ALL, cut(end), row.at(place))
+            Vector::new(format!("cut at {end}"), &Job::OF_BOTH_FORMS, cut(end), row.at(place))
         })
         .collect()
 }

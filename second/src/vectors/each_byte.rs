@@ -15,7 +15,12 @@ pub fn all() -> Vec<Vector> {
     let m2 = m2().bytes();
     let books = (0..hall.len()).map(|at| {
         let book = changed(hall.clone(), &[(at, &[LARGE])]);
-        Vector::new(format!("byte {at} of the small hall is 128"), &Job::ALL, book, in_book(at))
+        Vector::new(
+            format!("byte {at} of the small hall is 128"),
+            &Job::OF_BOTH_FORMS,
+            book,
+            in_book(at),
+        )
     });
     let orders = (0..m2.len()).map(|at| {
         let order = changed(m2.clone(), &[(at, &[LARGE])]);
@@ -34,7 +39,7 @@ fn objects(hall: &[u8]) -> Vec<Vector> {
     }) {
         let name = format!("byte {at} of the small hall is {new}");
         let book = changed(hall.to_vec(), &[(at, &[new])]);
-        vectors.push(Vector::new(name, &Job::ALL, book, answer));
+        vectors.push(Vector::new(name, &Job::OF_BOTH_FORMS, book, answer));
     }
     // A fact of no places, with an object in the one or the other.
     for fact in [1, 32, 128].into_iter().flat_map(|object| [[1, object, 0], [1, 0, object]]) {
@@ -43,7 +48,7 @@ fn objects(hall: &[u8]) -> Vec<Vector> {
         let book = one_fact(0, [record]);
         let answer = Refusal::State.at(book.layout().records[0].states[0] + 2);
         let name = format!("8: a fact of no places with objects {} {}", fact[1], fact[2]);
-        vectors.push(Vector::new(name, &Job::ALL, book.bytes(), answer));
+        vectors.push(Vector::new(name, &Job::OF_BOTH_FORMS, book.bytes(), answer));
     }
     vectors
 }

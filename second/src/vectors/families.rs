@@ -39,13 +39,14 @@ fn siblings() -> Vec<Vector> {
             states: vec![facts.to_vec(); 2],
             steps: vec![step],
         }],
+        ..BookDraft::default()
     };
     let step = [1, 1, 2, 0, 0];
     let wrong = |name, facts: &[Fact], step, refusal| {
         let book = book(facts, step);
         let layout = &book.layout().records[0];
         let place = if facts.is_empty() { layout.steps[0] } else { layout.states[0] + 2 };
-        Vector::new(name, &Job::ALL, book.bytes(), Refusal::at(refusal, place))
+        Vector::new(name, &Job::OF_BOTH_FORMS, book.bytes(), Refusal::at(refusal, place))
     };
     vec![
         // Of relation 2 parameter 1 alone makes a bound fact, which never held.
@@ -73,6 +74,7 @@ fn chain(kind: u8) -> Vector {
             states: vec![all.clone(), all[1..].to_vec()],
             steps: vec![[1, 1, 0, 0, 0]],
         }],
+        ..BookDraft::default()
     };
     let bound: Vec<usize> = (0..usize::from(kind)).map(|relation| 16 * relation).collect();
     learn(format!("learned: a chain of 8 kinds, a parameter of kind {kind}"), &book, {
@@ -115,6 +117,7 @@ fn chain_plan() -> Vector {
             states: vec![vec![[1, 1, 0]], vec![]],
             steps: vec![taken(1)],
         }],
+        ..BookDraft::default()
     };
     let order = OrderDraft {
         objects: (1..=8).collect(),

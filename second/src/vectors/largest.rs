@@ -29,10 +29,10 @@ fn places() -> Vec<Vector> {
     changes.records[9] = unbound();
     let last_step = changes.layout().records[9].steps[0];
     vec![
-        Vector::new("8: the last of 60,000 bytes", &Job::ALL, last_fact, {
+        Vector::new("8: the last of 60,000 bytes", &Job::OF_BOTH_FORMS, last_fact, {
             Refusal::State.at(BOOK_LIMIT - 3)
         }),
-        Vector::new("8: at a place over 255", &Job::ALL, unsorted.bytes(), {
+        Vector::new("8: at a place over 255", &Job::OF_BOTH_FORMS, unsorted.bytes(), {
             Refusal::State.at(last_state + 5)
         }),
         Vector::new("11: at a place over 255", &[Learn, Job::Check], changes.bytes(), {

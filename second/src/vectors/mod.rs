@@ -9,6 +9,9 @@ mod adding;
 mod aimed;
 mod both;
 mod both_orders;
+mod carried;
+mod converted_lengths;
+mod converting;
 mod cuts;
 mod each_byte;
 mod families;
@@ -22,6 +25,10 @@ mod offsets;
 mod paper;
 mod parents;
 mod rows;
+mod short_adding;
+mod short_hall;
+mod short_states;
+mod short_twins;
 mod start_counts;
 mod start_form;
 mod starts;
@@ -33,6 +40,11 @@ pub use file::{missing, parse, print, run, Failure, Vector};
 
 /// What the makers put into a vector.
 impl Vector {
+    fn form(mut self, form: u32) -> Self {
+        self.form = form;
+        self
+    }
+
     fn order(mut self, order: Vec<u8>) -> Self {
         self.order = order;
         self
@@ -85,7 +97,22 @@ pub fn all() -> Vec<Vector> {
     vectors.extend(aimed::books());
     vectors.extend(aimed::orders());
     vectors.extend(aimed::additions());
+    vectors.extend(carried::all());
+    vectors.extend(short_hall::all());
+    vectors.extend(lent::short());
+    vectors.extend(short_states::all());
+    vectors.extend(short_twins::of(&twinned()));
+    vectors.extend(short_adding::all());
+    vectors.extend(converting::all());
+    vectors.extend(converted_lengths::all());
+    vectors.extend(aimed::short_books());
     vectors
+}
+
+/// The vectors of full books that have short twins.
+fn twinned() -> Vec<Vector> {
+    let learned = rows::learning().into_iter().chain(wagon_learning::all());
+    learned.chain(families::all()).chain(largest::all()).chain(carried::all()).collect()
 }
 
 /// The book with the record behind it, its record count and end renewed.

@@ -45,7 +45,7 @@ fn books() -> Vec<Vector> {
     cases.push(("a gap before the moves".into(), gap(hall.clone(), 24, 5..=7)));
     cases.push(("a gap before the records".into(), gap(hall, 30, 6..=7)));
     let vector = |(what, book)| {
-        Vector::new(format!("3: {what}"), &Job::ALL, book, Refusal::HeaderOffsets.at(0))
+        Vector::new(format!("3: {what}"), &Job::OF_BOTH_FORMS, book, Refusal::HeaderOffsets.at(0))
     };
     cases.into_iter().map(vector).collect()
 }

@@ -6,6 +6,7 @@ use super::hall::{
 };
 use super::Vector;
 use crate::answer::{Answer, Refusal};
+use crate::calls::Form;
 use crate::calls::Job::{self, Add, Check, Learn, LookOver};
 use crate::gen::order::at_the_limits;
 use crate::gen::{extreme, fullbook, BookDraft, OrderDraft, RecordDraft, Rng};
@@ -83,7 +84,7 @@ pub fn marked() -> Vec<Vector> {
             .record(empty_end.bytes())
             .output(80)
             .after(with([filed(), empty_end]).bytes()),
-        Vector::new("M10", &Job::ALL, hall()[..15].to_vec(), Refusal::Length.at(0)),
+        Vector::new("M10", &Job::OF_BOTH_FORMS, hall()[..15].to_vec(), Refusal::Length.at(0)),
         Vector::new("record added to M6", &[Add], unrecorded().bytes(), Answer::success(58))
             .record(filed().bytes())
             .output(58)
@@ -99,7 +100,8 @@ pub fn marked() -> Vec<Vector> {
 
 /// One example of each point in which the paper could be read two ways.
 pub fn decisions() -> Vec<Vector> {
-    let every = |name: &str, book: Vec<u8>, answer| Vector::new(name, &Job::ALL, book, answer);
+    let every =
+        |name: &str, book: Vec<u8>, answer| Vector::new(name, &Job::OF_BOTH_FORMS, book, answer);
     let mut announced = unrecorded().bytes();
     announced[7] = 1;
     let mut cut_object = small_hall().bytes();
@@ -153,9 +155,9 @@ pub fn decisions() -> Vec<Vector> {
 pub fn limits() -> Vec<Vector> {
     let mut vectors: Vec<Vector> = (0..extreme::COUNT)
         .map(|index| {
-            let case = extreme::case(index, &mut Rng::new(index as u64));
+            let case = extreme::case(Form::Full, index, &mut Rng::new(index as u64));
             let answer = case.aimed.expect("an extreme case is aimed");
-            let jobs: &[Job] = if answer.number == 0 { &[LookOver] } else { &Job::ALL };
+            let jobs: &[Job] = if answer.number == 0 { &[LookOver] } else { &Job::OF_BOTH_FORMS };
             Vector::new(format!("limit: {}", case.label.what), jobs, case.book, answer)
         })
         .collect();

@@ -23,7 +23,7 @@ fn kinds_alone(parents: &[u8]) -> BookDraft {
 }
 
 fn every(name: impl Into<String>, book: Vec<u8>, answer: Answer) -> Vector {
-    Vector::new(name, &Job::ALL, book, answer)
+    Vector::new(name, &Job::OF_BOTH_FORMS, book, answer)
 }
 
 fn good() -> Vec<Vector> {

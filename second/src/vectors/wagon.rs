@@ -25,6 +25,7 @@ pub fn with(records: impl IntoIterator<Item = RecordDraft>) -> BookDraft {
         relations: vec![[2, 1, 2, 0], [1, 2, 0, 0], [1, 3, 0, 0], [2, 1, 3, 0]],
         moves: vec![[3, 1, 2, 2, 0, 0], [1, 3, 0, 0, 0, 0], [2, 1, 3, 0, 0, 0]],
         records: records.into_iter().collect(),
+        ..BookDraft::default()
     }
 }
 
@@ -70,7 +71,7 @@ fn facts() -> Vec<Vector> {
     let wrong = |name: &str, fact| {
         let book = book(&[fact], &[LOAD_2]);
         let answer = Refusal::State.at(book.layout().records[0].states[0] + 2);
-        Vector::new(format!("8: {name}"), &Job::ALL, book.bytes(), answer)
+        Vector::new(format!("8: {name}"), &Job::OF_BOTH_FORMS, book.bytes(), answer)
     };
     vec![
         Vector::new(
@@ -102,7 +103,7 @@ fn steps() -> Vec<Vector> {
     let wrong = |name: &str, step, refusal: Refusal| {
         let book = book(&[], &[LOAD_2, step]);
         let answer = refusal.at(book.layout().records[0].steps[1]);
-        Vector::new(format!("{}: {name}", answer.number), &Job::ALL, book.bytes(), answer)
+        Vector::new(format!("{}: {name}", answer.number), &Job::OF_BOTH_FORMS, book.bytes(), answer)
     };
     let (step, twice) = (Refusal::Step, Refusal::ObjectTwice);
     vec![

@@ -3,6 +3,7 @@
 
 #![allow(dead_code, reason = "not every test needs all of it")]
 
+use second::calls::Form;
 use second::{check, learn, listing, Answer};
 
 pub fn hex(text: &str) -> Vec<u8> {
@@ -11,10 +12,10 @@ pub fn hex(text: &str) -> Vec<u8> {
     digits.chunks_exact(2).map(|pair| pair[0] << 4 | pair[1]).collect()
 }
 
-/// The answer of learning, and the sheet.
+/// The answer of learning from a full book, and the sheet.
 pub fn learned(book: &[u8]) -> (Answer, Vec<u8>) {
     let mut sheet = vec![0xee; 128 * usize::from(book[5])];
-    let answer = learn::learn(book, &mut sheet);
+    let answer = learn::learn(book, Form::Full, &mut sheet);
     (answer, sheet)
 }
 
@@ -44,7 +45,7 @@ pub fn order(
 
 fn check_all(book: &[u8], order: &[u8]) -> (Answer, Vec<u8>) {
     let mut end = vec![0xa5; 512];
-    let answer = check::check(book, order, &mut end);
+    let answer = check::check(book, Form::Full, order, &mut end);
     (answer, end)
 }
 

@@ -8,7 +8,7 @@ returns : tie.Need-returns
 returns c =
     let i = c .before in
     let f = i .before .before in
-    at-order _ _ _ _ _ (f .before .before .before .before .before .pre) _ _ (f .order-form .ensures) (i .before .is-refused .ensures) (i .if1 .taken) _
+    at-order _ _ _ _ _ _ (f .before .before .before .before .before .pre) _ _ (f .order-form .ensures) (i .before .is-refused .ensures) (i .if1 .taken) _
     (c .unpositioned .ensures)
 
 run-order-requires : tie.Need-run-order-requires
@@ -16,8 +16,8 @@ run-order-requires c κs =
     let i = c .before in
     let f = i .before .before in
     let ready = f .before .before .before .before .before .pre in (
-      order-executable _ _ _ _ _ ready _ _ (f .order-form .ensures) (i .before .is-refused .ensures) (i .if1 .left),
-      order-starts _ _ _ _ _ ready _ _ (f .order-form .ensures) (i .before .is-refused .ensures) (i .if1 .left),
+      order-executable _ _ _ _ _ _ ready _ _ (f .order-form .ensures) (i .before .is-refused .ensures) (i .if1 .left),
+      order-starts _ _ _ _ _ _ ready _ _ (f .order-form .ensures) (i .before .is-refused .ensures) (i .if1 .left),
       ready .size,
     )
 
@@ -26,7 +26,7 @@ returns-2 c =
     let x = c .before .before in
     let i = x .before .before in
     let f = i .before .before in
-    at-run _ _ _ _ _ (f .before .before .before .before .before .pre) _ _ (f .order-form .ensures) (i .before .is-refused .ensures) (i .if1 .left) _ _
+    at-run _ _ _ _ _ _ (f .before .before .before .before .before .pre) _ _ (f .order-form .ensures) (i .before .is-refused .ensures) (i .if1 .left) _ _
     (x .run-order .ensures)
 
 pub check-order-spec : {M : Type 1} → statement M

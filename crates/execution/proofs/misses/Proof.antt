@@ -7,7 +7,7 @@ use Rattle.execution.proofs.misses.Tie as tie
 returns : tie.Need-returns
 returns c =
     let d = c .before .before in
-    misses-by _ _ _ _ _ _ _ (d .before .byte-at .ensures) (d .read .ensures) (c .before .fact-number .ensures) (c .has512 .ensures)
+    misses-by _ _ _ _ _ _ _ (d .before .byte-at .ensures) (d .read .ensures) (c .before .number .ensures) (c .has512 .ensures)
 
 pub misses-spec : {M : Type 1} → statement M
 misses-spec =

@@ -25,11 +25,11 @@ loop-holds c = (omega arith, omega arith, rw (c .empty512 .ensures))
 
 loop-again : tie.Need-loop-again Inv-loop μ-loop
 loop-again c =
-    let d = c .before .before in
-    let e = d .before .before in (
+    let d = c .before .before .before in
+    let e = d .before in (
       omega arith,
       omega arith,
-      facts-more _ _ _ _ _ _ _ (e .loop-test .taken) (d .read .ensures) (c .before .fact-number .ensures) (c .mark512 .ensures)
+      facts-more _ _ _ _ _ _ _ (e .loop-test .taken) (d .read .ensures) (c .before .number .ensures) (c .mark512 .ensures)
           ∙ e .before .loop .inv .2,
     )
 

@@ -14,7 +14,7 @@ unfolding empty
 observe-book-requires c κs = (c .before .read .ensures, refl)
 
 returns : tie.Need-returns
-returns c = learn-refused _ _ _ _ (c .before .before .before .observe-book .ensures .says) (c .before .is-refused .ensures) (c .if1 .taken)
+returns c = learn-refused _ _ _ _ _ (c .before .before .before .observe-book .ensures .says) (c .before .is-refused .ensures) (c .if1 .taken)
 
 returns-2 : tie.Need-returns-2
 returns-2 c =
@@ -23,7 +23,7 @@ returns-2 c =
     let own = x .before .before .before .before .before .read .ensures in
     let e = is-good _ (sym (x .before .is-refused .ensures) ∙ x .if1 .left) in
     let g = sym (b .ensures .says) ∙ e in
-    learn-size _ _ _ g (λ i. c .if2 .taken (i ∙ ap (λ n. 128 * n) (sym (moves-own _ _ own))))
+    learn-size _ _ _ _ g (λ i. c .if2 .taken (i ∙ ap (λ n. 128 * n) (sym (moves-own _ _ own))))
 
 write-sheet-requires : tie.Need-write-sheet-requires
 write-sheet-requires c κs =
@@ -32,7 +32,7 @@ write-sheet-requires c κs =
     let own = x .before .before .before .before .before .read .ensures in
     let e = is-good _ (sym (x .before .is-refused .ensures) ∙ x .if1 .left) in
     let g = sym (b .ensures .says) ∙ e in
-    (c .before .before .if2 .left, rw (moves-own _ _ own) (moves-few _ _ (form-good _ _ g .1)), b .kept .1 .1 .0)
+    (c .before .before .if2 .left, rw (moves-own _ _ own) (moves-few _ _ _ (form-good _ _ _ g .1)), b .kept .1 .1 .1 .0)
 
 returns-3 : tie.Need-returns-3
 returns-3 c =
@@ -42,8 +42,8 @@ returns-3 c =
     let e = is-good _ (sym (x .before .is-refused .ensures) ∙ x .if1 .left) in
     let g = sym (b .ensures .says) ∙ e in
     rw e
-    (learn-done _ _ _ g _ (c .before .before .before .before .before .if2 .left ∙ ap (λ n. 128 * n) (moves-own _ _ own))
-    (sheet-by _ _ _ _ _ own g (b .ensures .observes _ e) (c .before .before .write-sheet .ensures)))
+    (learn-done _ _ _ _ g _ (c .before .before .before .before .before .if2 .left ∙ ap (λ n. 128 * n) (moves-own _ _ own))
+    (sheet-by _ _ _ _ _ _ own g (b .ensures .observes _ e) (c .before .before .write-sheet .ensures)))
 
 pub learn-spec : {M : Type 1} → statement M
 learn-spec =

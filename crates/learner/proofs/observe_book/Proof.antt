@@ -8,12 +8,12 @@ use Rattle.learner.proofs.observe_book.Statement.{statement}
 use Rattle.learner.proofs.observe_book.Tie as tie
 
 returns : tie.Need-returns
-returns c = at-form _ _ _ (c .before .before .before .before .observe-form .ensures) _ (c .before .is-refused .ensures) (c .if1 .taken)
+returns c = at-form _ _ _ _ (c .before .before .before .before .observe-form .ensures) _ (c .before .is-refused .ensures) (c .if1 .taken)
 
 returns-2 : tie.Need-returns-2
 returns-2 c =
     let x = c .before .before .before in
-    at-unbound _ _ _ (x .before .before .before .before .observe-form .ensures) _ (x .before .is-refused .ensures) (x .if1 .left)
+    at-unbound _ _ _ _ (x .before .before .before .before .observe-form .ensures) _ (x .before .is-refused .ensures) (x .if1 .left)
     _ _ (c .before .before .unbound-answer .ensures) (c .before .is-refused2 .ensures) (c .if2 .taken)
 
 conflict-among-requires : tie.Need-conflict-among-requires
@@ -21,14 +21,14 @@ conflict-among-requires c κs =
     let x = c .before .before .before .before in
     let f = x .before .before .before .before in
     let p = f .before .before .before .before .pre in
-    (f .observe-form .kept .1 .1 .0 ∙ nothing-sized _ (p .1), rw (moves-own _ _ (p .0)) (moves-few _ _ (formed _ _ _ (f .observe-form .ensures) _ (x .before .is-refused .ensures) (x .if1 .left))))
+    (f .observe-form .kept .1 .1 .1 .0 ∙ nothing-sized _ (p .1), rw (moves-own _ _ (p .0)) (moves-few _ _ _ (formed _ _ _ _ (f .observe-form .ensures) _ (x .before .is-refused .ensures) (x .if1 .left))))
 
 returns-3 : tie.Need-returns-3
 returns-3 c =
     let y = c .before .before .before .before in
     let x = y .before .before .before in
     let f = x .before .before .before .before in
-    at-conflict _ _ _ (f .observe-form .ensures) _ (x .before .is-refused .ensures) (x .if1 .left)
+    at-conflict _ _ _ _ (f .observe-form .ensures) _ (x .before .is-refused .ensures) (x .if1 .left)
     _ _ (y .before .before .unbound-answer .ensures) (y .before .is-refused2 .ensures) (y .if2 .left)
     _ (f .before .before .before .before .pre .0) _ _ (c .before .before .conflict-among .ensures) (c .before .is-refused3 .ensures) (c .if3 .taken)
 
@@ -37,7 +37,7 @@ returns-4 c =
     let y = c .before .before .before .before in
     let x = y .before .before .before in
     let f = x .before .before .before .before in
-    at-end _ _ _ (f .observe-form .ensures) _ (x .before .is-refused .ensures) (x .if1 .left)
+    at-end _ _ _ _ (f .observe-form .ensures) _ (x .before .is-refused .ensures) (x .if1 .left)
     _ _ (y .before .before .unbound-answer .ensures) (y .before .is-refused2 .ensures) (y .if2 .left)
     _ (f .before .before .before .before .pre .0) _ _ (c .before .before .conflict-among .ensures) (c .before .is-refused3 .ensures) (c .if3 .left)
 

@@ -1,16 +1,21 @@
 -- `learner::observe_form` meets its contract: rows 1 to 5, then the records from an empty start.
-use mathlib.Core.Path.{sym, _∙_}
+use mathlib.Core.Path.{sym, ap, _∙_}
+use mathlib.Core.List.{List}
+use Prim.Native.Nat.{ℕ}
+use lib.ListN.{length}
 use native.Mathlib.Omega.{arith}
 use Rattle.answer.specs.Turns.{is-good}
 use Rattle.format.proofs.Header.{sections-good}
-use Rattle.notes.proofs.Start.{nothing-sized}
+use Rattle.format.proofs.Typing.{schema-right}
+use Rattle.observed.specs.Observed.{observedSet}
+use Rattle.observed.proofs.Observe.{seen-nothing}
 use Rattle.learner.proofs.Book.{at-sections, scanned-own, at-records}
 use borrow.Author.Needs.{needs}
 use Rattle.learner.proofs.observe_form.Statement.{statement}
 use Rattle.learner.proofs.observe_form.Tie as tie
 
 returns : tie.Need-returns
-returns c = at-sections _ _ (c .before .before .before .before .before .pre .0) _ _ _ (c .before .before .sections .ensures) (c .before .is-refused .ensures) (c .if1 .taken)
+returns c = at-sections _ _ _ (c .before .before .before .before .before .pre .0) _ _ _ (c .before .before .sections .ensures) (c .before .is-refused .ensures) (c .if1 .taken)
 
 nothing-seen-requires : tie.Need-nothing-seen-requires
 nothing-seen-requires c κs =
@@ -24,14 +29,19 @@ records-requires c κs =
     let p = c .before .before .before .before .before .before .before .before .before .before .before .before .pre in
     let e = sym (x .before .before .sections .ensures) ∙ is-good _ (sym (x .before .is-refused .ensures) ∙ x .if1 .left) in
     let g = sections-good _ _ _ e in
-    (g .size .most, omega (arith, g .offsets .within, g .size .most), g .counts .records, λ _. (rw (← p .0) (g .counts .moves), c .before .before .before .before .before .nothing-seen .kept .1 .1 .0 ∙ nothing-sized _ (p .1)))
+    let seen = c .before .before .before .before .before .nothing-seen .ensures in (
+      (g .size .most, omega (arith, g .offsets .within, g .size .most), g .counts .records, rw (← p .0) (g .counts .relations)),
+      λ _.
+          rw (← p .0)
+          (g .counts .moves, schema-right _ _ _ g .falling, record { sized = ap length seen ∙ seen-nothing _ .sized; atoms = λ a low high. ap (λ (l : List ℕ). observedSet l a 6) seen ∙ seen-nothing _ .atoms a low high }),
+    )
 
 returns-2 : tie.Need-returns-2
 returns-2 c =
     let d = c .before .before .before in
     let x = d .before .before .before .before .before .before .before in
-    at-records _ _ (c .before .before .before .before .before .before .before .before .before .before .before .before .before .before .before .pre .0) _ _ _ _ _ (x .before .before .sections .ensures) (x .before .is-refused .ensures) (x .if1 .left)
-    (d .before .before .before .before .before .nothing-seen .ensures) (scanned-own _ _ (c .before .before .before .before .before .before .before .before .before .before .before .before .before .before .before .pre .0) _ _ _ _ _ _ (c .before .before .records .ensures))
+    at-records _ _ _ (c .before .before .before .before .before .before .before .before .before .before .before .before .before .before .before .pre .0) _ _ _ _ _ (x .before .before .sections .ensures) (x .before .is-refused .ensures) (x .if1 .left)
+    (d .before .before .before .before .before .nothing-seen .ensures) (scanned-own _ _ _ (c .before .before .before .before .before .before .before .before .before .before .before .before .before .before .before .pre .0) _ _ _ _ _ _ (c .before .before .records .ensures))
 
 pub observe-form-spec : {M : Type 1} → statement M
 observe-form-spec =

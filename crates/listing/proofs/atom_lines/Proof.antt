@@ -4,6 +4,7 @@ use native.Mathlib.Omega.{arith}
 use mathlib.Core.Path.{_≡_, refl}
 use mathlib.Core.List.{_++_}
 use lib.ListN.{length, take}
+use Rattle.format.specs.Form.{full}
 use Rattle.io.specs.Counts.{Counts}
 use Rattle.jobs.specs.Planning.{schemaOf}
 use Rattle.jobs.specs.Learn.{learnedFrom}
@@ -23,8 +24,8 @@ Inv-loop book h sheet m out₀ from end atoms at₀ n₀ out at n =
     × (length out ≡ length out₀)
     × Split
     (take at out)
-    (atomLines (schemaOf book) (learnedFrom book) (m .0) (end - n) n)
-    (take from out₀ ++ atomLines (schemaOf book) (learnedFrom book) (m .0) end 0)
+    (atomLines (schemaOf book) (learnedFrom full book) (m .0) (end - n) n)
+    (take from out₀ ++ atomLines (schemaOf book) (learnedFrom full book) (m .0) end 0)
 
 abbrev μ-loop : tie.MeasureT-loop
 μ-loop book h sheet m out₀ from end atoms at₀ n₀ out at n = end - n

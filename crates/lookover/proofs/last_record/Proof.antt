@@ -7,14 +7,14 @@ use Rattle.lookover.proofs.last_record.Tie as tie
 returns : tie.Need-returns
 returns c =
     let d = c .before .before in
-    last-refused _ _ (d .before .before .pre .0) (d .before .before .pre .1) _ (d .record-from .ensures) _ (c .before .is-refused .ensures) (c .if1 .taken)
+    last-refused _ _ _ (d .before .before .pre .0) (d .before .before .pre .1) (d .before .before .pre .2) _ (d .record-from .ensures) _ (c .before .is-refused .ensures) (c .if1 .taken)
 
 returns-2 : tie.Need-returns-2
 returns-2 c =
     let v = c .before in
     let x = v .before in
     let d = x .before .before in
-    last-tail _ _ (d .before .before .pre .0) (d .before .before .pre .1) _ (d .record-from .ensures) _ (x .before .is-refused .ensures) (x .if1 .left) _ (v .value-of .ensures) (c .if2 .taken)
+    last-tail _ _ _ (d .before .before .pre .0) (d .before .before .pre .1) (d .before .before .pre .2) _ (d .record-from .ensures) _ (x .before .is-refused .ensures) (x .if1 .left) _ (v .value-of .ensures) (c .if2 .taken)
 
 returns-3 : tie.Need-returns-3
 returns-3 c =
@@ -23,7 +23,7 @@ returns-3 c =
     let v = y .before in
     let x = v .before in
     let d = x .before .before in
-    last-good _ _ (d .before .before .pre .0) (d .before .before .pre .1) _ (d .record-from .ensures) _ (x .before .is-refused .ensures) (x .if1 .left) _ (v .value-of .ensures) (y .if2 .left)
+    last-good _ _ _ (d .before .before .pre .0) (d .before .before .pre .1) (d .before .before .pre .2) _ (d .record-from .ensures) _ (x .before .is-refused .ensures) (x .if1 .left) _ (v .value-of .ensures) (y .if2 .left)
     _ (r .read .ensures)
 
 pub last-record-spec : {M : Type 1} → statement M

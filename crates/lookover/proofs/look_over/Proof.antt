@@ -9,18 +9,18 @@ use Rattle.lookover.proofs.look_over.Statement.{statement}
 use Rattle.lookover.proofs.look_over.Tie as tie
 
 returns : tie.Need-returns
-returns c = look-over-stays _ _ (c .before .before .before .read .ensures) _ _ (c .before .before .sections .ensures) (c .before .is-refused .ensures) (c .if1 .taken)
+returns c = look-over-stays _ _ _ (c .before .before .before .read .ensures) _ _ (c .before .before .sections .ensures) (c .before .is-refused .ensures) (c .if1 .taken)
 
 records-requires : tie.Need-records-requires
 records-requires c κs =
     let d = c .before .before in
     let g = sections-good _ _ _ (sym (d .before .before .sections .ensures) ∙ is-good _ (sym (d .before .is-refused .ensures) ∙ d .if1 .left)) in
-    (omega arith, omega arith, omega arith)
+    (omega arith, omega arith, omega arith, rw (← d .before .before .before .read .ensures) (g .counts .relations))
 
 returns-2 : tie.Need-returns-2
 returns-2 c =
     let d = c .before .before .before in
-    look-over-records _ _ (d .before .before .before .read .ensures) _ _ (d .before .before .sections .ensures) (d .before .is-refused .ensures) (d .if1 .left) _ (records-own _ _ (d .before .before .before .read .ensures) _ _ (c .records .ensures))
+    look-over-records _ _ _ (d .before .before .before .read .ensures) _ _ (d .before .before .sections .ensures) (d .before .is-refused .ensures) (d .if1 .left) _ (records-own _ _ _ (d .before .before .before .read .ensures) _ _ (c .records .ensures))
 
 pub look-over-spec : {M : Type 1} → statement M
 look-over-spec =

@@ -7,13 +7,13 @@ use Rattle.marks.proofs.mark.Statement.{statement}
 use Rattle.marks.proofs.mark.Tie as tie
 
 returns : tie.Need-returns
-returns c = as-unbound _ _ _ (c .if1 .taken)
+returns c = as-unbound _ _ _ _ (c .if1 .taken)
 
 returns-2 : tie.Need-returns-2
 returns-2 c =
     let n = c .before .before in
     let i = n .before .before .before in
-    n .set-bit .ensures ∙ as-bound _ _ _ _ (i .if1 .left) (omega arith)
+    n .set-bit .ensures ∙ as-bound _ _ _ _ _ (i .if1 .left) (omega arith)
 
 pub mark-spec : {M : Type 1} → statement M
 mark-spec =

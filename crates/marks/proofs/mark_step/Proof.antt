@@ -19,7 +19,7 @@ loop-holds : tie.Need-loop-holds Inv-loop μ-loop
 loop-holds c =
     let i = c .before .before .before .before in
     let p = i .before .before .before .before .before .before .before .pre in
-    (stands-first _ _ _ _ _ _ _ _ _ (c .before .of-state .ensures) (c .of-state2 .ensures) (p .1 .1) (p .1 .2), i .invert .ensures, refl, refl)
+    (stands-first _ _ _ _ _ _ _ _ _ (c .before .of-list .ensures) (c .of-list2 .ensures) (p .1 .1) (p .1 .2), i .invert .ensures, refl, refl)
 
 turn-requires : tie.Need-turn-requires Inv-loop μ-loop
 turn-requires c κs =

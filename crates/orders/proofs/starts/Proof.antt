@@ -7,7 +7,7 @@ use Rattle.answer.specs.Turns.{turn-none, turn-refused, turn-good}
 use Rattle.limits.specs.Limits.{nearCeiling}
 use Rattle.format.specs.States.{state}
 use Rattle.format.specs.Order.{startCount, startAt, goalAt}
-use Rattle.format.proofs.States.{state-within}
+use Rattle.format.proofs.States.{list-within}
 use Rattle.tables.specs.Tables.{ForRightByPlace, RightForSome}
 use Rattle.orders.proofs.Tests.{walk-same}
 use borrow.Author.Needs.{needs}
@@ -44,7 +44,7 @@ loop-again c =
     let l = d .before .before in
     let e = c .before .next .given .1 in
     let (sch₁, ob₁, right₁) = l .before .before .before .before .before .pre .1 in
-    let w = state-within 16 sch₁ ob₁ _ _ _ _ (sym (d .state .ensures sch₁ ob₁ right₁) ∙ e) in (
+    let w = list-within _ 16 sch₁ ob₁ _ _ _ _ (sym (d .state .ensures sch₁ ob₁ right₁) ∙ e) in (
       l .loop .inv .0,
       l .loop .inv .1,
       omega arith,

@@ -10,7 +10,7 @@ use Rattle.records.proofs.body.Statement.{statement}
 use Rattle.records.proofs.body.Tie as tie
 
 returns : tie.Need-returns
-returns c = body-stays _ _ _ _ _ (c .before .before .before .before .before .pre .3) _ _ (c .before .before .objects .ensures) (c .before .is-refused .ensures) (c .if1 .taken)
+returns c = body-stays _ _ _ _ _ _ (c .before .before .before .before .before .pre .4) _ _ (c .before .before .objects .ensures) (c .before .is-refused .ensures) (c .if1 .taken)
 
 trajectory-requires : tie.Need-trajectory-requires
 unfolding RightFrom
@@ -21,7 +21,7 @@ trajectory-requires c κs =
     let w = objects-end _ _ _ _ _ _ (sym (d .before .before .objects .ensures) ∙ is-good _ (sym (d .before .is-refused .ensures) ∙ d .if1 .left)) in
     let v = c .value-of .ensures in
     let p = d .before .before .before .before .before .pre in (
-      record { within = p .2; short = omega arith; kinds = k .kinds-of .ensures; table = g .table-of .ensures _ (k .kinds-of .ensures) },
+      record { within = p .3; near = p .2; known = p .0; few = p .5; kinds = k .kinds-of .ensures; table = g .table-of .ensures _ (k .kinds-of .ensures) },
       omega arith,
     )
 
@@ -30,7 +30,7 @@ returns-2 c =
     let e = c .before in
     let d = e .before .before .before .before .before .before .before .before in
     c .closed .ensures
-    ∙ body-rest _ _ _ _ _ (d .before .before .before .before .before .pre .3) _ _ _ _ (d .before .before .objects .ensures) (d .before .is-refused .ensures) (d .if1 .left) (e .before .value-of .ensures) (e .trajectory .ensures)
+    ∙ body-rest _ _ _ _ _ _ (d .before .before .before .before .before .pre .4) _ _ _ _ (d .before .before .objects .ensures) (d .before .is-refused .ensures) (d .if1 .left) (e .before .value-of .ensures) (e .trajectory .ensures)
 
 pub body-spec : {M : Type 1} → statement M
 body-spec =

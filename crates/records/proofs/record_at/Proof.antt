@@ -18,15 +18,15 @@ body-requires c κs =
     let n = ap (λ (x : Head). x .length) e in
     let o = ap (λ (x : Head). x .objects) e in
     let w = head-limits _ _ g .2 in
-    (omega arith, omega arith, omega arith, e, rw o (head-objects _ _ g))
+    (c .before .before .before .before .before .pre .0, omega arith, omega arith, omega arith, e, rw o (head-objects _ _ g))
 
 returns-2 : tie.Need-returns-2
 returns-2 c =
     let d = c .before .before in
-    record-body _ _ _ _ _ _ (d .before .before .read .ensures) (d .before .head-bad .ensures) (d .if1 .left) (c .body .ensures)
+    record-body _ _ _ _ _ _ _ (d .before .before .read .ensures) (d .before .head-bad .ensures) (d .if1 .left) (c .body .ensures)
 
 pub record-at-spec : {M : Type 1} → statement M
 record-at-spec =
     tie.close
     (tie.spec (λ c κs. search needs) (λ c κs. (search needs, c .read .ensures))
-    (λ c. record-refused _ _ _ _ (c .before .head-bad .ensures) (c .if1 .taken)) (λ c. search needs) (λ c. search needs) body-requires returns-2)
+    (λ c. record-refused _ _ _ _ _ (c .before .head-bad .ensures) (c .if1 .taken)) (λ c. search needs) (λ c. search needs) body-requires returns-2)

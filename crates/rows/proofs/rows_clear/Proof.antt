@@ -8,9 +8,9 @@ use Rattle.rows.proofs.rows_clear.Tie as tie
 returns : tie.Need-returns
 returns c ys small right none =
     let r4 = c .before in
-    let r3 = r4 .before in
-    let r2 = r3 .before in
-    rows-clear-by _ _ ys small _ _ _ _ _ (r2 .before .row-word .ensures) (r2 .row-word2 .ensures) (r3 .row-word3 .ensures) (r4 .row-word4 .ensures)
+    let r3 = r4 .before .before in
+    let r2 = r3 .before .before in
+    rows-clear-by _ _ ys small _ _ _ _ _ (r2 .before .before .row-word .ensures) (r2 .row-word2 .ensures) (r3 .row-word3 .ensures) (r4 .row-word4 .ensures)
     (c .columns .ensures ys small right) (eqb-true _ 0 none)
 
 pub rows-clear-spec : {M : Type 1} → statement M

@@ -10,12 +10,13 @@ observe-steps-requires c κs =
     let d = c .before .before .before in
     let e = d .before .before .before .pre in
     let n = e .2 (d .if1 .taken) in
-    (n .0, record-ready _ _ _ (e .1) (n .1))
+    (record-ready _ _ _ _ (e .1) _ (n .0), n .1)
 
 returns : tie.Need-returns
 returns c =
     let d = c .before .before .before .before .before .before in
-    λ y. record-observed _ _ _ (d .before .before .before .pre .1) _ _ _ (c .before .before .observe-steps .ensures)
+    let o = c .before .before .observe-steps .ensures in
+    λ y. (record-observed _ _ _ _ (d .before .before .before .pre .1) _ _ _ (o .0), o .1)
 
 pub observe-record-spec : {M : Type 1} → statement M
 observe-record-spec =

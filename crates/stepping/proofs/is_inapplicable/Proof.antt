@@ -4,7 +4,7 @@ use native.Mathlib.Omega.{arith}
 use mathlib.Core.Path.{_≡_, sym, _∙_}
 use mathlib.Core.Bool.{false}
 use Rattle.terms.specs.Schema.{schema}
-use Rattle.stepping.proofs.Sets.{starts}
+use Rattle.rows.proofs.Rows.{starts}
 use Rattle.stepping.proofs.Needs.{unmetBelow, unmet-first, unmet-more, unmet-here, unmet-last}
 use Rattle.stepping.proofs.is_inapplicable.Statement.{statement}
 use Rattle.stepping.proofs.is_inapplicable.Tie as tie

@@ -4,7 +4,7 @@ use native.Mathlib.Omega.{arith}
 use mathlib.Core.Path.{_≡_, sym, _∙_}
 use Rattle.terms.specs.Schema.{schema}
 use Rattle.stepping.specs.Stepping.{nextBelow}
-use Rattle.stepping.proofs.Sets.{starts}
+use Rattle.rows.proofs.Rows.{starts}
 use Rattle.stepping.proofs.Next.{next-length, next-first, next-last}
 use Rattle.stepping.proofs.put_effects.Statement.{statement}
 use Rattle.stepping.proofs.put_effects.Tie as tie

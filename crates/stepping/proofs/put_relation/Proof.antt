@@ -1,7 +1,7 @@
 -- `stepping::put_relation` meets its contract: no effect of the relation's bound facts, or the removed ones and then the added ones in its rows.
 use borrow.Author.Needs.{needs}
 use mathlib.Core.Path.{refl}
-use Rattle.stepping.proofs.Objects.{indices-inside}
+use Rattle.grounding.proofs.Objects.{indices-inside}
 use Rattle.stepping.proofs.Next.{next-more, next-none}
 use Rattle.stepping.proofs.put_relation.Statement.{statement}
 use Rattle.stepping.proofs.put_relation.Tie as tie

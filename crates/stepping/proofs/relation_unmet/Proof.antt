@@ -1,7 +1,7 @@
 -- `stepping::relation_unmet` meets its contract: no need of the relation's bound facts, or the needs against its rows.
 use borrow.Author.Needs.{needs}
 use mathlib.Core.Path.{_∙_}
-use Rattle.stepping.proofs.Objects.{indices-inside}
+use Rattle.grounding.proofs.Objects.{indices-inside}
 use Rattle.stepping.proofs.Needs.{needs-none, needs-by}
 use Rattle.stepping.proofs.relation_unmet.Statement.{statement}
 use Rattle.stepping.proofs.relation_unmet.Tie as tie

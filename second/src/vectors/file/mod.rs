@@ -1,5 +1,5 @@
 //! A test vector, the file that vectors stand in, and the runner. Of this crate
-//! it needs the answers and the four calls alone, so that it can be built with
+//! it needs the answers and the six calls alone, so that it can be built with
 //! any checker.
 
 mod bytes;
@@ -10,7 +10,7 @@ pub use run::{missing, run, Failure};
 pub use text::{parse, print};
 
 use crate::answer::Answer;
-use crate::calls::Job;
+use crate::calls::{Form, Job};
 
 #[derive(Clone, Debug, PartialEq, Eq)]
 pub struct Vector {
@@ -18,6 +18,8 @@ pub struct Vector {
     /// Each of these calls must give the answer.
     pub jobs: Vec<Job>,
     pub book: Vec<u8>,
+    /// What the calls are told of the book; the converters are told nothing.
+    pub form: u32,
     pub order: Vec<u8>,
     pub record: Vec<u8>,
     /// The length of the output to lend.
@@ -34,11 +36,22 @@ impl Vector {
             name: name.into(),
             jobs: jobs.to_vec(),
             book,
+            form: Form::Full.number(),
             order: Vec::new(),
             record: Vec::new(),
             output: 0,
             answer,
             after: Vec::new(),
+        }
+    }
+
+    /// The form in which a call reads the book.
+    #[must_use]
+    pub fn form_for(&self, job: Job) -> Form {
+        match job.forms() {
+            [form] => *form,
+            _ if self.form == Form::Full.number() => Form::Full,
+            _ => Form::Short,
         }
     }
 }

@@ -4,7 +4,7 @@ use std::fmt;
 
 use super::Vector;
 use crate::answer::Answer;
-use crate::calls::{unpacked, Calls, Job};
+use crate::calls::{unpacked, Calls, Form, Job};
 
 pub struct Failure {
     pub name: String,
@@ -47,7 +47,7 @@ fn run_one(vector: &Vector, job: Job, calls: &(impl Calls + ?Sized)) -> Option<F
     for fill in [0x00, 0xff] {
         let before: Vec<u8> = (0..vector.output).map(|at| (at as u8) ^ fill).collect();
         let mut output = before.clone();
-        let given = job.run(calls, &vector.book, other, &mut output);
+        let given = job.run(calls, &vector.book, vector.form, other, &mut output);
         let expected = vector.after.iter().chain(before.iter().skip(vector.after.len()));
         let wrong_byte = output.iter().zip(expected).position(|(is, should)| is != should);
         if given != vector.answer.packed() || wrong_byte.is_some() {
@@ -58,15 +58,19 @@ fn run_one(vector: &Vector, job: Job, calls: &(impl Calls + ?Sized)) -> Option<F
     None
 }
 
-/// The calls and numbers that no vector has.
+/// The calls, forms of a book and numbers that no vector has.
 #[must_use]
-pub fn missing(vectors: &[Vector]) -> Vec<(Job, u32)> {
-    let has = |job: Job, number: u32| {
-        vectors.iter().any(|vector| vector.answer.number == number && vector.jobs.contains(&job))
+pub fn missing(vectors: &[Vector]) -> Vec<(Job, Form, u32)> {
+    let has = |&(job, form, number): &(Job, Form, u32)| {
+        vectors.iter().any(|vector| {
+            vector.answer.number == number
+                && vector.jobs.contains(&job)
+                && vector.form_for(job) == form
+        })
     };
-    Job::ALL
-        .into_iter()
-        .flat_map(|job| job.numbers().into_iter().map(move |number| (job, number)))
-        .filter(|&(job, number)| !has(job, number))
-        .collect()
+    let forms = |job: Job| job.forms().iter().map(move |&form| (job, form));
+    let numbers =
+        |(job, form): (Job, Form)| job.numbers().into_iter().map(move |number| (job, form, number));
+    let all = Job::ALL.into_iter().flat_map(forms).flat_map(numbers);
+    all.filter(|wanted| !has(wanted)).collect()
 }

@@ -21,16 +21,13 @@ pub fn print(vectors: &[Vector]) -> String {
         let jobs: Vec<&str> = vector.jobs.iter().map(|job| job.name()).collect();
         write!(text, "\nvector {}\njobs {}\n", vector.name, jobs.join(" ")).expect(WRITES);
         print_bytes(&mut text, "book", &vector.book);
+        print_unless_0(&mut text, "form", vector.form);
         print_bytes(&mut text, "order", &vector.order);
         print_bytes(&mut text, "record", &vector.record);
-        if vector.output > 0 {
-            writeln!(text, "output {}", vector.output).expect(WRITES);
-        }
+        print_unless_0(&mut text, "output", vector.output as u32);
         let Answer { number, place, position } = vector.answer;
         writeln!(text, "number {number}\nplace {place}").expect(WRITES);
-        if position > 0 {
-            writeln!(text, "position {position}").expect(WRITES);
-        }
+        print_unless_0(&mut text, "position", position);
         print_bytes(&mut text, "after", &vector.after);
     }
     writeln!(text, "\nend {}", vectors.len()).expect(WRITES);
@@ -38,6 +35,12 @@ pub fn print(vectors: &[Vector]) -> String {
 }
 
 const WRITES: &str = "a string takes all that is written";
+
+fn print_unless_0(text: &mut String, key: &str, number: u32) {
+    if number > 0 {
+        writeln!(text, "{key} {number}").expect(WRITES);
+    }
+}
 
 /// Parts on lines of at most [`WIDTH`], but for parts that are longer; a line
 /// that goes on begins with a blank.
@@ -84,6 +87,7 @@ pub fn parse(text: &str) -> Result<Vec<Vector>, String> {
         match key.as_str() {
             "jobs" => vector.jobs = parse_jobs(&value).map_err(in_vector)?,
             "book" => vector.book = decode(&value).map_err(in_vector)?,
+            "form" => vector.form = number().map_err(in_vector)?,
             "order" => vector.order = decode(&value).map_err(in_vector)?,
             "record" => vector.record = decode(&value).map_err(in_vector)?,
             "output" => vector.output = number().map_err(in_vector)? as usize,

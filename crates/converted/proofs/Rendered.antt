@@ -1,0 +1,114 @@
+-- Values rendered as bytes are read back where the bytes stand: a two-byte number, facts, a list of facts, a step.
+use Prim.Native.Nat.{ℕ, _+_, _*_, _<_}
+use mathlib.Core.Path.{_≡_, refl}
+use mathlib.Core.List.{List, [], _∷_}
+use native.Mathlib.Omega.{arith}
+use lib.ListN.{length}
+use Rattle.input.specs.Bytes.{two}
+use Rattle.output.specs.Written.{twoBytes}
+use Rattle.limits.specs.Limits.{countSize, factSize, stepSize}
+use Rattle.terms.specs.declared.Fact.{Fact}
+use Rattle.terms.specs.Facts.{factAt}
+use Rattle.terms.specs.Steps.{objectOf, stepAt}
+use Rattle.format.specs.Lists.{factsAt, listAt, listEnd}
+use Rattle.jobs.specs.Convert.{factsBytes, listBytes, stepBytes}
+use Rattle.converted.proofs.Stands.{Stands, stands-first, stands-rest, stands-left, stands-right}
+
+-- ---- a two-byte number
+
+-- it has two bytes, and is read if they hold it
+pub length-two : (n : ℕ) → length (twoBytes n) ≡ countSize
+unfolding twoBytes
+length-two n = refl
+
+pub two-read : (n : ℕ) (t : List ℕ) (at : ℕ) → n < 65536 → Stands (twoBytes n) t at → two t at ≡ n
+unfolding twoBytes two
+two-read n t at l h =
+    let high = stands-first _ _ t at h in
+    let low = stands-first _ _ t (at + 1) (stands-rest _ _ t at h) in
+    rw (high, low) (omega arith)
+
+-- ---- facts
+
+pub length-factsBytes : (fs : List Fact) → length (factsBytes fs) ≡ factSize * length fs
+unfolding factsBytes
+length-factsBytes [] = refl
+length-factsBytes (f ∷ fs) = let e = length-factsBytes fs in omega arith
+
+-- the first of rendered facts, and the others
+module _ (f : Fact) (fs : List Fact) (t : List ℕ) (at : ℕ) (h : Stands (factsBytes (f ∷ fs)) t at) where
+  -- The fact is read, and the others stand behind it.
+  pub fact-read : factAt t at ≡ f
+  unfolding factsBytes factAt
+  fact-read =
+      let a = stands-first _ _ t at h in
+      let h₁ = stands-rest _ _ t at h in
+      let b = stands-first _ _ t (at + 1) h₁ in
+      let c = stands-first _ _ t (at + 1 + 1) (stands-rest _ _ t (at + 1) h₁) in
+      let e : at + 1 + 1 ≡ at + 2 = omega arith in
+      rw (a, b, rw e at c)
+
+  pub facts-behind : Stands (factsBytes fs) t (at + factSize)
+  unfolding factsBytes
+  facts-behind =
+      let h₁ = stands-rest _ _ t at h in
+      let h₂ = stands-rest _ _ t (at + 1) h₁ in
+      let h₃ = stands-rest _ _ t (at + 1 + 1) h₂ in
+      let e : at + 1 + 1 + 1 ≡ at + 3 = omega arith in
+      rw e at h₃
+
+-- as many facts as were rendered are read as these
+pub facts-read : (fs : List Fact) (t : List ℕ) (at : ℕ) → Stands (factsBytes fs) t at → factsAt t (length fs) at ≡ fs
+unfolding factsAt
+facts-read [] t at h = refl
+facts-read (f ∷ fs) t at h =
+    rw (fact-read f fs t at h, facts-read fs t (at + factSize) (facts-behind f fs t at h))
+
+-- ---- a list of facts
+
+pub length-listBytes : (fs : List Fact) → length (listBytes fs) ≡ countSize + factSize * length fs
+unfolding listBytes twoBytes
+length-listBytes fs = let e = length-factsBytes fs in omega arith
+
+module _ (fs : List Fact) (t : List ℕ) (at : ℕ) (few : length fs < 65536) (h : Stands (listBytes fs) t at) where
+  -- The count is read, and the facts stand behind it:
+  pub count-read : two t at ≡ length fs
+  unfolding listBytes
+  count-read = two-read (length fs) t at few (stands-left (twoBytes (length fs)) (factsBytes fs) t at h)
+
+  pub facts-stand : Stands (factsBytes fs) t (at + countSize)
+  unfolding listBytes
+  facts-stand = rw (length-two (length fs)) at (stands-right (twoBytes (length fs)) (factsBytes fs) t at h)
+
+  -- the list is read, and ends where it was rendered to.
+  pub list-read : listAt t at ≡ fs
+  unfolding listAt
+  list-read = rw count-read (facts-read fs t (at + countSize) facts-stand)
+
+  pub list-end-read : listEnd t at ≡ at + length (listBytes fs)
+  unfolding listEnd
+  list-end-read = let e = length-listBytes fs in rw count-read (omega arith)
+
+-- ---- a step
+
+-- of a step that was read: its binding has four objects
+pub length-stepBytes : (s : List ℕ) (a : ℕ) → length (stepBytes (stepAt s a)) ≡ stepSize
+unfolding stepBytes
+length-stepBytes s a = refl
+
+pub step-read : (s : List ℕ) (a : ℕ) (t : List ℕ) (at : ℕ) → Stands (stepBytes (stepAt s a)) t at → stepAt t at ≡ stepAt s a
+unfolding stepBytes stepAt objectOf
+step-read s a t at h =
+    let h₁ = stands-rest _ _ t at h in
+    let h₂ = stands-rest _ _ t (at + 1) h₁ in
+    let h₃ = stands-rest _ _ t (at + 1 + 1) h₂ in
+    let h₄ = stands-rest _ _ t (at + 1 + 1 + 1) h₃ in
+    let e₀ = stands-first _ _ t at h in
+    let e₁ = stands-first _ _ t (at + 1) h₁ in
+    let e₂ = stands-first _ _ t (at + 1 + 1) h₂ in
+    let e₃ = stands-first _ _ t (at + 1 + 1 + 1) h₃ in
+    let e₄ = stands-first _ _ t (at + 1 + 1 + 1 + 1) h₄ in
+    let p₂ : at + 1 + 1 ≡ at + 2 = omega arith in
+    let p₃ : at + 1 + 1 + 1 ≡ at + 3 = omega arith in
+    let p₄ : at + 1 + 1 + 1 + 1 ≡ at + 4 = omega arith in
+    rw (e₀, e₁, rw p₂ at e₂, rw p₃ at e₃, rw p₄ at e₄)

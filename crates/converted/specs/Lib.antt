@@ -1,0 +1,2 @@
+-- What converting a book promises, for a reader.
+pub mod Converted

@@ -1,0 +1,2 @@
+-- What a call promises.
+pub mod Outcome

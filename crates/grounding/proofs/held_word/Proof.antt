@@ -1,0 +1,19 @@
+-- `grounding::held_word` meets its contract: by the places of the relation.
+use borrow.Author.Needs.{needs}
+use Rattle.grounding.proofs.Held.{held-word-by}
+use Rattle.grounding.proofs.held_word.Statement.{statement}
+use Rattle.grounding.proofs.held_word.Tie as tie
+
+returns : tie.Need-returns
+returns c =
+    let columns = c .before in
+    let placed = columns .before in
+    let p = placed .before in
+    let r = p .before in
+    let places = rw (r .atom-relation .ensures) at (p .places .ensures) in
+    held-word-by _ _ _ _ (r .before .before .before .pre .2) _ _ _ _ places (placed .placement-of .ensures .0) (columns .columns-of .ensures .0) (c .values-at .ensures)
+
+pub held-word-spec : {M : Type 1} → statement M
+held-word-spec =
+    tie.close
+    (tie.spec (λ c κs. search needs) (λ c κs. search needs) (λ c κs. search needs) (λ c κs. search needs) (λ c κs. search needs) returns)

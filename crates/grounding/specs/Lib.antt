@@ -1,0 +1,2 @@
+-- What the contracts cite besides the definitions of terms and rows.
+pub mod Grounding

@@ -1,0 +1,46 @@
+-- `turn` meets its contract: each of its three ways on is a law of Merge.
+use native.Mathlib.Omega.{arith}
+use mathlib.Core.Path.{sym, _∙_}
+use borrow.Author.Needs.{needs}
+use Rattle.rendering.proofs.Merge.{turned-held, turned-turn, turned-both}
+use Rattle.rendering.proofs.turn.Statement.{statement}
+use Rattle.rendering.proofs.turn.Tie as tie
+
+returns : tie.Need-returns
+returns c =
+    let t = c .before .before .before .before .before in
+    let g = t .before .before .before in
+    let p = g .before .before .before .before .before .before .before in
+    turned-held _ _ _ (p .pre .1) _ _ (g .before .fact .ensures) (g .fact2 .ensures) (sym (t .before .follows .ensures) ∙ t .if1 .taken) _ (c .before .before .before .before .passed .ensures) _ _ _ (c .before .before .append-fact .ensures)
+
+passed-requires-2 : tie.Need-passed-requires-2
+passed-requires-2 c κs =
+    let p = c .before .before .before .before .before .before .before .before .before .before .before .before .before .pre in
+    (p .3, omega (arith, p .1 .turns))
+
+returns-2 : tie.Need-returns-2
+returns-2 c =
+    let t = c .before .before .before .before .before in
+    let g = t .before .before .before .before .before .before in
+    let p = g .before .before .before .before .before .before .before in
+    turned-turn _ _ _ (p .pre .1) _ _ (g .before .fact .ensures) (g .fact2 .ensures) (sym (t .before .follows2 .ensures) ∙ t .if2 .taken) _ (c .before .before .before .before .passed2 .ensures) _ _ _ (c .before .before .append-fact2 .ensures)
+
+passed-requires-4 : tie.Need-passed-requires-4
+passed-requires-4 c κs =
+    let p = c .before .before .before .before .before .before .before .before .before .before .before .before .before .before .pre in
+    (p .3, omega (arith, p .1 .turns))
+
+returns-3 : tie.Need-returns-3
+returns-3 c =
+    let t = c .before .before in
+    let u = t .before .before .before in
+    let g = u .before .before .before in
+    let p = g .before .before .before .before .before .before .before in
+    turned-both _ _ _ (p .pre .1) _ _ (g .before .fact .ensures) (g .fact2 .ensures) (sym (u .before .follows .ensures) ∙ u .if1 .left) (sym (t .before .follows2 .ensures) ∙ t .if2 .left) _ _ (c .before .passed3 .ensures) (c .passed4 .ensures) (p .pre .4) _
+
+pub turn-spec : {M : Type 1} → statement M
+turn-spec =
+    tie.close
+    (tie.spec (λ c κs. search needs) (λ c κs. search needs) (λ c κs. search needs) (λ c κs. search needs) (λ c κs. search needs) (λ c κs. search needs)
+    (λ c. search needs) returns (λ c κs. search needs) (λ c κs. search needs) passed-requires-2 (λ c κs. search needs) (λ c. search needs) returns-2
+    (λ c κs. search needs) passed-requires-4 returns-3)

@@ -1,0 +1,6 @@
+-- What the functions promise: bytes appended to the new book, the facts of two lists that are yet to come, what is asked of the book, and the whole.
+pub mod Appended
+pub mod Merge
+pub mod Held
+pub mod Good
+pub mod Formed

@@ -1,0 +1,53 @@
+-- Two lists of facts walked together: those yet to come of either, and of the list in which the facts of one turn that stand in the other.
+use Prim.Native.Nat.{ℕ, _+_, _-_, _*_, _<_, _≤_}
+use mathlib.Core.Path.{_≡_}
+use mathlib.Core.List.{List, _∷_}
+use lib.ListN.{length}
+use Rattle.terms.specs.declared.Fact.{Fact}
+use Rattle.limits.specs.Limits.{factSize, maxLength}
+use Rattle.format.specs.Lists.{factsAt}
+use Rattle.format.specs.Toggled.{toggled}
+use Rattle.jobs.specs.Convert.{factsBytes}
+use Rattle.wellformed.specs.Right.{Increasing}
+use Rattle.rendering.specs.declared.Cursor.{Cursor}
+use Rattle.rendering.specs.declared.Walk.{Walk}
+use Rattle.rendering.specs.Appended.{AllBut}
+
+-- the facts of a list that are yet to come
+unfoldable pub rest : List ℕ → Cursor → List Fact
+rest s c = factsAt s (c .left) (c .at)
+
+-- they lie within the bytes, no more of these than a book may have
+pub record Ahead (s : List ℕ) (c : Cursor) : Type 0 where
+  pub within : c .at + factSize * c .left ≤ length s
+  pub near : length s ≤ maxLength
+
+-- after the next fact
+unfoldable pub next : Cursor → Cursor
+next c = record { at = c .at + factSize; left = c .left - 1 }
+
+-- the fact f comes next
+pub record Comes (s : List ℕ) (c : Cursor) (f : Fact) : Type 0 where
+  pub first : rest s c ≡ f ∷ rest s (next c)
+  pub ahead : Ahead s (next c)
+  pub less : next c .left < c .left
+
+-- the facts to come of the state, of those that turn, and those that hold when they have turned
+abbrev pub toCome : List ℕ → List ℕ → Walk → List Fact
+toCome state s v = toggled (rest state (v .held)) (rest s (v .turns))
+
+abbrev pub left : Walk → ℕ
+left v = v .held .left + v .turns .left
+
+-- both lists lie within their bytes, and the facts that turn are in order
+pub record Merging (state s : List ℕ) (v : Walk) : Type 0 where
+  pub held : Ahead state (v .held)
+  pub turns : Ahead s (v .turns)
+  pub last : Fact
+  pub order : Increasing last (rest s (v .turns))
+
+-- From v to w: nearer to the end, and of the facts that hold afterwards those that come no more were appended.
+pub record Turned (state s : List ℕ) (v : Walk) (old : List ℕ) (w : Walk) (new : List ℕ) : Type 0 where
+  pub merging : Merging state s w
+  pub less : left w < left v
+  pub appended : AllBut (factsBytes (toCome state s w)) (factsBytes (toCome state s v)) (v .at) old new (w .at)

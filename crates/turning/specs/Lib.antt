@@ -1,0 +1,2 @@
+-- What is carried on from state to state of a record.
+pub mod Turning

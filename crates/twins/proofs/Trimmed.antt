@@ -1,0 +1,144 @@
+-- Ground actions trimmed to what a model may ask of them: the facts of their atoms. Learning, consistent models and runs are the same by trimmed
+-- transitions and plans, so that books whose groundings differ elsewhere need only be compared trimmed.
+use Prim.Native.Nat.{ℕ, suc}
+use mathlib.Core.Path.{_≡_, refl, sym, ap, ap₂, _∙_, subst}
+use mathlib.Core.Logic.{_↔_}
+use mathlib.Core.Bool.{Bool, true, false, cond, _&&_, _||_, not}
+use mathlib.Core.List.{List, [], _∷_, map}
+use lib.Dec.{eqb}
+use Rattle.truth.specs.Bools.{clash, is-false, and-out, guarded}
+use Rattle.model.specs.Quantify.{same}
+use Rattle.model.specs.Domain.{Domain, State, GroundAction, Transition}
+use Rattle.model.specs.Model.{Model, Valid, Fits, Consistent, image, inapplicable, next, Run, stopped, run}
+use Rattle.model.specs.Learned.{learned, unboundEffect, conflicting}
+use Rattle.model.specs.Alike.{Alike, SameRow, Renumbered, none, more}
+use Rattle.model.proofs.Quantify.{below-same}
+use Rattle.model.proofs.Row.{row-of-renumbered, precondition-same, effect-same, conflicting-same}
+use Rattle.wellformed.proofs.Lists.{mem-map-out, mem-map-in}
+
+-- a ground action with no fact but those of its atoms
+unfoldable pub trimmed : Domain → GroundAction → GroundAction
+trimmed D s = record { action = s .action; ground = λ n. cond (D .atom (s .action) n) (s .ground n) 0 }
+
+-- and a transition by such a step
+unfoldable pub trimmedTransition : Domain → Transition → Transition
+trimmedTransition D t = record { step = trimmed D (t .step); pre = t .pre; post = t .post }
+
+-- the sets of the model hold atoms of their action alone
+pub record OfAtoms (D : Domain) (M : Model) : Type 0 where
+  pub needs : (b : Bool) (a n : ℕ) → M .precondition b a n ≡ true → D .atom a n ≡ true
+  pub effects : (b : Bool) (a n : ℕ) → M .effect b a n ≡ true → D .atom a n ≡ true
+
+-- as those of a valid model do,
+pub valid-of-atoms : (D : Domain) (M : Model) → Valid D M → OfAtoms D M
+valid-of-atoms D M v = record { needs = v .needed-atom; effects = v .effect-atom }
+
+-- and those of a learned one
+pub learned-of-atoms : (D : Domain) (ts : List Transition) → OfAtoms D (learned D ts)
+unfolding learned
+learned-of-atoms D ts = record { needs = λ b a n e. and-out (D .atom a n) _ e .0; effects = λ b a n e. and-out (D .atom a n) _ e .0 }
+
+module _ (D : Domain) where
+  trimmed-ground : (s : GroundAction) (n : ℕ) → D .atom (s .action) n ≡ true → trimmed D s .ground n ≡ s .ground n
+  unfolding trimmed
+  trimmed-ground s n e = rw e
+
+  image-trimmed : (q : ℕ → Bool) (s : GroundAction) → ((n : ℕ) → q n ≡ true → D .atom (s .action) n ≡ true)
+      → (f : ℕ) → image D q (trimmed D s) f ≡ image D q s f
+  unfolding image
+  image-trimmed q s h f = below-same _ _ _ (λ n. guarded (q n) _ _ (λ e. ap (λ (x : ℕ). eqb x f) (trimmed-ground s n (h n e))))
+
+  -- row 11 is met by both, or by neither
+  pub unbound-trimmed : (t : Transition) → unboundEffect D (trimmedTransition D t) ≡ unboundEffect D t
+  unfolding unboundEffect trimmedTransition trimmed
+  unbound-trimmed t =
+      below-same _ _ _
+      (λ f. guarded (not (same (t .pre f) (t .post f))) _ _ (λ e. ap not (image-trimmed (D .atom (t .step .action)) (t .step) (λ n h. h) f)))
+
+  -- ---- learning
+
+  alike-trimmed : (t : Transition) → Alike D t (trimmedTransition D t)
+  unfolding trimmedTransition trimmed
+  alike-trimmed t =
+      record {
+        action = refl;
+        was = λ n atom. ap (t .pre) (sym (trimmed-ground (t .step) n atom));
+        got = λ n atom. ap (t .post) (sym (trimmed-ground (t .step) n atom));
+      }
+
+  all-alike : (ts : List Transition) → Renumbered D ts (map (trimmedTransition D) ts)
+  all-alike [] = none
+  all-alike (t ∷ ts) = more (alike-trimmed t) (all-alike ts)
+
+  row-trimmed : (ts : List Transition) (a : ℕ) → SameRow D a ts (map (trimmedTransition D) ts)
+  row-trimmed ts a = row-of-renumbered D ts (map (trimmedTransition D) ts) (all-alike ts) a
+
+  -- The same model is learned,
+  pub learned-trimmed : (ts : List Transition) → learned D ts ≡ learned D (map (trimmedTransition D) ts)
+  learned-trimmed ts =
+      let us : List Transition = map (trimmedTransition D) ts in
+      λ i.
+      record {
+        precondition = λ b a n. precondition-same D a ts us (row-trimmed ts a) b n i;
+        effect = λ b a n. effect-same D a ts us (row-trimmed ts a) b n i;
+      }
+
+  -- and the same actions have a conflict.
+  pub conflicting-trimmed : (ts : List Transition) → conflicting D ts ≡ conflicting D (map (trimmedTransition D) ts)
+  conflicting-trimmed ts = λ i a. conflicting-same D a ts (map (trimmedTransition D) ts) (row-trimmed ts a) i
+
+  -- ---- models
+
+  module _ (M : Model) (own : OfAtoms D M) where
+    needed-trimmed : (s : GroundAction) (st : State) (n : ℕ) (b : Bool) → D .atom (s .action) n ≡ b
+        → M .precondition (not (st (trimmed D s .ground n))) (s .action) n ≡ M .precondition (not (st (s .ground n))) (s .action) n
+    needed-trimmed s st n true e = rw (trimmed-ground s n e)
+    needed-trimmed s st n false e =
+        is-false _ (λ h. clash (D .atom (s .action) n) (own .needs _ (s .action) n h) e)
+        ∙ sym (is-false _ (λ h. clash (D .atom (s .action) n) (own .needs _ (s .action) n h) e))
+
+    inapplicable-trimmed : (s : GroundAction) (st : State) → inapplicable D M (trimmed D s) st ≡ inapplicable D M s st
+    unfolding inapplicable trimmed
+    inapplicable-trimmed s st = below-same _ _ _ (λ n. needed-trimmed s st n (D .atom (s .action) n) refl)
+
+    next-trimmed : (s : GroundAction) (st : State) → next D M (trimmed D s) st ≡ next D M s st
+    unfolding next trimmed
+    next-trimmed s st =
+        λ i f.
+        image-trimmed (M .effect true (s .action)) s (own .effects true (s .action)) f i
+        || (st f && not (image-trimmed (M .effect false (s .action)) s (own .effects false (s .action)) f i))
+
+    -- A plan comes to the same,
+    pub run-trimmed : (plan : List GroundAction) (st : State) (k : ℕ) → run D M (map (trimmed D) plan) st k ≡ run D M plan st k
+    unfolding run
+    run-trimmed [] st k = refl
+    run-trimmed (s ∷ plan) st k =
+        ap₂ (λ (b : Bool) (r : Run). elim b as (λ c. Run) [ true ↦ stopped k | false ↦ r ]) (inapplicable-trimmed s st)
+        (ap (λ (x : State). run D M (map (trimmed D) plan) x (suc k)) (next-trimmed s st) ∙ run-trimmed plan (next D M s st) (suc k))
+
+    -- a transition fits,
+    fits-trimmed : (t : Transition) → Fits D M t ↔ Fits D M (trimmedTransition D t)
+    unfolding trimmedTransition
+    fits-trimmed t =
+        let goes = inapplicable-trimmed (t .step) (t .pre) in
+        let yields = next-trimmed (t .step) (t .pre) in (
+          λ h. record { goes = goes ∙ h .goes; yields = λ f. h .yields f ∙ ap (λ (x : State). x f) (sym yields) },
+          λ h. record { goes = sym goes ∙ h .goes; yields = λ f. h .yields f ∙ ap (λ (x : State). x f) yields },
+        )
+
+  -- and the same models are consistent.
+  pub consistent-trimmed : (ts : List Transition) (M : Model) → Consistent D ts M ↔ Consistent D (map (trimmedTransition D) ts) M
+  consistent-trimmed ts M = (
+    λ h.
+        record {
+          valid = h .valid;
+          fits = λ u m.
+              let (t, k, e) = mem-map-out (trimmedTransition D) ts m in
+              subst (λ (x : Transition). Fits D M x) e (fits-trimmed M (valid-of-atoms D M (h .valid)) t .0 (h .fits t k));
+        },
+    λ h.
+        record {
+          valid = h .valid;
+          fits = λ t m. fits-trimmed M (valid-of-atoms D M (h .valid)) t .1 (h .fits (trimmedTransition D t) (mem-map-in (trimmedTransition D) ts m));
+        },
+  )

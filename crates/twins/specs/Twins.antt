@@ -1,0 +1,64 @@
+-- Two good books that say the same, each in its form, get the same sheet, the same answers apart from the places of 11, and the same verdicts. `s`
+-- is of form `f`, `t` of form `g`. A book and its converted twin are such books.
+use Prim.Native.Nat.{ℕ, _≤_}
+use mathlib.Core.Path.{_≡_}
+use mathlib.Core.Logic.{_↔_}
+use mathlib.Core.Bool.{not}
+use mathlib.Core.List.{List}
+use lib.ListN.{length}
+use Rattle.answer.specs.declared.Answer.{Answer}
+use Rattle.answer.specs.declared.Answer.the-variants.{Good}
+use Rattle.answer.specs.Answer.{number, place}
+use Rattle.limits.specs.Limits.{maxLength}
+use Rattle.terms.specs.Agree.{SameSchema}
+use Rattle.format.specs.Form.{Form}
+use Rattle.format.specs.LookOver.{lookOver}
+use Rattle.model.specs.Domain.{State}
+use Rattle.model.specs.Model.{Model}
+use Rattle.model.specs.Judge.{Verdict}
+use Rattle.jobs.specs.Planning.{schemaOf, stepsOfBook}
+use Rattle.jobs.specs.Learn.{ruleSheet, learn, learnBytes}
+use Rattle.jobs.specs.Check.{check, checkBytes}
+use Rattle.jobs.specs.Convert.{converted}
+use Rattle.jobs.specs.Judge.{FitsBook, StartVerdict}
+use Rattle.converted.specs.Converted.{unplaced}
+
+-- both books are of good form with as many steps; their schemas say the same, with as many kinds; and their steps are the same in the same
+-- sequence, states included, wherever each is recorded
+pub record SameBooks (f g : Form) (s t : List ℕ) (n : ℕ) : Type 0 where
+  pub good : lookOver f s ≡ Good n
+  pub good′ : lookOver g t ≡ Good n
+  pub schema : SameSchema (schemaOf s) (schemaOf t)
+  pub kinds : schemaOf s .kinds ≡ schemaOf t .kinds
+  pub steps : unplaced (stepsOfBook f s) ≡ unplaced (stepsOfBook g t)
+
+-- the same number, and the same place unless the number is 11, whose place is a step's offset in its own book
+pub record SameAnswer (a b : Answer) : Type 0 where
+  pub number-same : number a ≡ number b
+  pub place-same : (number a ≡ 11 → ⊥) → place a ≡ place b
+
+-- what the calls and the judge say of the one book, they say of the other: learning into a sheet of any size, checking any order, whatever the
+-- bytes lent; the judge holds the same models, and says the same of any order's plan, right or not, from any start
+pub record SameAnswers (f g : Form) (s t : List ℕ) : Type 0 where
+  pub sheet : ruleSheet f s ≡ ruleSheet g t
+  pub learning : (size : ℕ) → SameAnswer (learn f s size) (learn g t size)
+  pub learned-bytes : (lent : List ℕ) → learnBytes f s lent ≡ learnBytes g t lent
+  pub checking : (o : List ℕ) (size : ℕ) → SameAnswer (check f s o size .answer) (check g t o size .answer)
+  pub position : (o : List ℕ) (size : ℕ) → check f s o size .position ≡ check g t o size .position
+  pub checked-bytes : (o lent : List ℕ) → checkBytes f s o lent ≡ checkBytes g t o lent
+  pub fitting : (M : Model) → FitsBook f s M ↔ FitsBook g t M
+  pub verdicts : (o : List ℕ) (start : State) (v : Verdict) → StartVerdict f s o start v ↔ StartVerdict g t o start v
+
+-- Books that say the same get the same answers.
+abbrev pub SameBooksSameAnswers : Type 0
+SameBooksSameAnswers = (f g : Form) (s t : List ℕ) (n : ℕ) → SameBooks f g s t n → SameAnswers f g s t
+
+-- A good book and the same book converted, where that does not pass 60,000 bytes, say the same,
+abbrev pub EitherForm : Type 0
+EitherForm = (form : Form) (s : List ℕ) (n : ℕ) → lookOver form s ≡ Good n → length (converted (not form) s) ≤ maxLength
+    → SameBooks form (not form) s (converted (not form) s) n
+
+-- and so get the same answers, either one first.
+abbrev pub EitherFormSameAnswers : Type 0
+EitherFormSameAnswers = (form : Form) (s : List ℕ) (n : ℕ) → lookOver form s ≡ Good n → length (converted (not form) s) ≤ maxLength
+    → SameAnswers form (not form) s (converted (not form) s) × SameAnswers (not form) form (converted (not form) s) s

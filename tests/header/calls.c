@@ -1,0 +1,210 @@
+/*
+ * The calls as the header declares them, on the smallest books and orders: that
+ * each links, both forms of a book, the converters, several starts, and what the
+ * header says of lent memory. The file is C11 and C++17 at once; it is built as
+ * both.
+ */
+#include "changeover.h"
+#include "expect.h"
+
+#include <string.h>
+
+static int all_are(const uint8_t *bytes, size_t count, uint8_t byte)
+{
+    return bytes[0] == byte && memcmp(bytes, bytes + 1, count - 1) == 0;
+}
+
+/* The answer of a refusal without a position. */
+static uint64_t refusal(enum changeover_numbers number, uint32_t place)
+{
+    return (uint64_t)number << 48 | place;
+}
+
+/*
+ * The shortest book: no kinds, relations, moves or records. The shortest order:
+ * one start without facts.
+ */
+static const uint8_t bare[16] = {0, 0, 0, 0, 0, 0, 0, 0, 0, 16, 0, 16, 0, 16, 0, 16};
+static const uint8_t bare_order[18] = {0, 0, 0, 1, 0, 0, 0, 0, 0, 16, 0, 16, 0, 18, 0, 18, 0, 0};
+
+static void test_calls(void)
+{
+    static const uint8_t record[6] = {0, 0, 0, 6, 0, 0};
+    uint8_t end[CHANGEOVER_END_LEN], out[22];
+    const size_t len = sizeof bare;
+
+    expect(changeover_look_over(bare, len, CHANGEOVER_FULL) == 0, "look over");
+    expect(changeover_learn(bare, len, CHANGEOVER_FULL, NULL, 0) == 0, "learn");
+    memset(end, 0xff, sizeof end);
+    expect(changeover_check(bare, len, CHANGEOVER_FULL, bare_order, sizeof bare_order, end,
+                            sizeof end) == 0,
+           "check");
+    expect(all_are(end, sizeof end, 0), "end sheet");
+    expect(changeover_check(bare, len, CHANGEOVER_FULL, NULL, 0, end, sizeof end) ==
+               refusal(CHANGEOVER_ORDER_HEADER, 0),
+           "no order");
+    expect(changeover_add(bare, len, CHANGEOVER_FULL, record, sizeof record, out, sizeof out) == 22,
+           "add");
+    expect(out[7] == 1 && out[15] == 22, "record count and end renewed");
+    expect(changeover_add(bare, len, CHANGEOVER_FULL, NULL, 0, NULL, 0) ==
+               refusal(CHANGEOVER_RECORD, 16),
+           "no record");
+    expect(changeover_to_short(bare, len, out, sizeof out) == len, "to short");
+    expect(changeover_to_full(bare, len, out, sizeof out) == len, "to full");
+    expect(memcmp(out, bare, len) == 0, "a book without records converted");
+}
+
+/*
+ * A relation without places, so there is one fact; a move without parameters; a
+ * record of two steps, whose three states all list the fact. In a full book it
+ * holds throughout. In a short one it turns with both steps, and by 12 no rule
+ * list fits.
+ */
+static const uint8_t one_fact[55] = {
+    0, 0, 0, 1, 0, 1, 0, 1, 0, 16, 0, 20, 0, 26, 0, 55, /* header */
+    0, 0, 0, 0, 0, 0, 0, 0, 0, 0,                       /* relation, move */
+    0, 2, 0, 29, 0, 1, 1, 0, 0,                         /* a record: head, state */
+    1, 0, 0, 0, 0, 0, 1, 1, 0, 0,                       /* step, state */
+    1, 0, 0, 0, 0, 0, 1, 1, 0, 0,                       /* step, state */
+};
+
+static void test_forms(void)
+{
+    static const uint32_t forms[] = {CHANGEOVER_FULL, CHANGEOVER_SHORT, 2, 256, 65536, UINT32_MAX};
+    const size_t len = sizeof one_fact;
+    uint8_t sheet[CHANGEOVER_RULES_LEN], end[CHANGEOVER_END_LEN], out[84];
+
+    expect(CHANGEOVER_FULL == 0 && CHANGEOVER_SHORT == 1, "the forms");
+    for (size_t i = 0; i < sizeof forms / sizeof *forms; i++) {
+        uint32_t form = forms[i];
+        uint64_t conflict = refusal(CHANGEOVER_CONFLICT, 1);
+
+        expect(changeover_look_over(one_fact, len, form) == 2, "look over in a form");
+        expect(changeover_learn(one_fact, len, form, sheet, sizeof sheet) == (form ? conflict : 2),
+               "learn in a form");
+        expect(changeover_check(one_fact, len, form, bare_order, sizeof bare_order, end,
+                                sizeof end) == (form ? conflict : 0),
+               "check in a form");
+        expect(changeover_add(one_fact, len, form, one_fact + 26, 29, out, sizeof out) == len + 29,
+               "add in a form");
+    }
+}
+
+/* From full to short, where nothing turns, and back; and the same bytes from short to full. */
+static void test_converters(void)
+{
+    const uint64_t wrong_length = refusal(CHANGEOVER_OUTPUT_LENGTH, 0);
+    const size_t len = sizeof one_fact;
+    uint8_t out[56], back[55];
+
+    memset(out, 0xa7, sizeof out);
+    expect(changeover_to_short(one_fact, len, out, 48) == wrong_length, "too short an output");
+    expect(changeover_to_full(one_fact, len, NULL, 0) == wrong_length, "no output");
+    expect(changeover_to_short(NULL, 0, out, sizeof out) == refusal(CHANGEOVER_BOOK_LENGTH, 0),
+           "no book");
+    expect(all_are(out, sizeof out, 0xa7), "a refusal writes nothing");
+    expect(changeover_to_short(one_fact, len, out, sizeof out) == 49, "full to short");
+    expect(out[15] == 49 && out[29] == 23, "end and record's length renewed");
+    expect(out[41] == 0 && out[48] == 0, "nothing turns");
+    expect(all_are(out + 49, sizeof out - 49, 0xa7), "bytes beyond the short book");
+    expect(changeover_to_full(out, 49, back, sizeof back) == len, "back to full");
+    expect(memcmp(back, one_fact, len) == 0, "there and back");
+    expect(changeover_to_full(one_fact, len, out, sizeof out) == 52, "short to full");
+    expect(out[41] == 0 && out[48] == 1, "no fact after the first step, one after the second");
+}
+
+/*
+ * A relation without places, so there is one fact. The order has two starts, the
+ * fact holding in the first alone, no steps, and the goal that the fact holds.
+ */
+static void test_starts(void)
+{
+    static const uint8_t book[20] = {0, 0, 0, 1, 0, 0, 0, 0, 0, 16, 0, 20, 0, 20, 0, 20};
+    uint8_t order[27] = {0, 0,  0, 2, 0, 1, 0, 0, 0, 16, 0, 16, 0, 23,
+                         0, 27, 0, 1, 1, 0, 0, 0, 0, 1,  1, 0,  0};
+    uint8_t end[CHANGEOVER_END_LEN];
+    uint64_t answer;
+
+    memset(end, 0xa7, sizeof end);
+    answer = changeover_check(book, sizeof book, CHANGEOVER_FULL, order, sizeof order, end,
+                              sizeof end);
+    expect(changeover_number(answer) == CHANGEOVER_GOAL_MISSED, "number of the second start");
+    expect(changeover_place(answer) == 1, "place of the second start");
+    expect(changeover_position(answer) == 2, "position of the second start");
+    expect(all_are(end, sizeof end, 0xa7), "a refusal writes nothing");
+
+    order[5] = 0; /* without the goal entry it passes */
+    order[15] = 23;
+    answer = changeover_check(book, sizeof book, CHANGEOVER_FULL, order, 23, end, sizeof end);
+    expect(answer == 0, "two starts pass");
+    expect(all_are(end, sizeof end, 0xa7), "end sheet with two starts");
+    answer = changeover_check(book, sizeof book, CHANGEOVER_FULL, order, 23, end, sizeof end - 1);
+    expect(answer == refusal(CHANGEOVER_OUTPUT_LENGTH, 0), "end sheet of wrong length");
+
+    order[3] = 17;
+    answer = changeover_check(book, sizeof book, CHANGEOVER_FULL, order, 23, end, sizeof end);
+    expect(answer == refusal(CHANGEOVER_START_COUNT, 0), "17 starts");
+    order[3] = 1; /* the second start is left over */
+    answer = changeover_check(book, sizeof book, CHANGEOVER_FULL, order, 23, end, sizeof end);
+    expect(answer == refusal(CHANGEOVER_START, 21), "bytes left behind the start");
+}
+
+/*
+ * Two inputs may overlap: a book as its own order, which has no start then; an
+ * order whose start is the first two bytes of the book; a book's own record added
+ * again.
+ */
+static void test_overlap(void)
+{
+    static const uint8_t both[32] = {0, 0, 0, 1, 0, 0, 0, 0, 0, 16, 0, 16, 0, 18, 0, 18,
+                                     0, 0, 0, 0, 0, 0, 0, 0, 0, 16, 0, 16, 0, 16, 0, 16};
+    static const uint8_t book[22] = {0, 0, 0, 0, 0, 0, 0, 1, 0, 16, 0,
+                                     16, 0, 16, 0, 22, 0, 0, 0, 6, 0, 0};
+    uint8_t end[CHANGEOVER_END_LEN], out[28];
+
+    expect(changeover_check(bare, sizeof bare, CHANGEOVER_FULL, bare, sizeof bare, end,
+                            sizeof end) == refusal(CHANGEOVER_START_COUNT, 0),
+           "a book as its own order");
+    expect(changeover_check(both + 16, 16, CHANGEOVER_FULL, both, 18, end, sizeof end) == 0,
+           "an order that reaches into the book");
+    expect(changeover_add(book, sizeof book, CHANGEOVER_FULL, book + 16, 6, out, sizeof out) == 28,
+           "a record of the book added again");
+    expect(memcmp(out + 16, book + 16, 6) == 0 && memcmp(out + 22, book + 16, 6) == 0,
+           "both records");
+}
+
+/* Lengths that no memory has, such as -1 of a read that failed. */
+static void test_impossible_lengths(void)
+{
+    static const size_t lengths[] = {SIZE_MAX, SIZE_MAX - 15, SIZE_MAX - 16, SIZE_MAX / 2 + 1};
+    const uint64_t too_long = refusal(CHANGEOVER_BOOK_LENGTH, 0);
+    const size_t bare_len = sizeof bare;
+    uint8_t end[CHANGEOVER_END_LEN], out[22];
+
+    for (size_t i = 0; i < sizeof lengths / sizeof *lengths; i++) {
+        size_t len = lengths[i];
+        expect(changeover_look_over(bare, len, CHANGEOVER_FULL) == too_long, "such a book");
+        expect(changeover_to_short(bare, len, out, sizeof out) == too_long, "such a full book");
+        expect(changeover_to_full(bare, len, out, sizeof out) == too_long, "such a short book");
+        expect(changeover_learn(bare, bare_len, CHANGEOVER_FULL, NULL, len) ==
+                   refusal(CHANGEOVER_OUTPUT_LENGTH, 0),
+               "such a sheet");
+        expect(changeover_check(bare, bare_len, CHANGEOVER_FULL, bare_order, len, end,
+                                sizeof end) == refusal(CHANGEOVER_ORDER_HEADER, 0),
+               "such an order");
+        expect(changeover_add(bare, bare_len, CHANGEOVER_FULL, bare, len, out, sizeof out) ==
+                   too_long,
+               "such a record");
+    }
+}
+
+int main(void)
+{
+    test_calls();
+    test_forms();
+    test_converters();
+    test_starts();
+    test_overlap();
+    test_impossible_lengths();
+    return failed;
+}
