@@ -15,14 +15,14 @@ use Rattle.limits.specs.Limits.{headerSize, maxLength}
 use Rattle.format.specs.Form.{Form}
 use Rattle.format.specs.Records.{stepsIn, recordAt}
 use Rattle.format.specs.LookOver.{lookOver}
-use Rattle.format.specs.Decode.{stepsOfRecord}
+use Rattle.format.specs.Decode.{stepsOfRecord, movedBy}
 use Rattle.jobs.specs.Add.{added, add, addBytes}
 use Rattle.format.proofs.Records.{record-within}
 use Rattle.format.proofs.Reading.{Copied}
 use Rattle.format.proofs.Copies.{placedBy, placed-same, recorded-copied}
 use Rattle.format.proofs.LookOver.{look-over-good}
 use Rattle.adding.specs.OneRecord.{lookRecord}
-use Rattle.adding.specs.ReadBack.{movedBy, AddedIsReadBack, AddedIsStored, RefusedIsUntouched}
+use Rattle.adding.specs.ReadBack.{AddedIsReadBack, AddedIsStored, RefusedIsUntouched}
 use Rattle.adding.proofs.Formed.{length-added}
 use Rattle.adding.proofs.NewBook.{byte-kept, byte-added, bytes-behind}
 use Rattle.adding.proofs.Kept.{header, kinds-kept, schema-kept, steps-last}

@@ -2,7 +2,7 @@
 use Prim.Native.Nat.{ℕ, _+_, _<_}
 use mathlib.Core.Path.{_≡_}
 use mathlib.Core.Bool.{Bool, false, _||_}
-use mathlib.Core.List.{List, _++_, map}
+use mathlib.Core.List.{List, _++_}
 use lib.Dec.{eqb}
 use lib.ListN.{length, take, drop}
 use Rattle.answer.specs.declared.Answer.the-variants.{Good, Refused}
@@ -13,7 +13,7 @@ use Rattle.terms.specs.Agree.{SameSchema}
 use Rattle.format.specs.Form.{Form}
 use Rattle.format.specs.Records.{stepsIn, recordAt}
 use Rattle.format.specs.LookOver.{lookOver}
-use Rattle.format.specs.Decode.{RecordedStep, stepsOfRecord, recordedSteps}
+use Rattle.format.specs.Decode.{stepsOfRecord, recordedSteps, movedBy}
 use Rattle.jobs.specs.Planning.{schemaOf}
 use Rattle.jobs.specs.Add.{added, add, addBytes}
 
@@ -31,10 +31,6 @@ oneMore h end =
       records = record { count = h .records .count + 1; at = h .records .at };
       end = end;
     }
-
--- recorded steps whose places lie so many bytes further on
-unfoldable pub movedBy : ℕ → List RecordedStep → List RecordedStep
-movedBy k = map (λ f. record { place = k + f .place; step = f .step; pre = f .pre; post = f .post })
 
 -- `s` the old book, `r` the bytes of the record, n the place of the success
 pub record ReadBack (form : Form) (s r : List ℕ) (n : ℕ) : Type 0 where

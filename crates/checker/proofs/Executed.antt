@@ -22,15 +22,14 @@ use Rattle.model.specs.Quantify.{Mem, here, there}
 use Rattle.model.specs.Domain.{Transition}
 use Rattle.model.specs.Learned.{learned}
 use Rattle.model.proofs.Impossible.{learned-consistent}
-use Rattle.jobs.specs.Planning.{domain, holding, schemaOf, stepsOfBook, transitionsOf, groundAction, goalEntry, startStates, planOf, goalOf}
+use Rattle.jobs.specs.Planning.{domain, holding, schemaOf, transitionsOf, groundAction, goalEntry, startStates, planOf, goalOf}
 use Rattle.jobs.specs.Learn.{learnable, learnedFrom}
 use Rattle.jobs.specs.Check.{planRun, orderRun, runAnswer, startAnswer, endSheet}
-use Rattle.observed.specs.Observed.{alwaysBefore, everBefore, added, deleted}
+use Rattle.observed.specs.Observed.{alwaysBefore, everBefore, added, deleted, observedOf}
 use Rattle.observed.specs.Rules.{ruleSet}
 use Rattle.observed.specs.Seen.{Seen, inSet}
-use Rattle.observed.proofs.Observe.{seen-observed}
 use Rattle.observed.proofs.Sheet.{seen-in, seen-out}
-use Rattle.observedright.proofs.ObservedRight.{recorded-faithful}
+use Rattle.observedright.proofs.OneWalk.{observed-seen}
 use Rattle.wellformed.proofs.Headers.{relations-few, moves-few, right-schema}
 use Rattle.wellformed.proofs.Formed.{formed}
 use Rattle.terms.proofs.Atoms.{atom-below}
@@ -45,7 +44,6 @@ use Rattle.statemask.specs.Executing.{Under, Ruled, Executing, executedAnswer}
 use Rattle.statemask.proofs.Plan.{execute-start, execute-answer, agrees-sheet}
 use Rattle.format.proofs.OrderForm.{order-good}
 use Rattle.execution.specs.Execution.{Executable}
-use Rattle.learner.specs.Learner.{observedOf}
 use Rattle.checker.specs.Checker.{executedFrom, answerFrom, StartsGood}
 
 -- the sets of a move's rules are its learned ones
@@ -94,10 +92,10 @@ module _ (form : Form) (s : List ℕ) (n m : ℕ) (good : lookOver form s ≡ Go
         omega arith
 
     executing : Executing (domain (schemaOf s)) (learnedFrom form s) (schemaOf s) (observedOf form s .masks) steps
-    unfolding observedOf learnedFrom transitionsOf domain groundAction
+    unfolding learnedFrom domain groundAction
     executing =
         let sch = schemaOf s in
-        let seen = seen-observed sch (moves-few form s n good) (stepsOfBook form s) (recorded-faithful form s n good) in
+        let seen = observed-seen form s n good in
         let size = relations-few form s n good in
         record {
           few = omega arith;

@@ -29,7 +29,8 @@ use Rattle.jobs.specs.Check.{orderRun, startAnswer, firstFailing, startsAnswer,
 use Rattle.jobs.proofs.Starts.{failing-same, failing-map, end-map}
 use Rattle.statemask.specs.Statemask.{execute, startMask}
 use Rattle.execution.specs.Execution.{Executable}
-use Rattle.learner.specs.Learner.{observedOf, BookObserved}
+use Rattle.observed.specs.Observed.{observedOf}
+use Rattle.learner.specs.Learner.{BookObserved}
 use Rattle.learner.proofs.Book.{schema-own, form-good}
 use Rattle.checker.specs.Checker.{PlanExecuted, executedFrom, answerFrom, StartsGood, answerEach, StartsOutcome, fromOrder, Ready, OrderOutcome, CheckOutcome}
 use Rattle.checker.proofs.Executed.{executable, starts-good, start-executed, start-sheet}

@@ -20,7 +20,7 @@ use Rattle.format.specs.Order.{GoalEntry, goalAt, stepCount, orderForm, starts,
 use Rattle.jobs.specs.Planning.{schemaOf, startStates}
 use Rattle.jobs.specs.Learn.{learnable}
 use Rattle.jobs.specs.Check.{orderRun, firstFailing, startsAnswer, check, endSheet, endAfter, checkBytes}
-use Rattle.learner.specs.Learner.{observedOf}
+use Rattle.observed.specs.Observed.{observedOf}
 use Rattle.statemask.specs.Statemask.{Executed, execute, startMask}
 use Rattle.statemask.specs.Executing.{executedAnswer}
 

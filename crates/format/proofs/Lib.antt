@@ -8,5 +8,6 @@ pub mod Records
 pub mod Typing
 pub mod Copies
 pub mod LookOver
+pub mod Parts
 pub mod Orders
 pub mod OrderForm

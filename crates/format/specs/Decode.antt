@@ -1,6 +1,6 @@
 -- What a book of good form holds, as values: its transitions in file order. Decoding is total, and means something where looking over is good.
 use Prim.Native.Nat.{ℕ, zero, suc, _+_}
-use mathlib.Core.List.{List, [], _∷_, _++_}
+use mathlib.Core.List.{List, [], _∷_, _++_, map}
 use Rattle.terms.specs.declared.Sections.{Sections}
 use Rattle.terms.specs.declared.Fact.{Fact}
 use Rattle.terms.specs.declared.Step.{Step}
@@ -43,3 +43,7 @@ stepsOfRecords form s (suc n) at = stepsOfRecord form s at ++ stepsOfRecords for
 -- all steps of a book
 unfoldable pub recordedSteps : Form → Sections → List ℕ → List RecordedStep
 recordedSteps form h s = stepsOfRecords form s (h .records .count) (h .records .at)
+
+-- recorded steps whose places lie so many bytes further on
+unfoldable pub movedBy : ℕ → List RecordedStep → List RecordedStep
+movedBy k = map (λ f. record { place = k + f .place; step = f .step; pre = f .pre; post = f .post })

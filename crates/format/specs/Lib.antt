@@ -7,4 +7,5 @@ pub mod States
 pub mod Records
 pub mod LookOver
 pub mod Decode
+pub mod Parts
 pub mod Order

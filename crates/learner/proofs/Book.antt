@@ -17,16 +17,16 @@ use Rattle.terms.specs.Schema.{schema}
 use Rattle.format.specs.Form.{Form}
 use Rattle.format.specs.Header.{sections}
 use Rattle.format.specs.LookOver.{lookOver, allRecords, lookOverBy}
-use Rattle.format.specs.Decode.{recordedSteps}
 use Rattle.jobs.specs.Planning.{schemaOf, stepsOfBook, transitionsOf}
 use Rattle.jobs.specs.Learn.{unboundEffects, conflictingMove, learnable, learn, learnBytes, learnedFrom, ruleSheet}
-use Rattle.observed.specs.Observed.{Observed, nothingSeen}
+use Rattle.observed.specs.Observed.{Observed, nothingSeen, heldAfter, observedOf}
 use Rattle.observed.specs.Rules.{unboundAnswer, conflictAmong, sheetObserved}
-use Rattle.observedright.proofs.ObservedRight.{observed-right}
+use Rattle.observedright.proofs.Sections.{nothing-alone}
+use Rattle.observedright.proofs.OneWalk.{observed-taught}
 use Rattle.notes.specs.Notes.{IsObserved}
-use Rattle.scan.specs.declared.Walked.{Walked}
+use Rattle.observing.specs.declared.Walked.{Walked}
 use Rattle.scan.specs.Scan.{RecordsScanned}
-use Rattle.learner.specs.Learner.{FormObserved, observedOf, BookObserved, LearnOutcome}
+use Rattle.learner.specs.Learner.{FormObserved, BookObserved, LearnOutcome}
 
 refused-not-good {ℓ} : {A : Type ℓ} (a : Answer) (m : ℕ) → isRefused a ≡ true → a ≡ Good m → A
 unfolding isRefused
@@ -68,18 +68,19 @@ module _ (form : Form) (s : List ℕ) (h : Sections) (own : h ≡ sectionsOf s) 
       ∙ sym parts
 
   -- what is observed after all records of a book
-  pub all-observed : (first bytes : List ℕ) (w : Walked) (m : ℕ)
+  pub all-observed : (first bytes : List ℕ) (w : Walked) (k m : ℕ)
+      → sections h s ≡ Good k
       → first ≡ nothingSeen (schema h s) .masks
-      → RecordsScanned form h s (h .records .count) (h .records .at) true (record { masks = first; named = 0 }) bytes w
+      → RecordsScanned form h s (h .records .count) (h .records .at) (record { masks = first; named = 0 }) bytes w
       → w .answer ≡ Good m
       → IsObserved (observedOf form s) bytes (w .named)
-  unfolding observedOf schemaOf stepsOfBook recordedSteps nothingSeen
-  all-observed first bytes w m e r f = rw (e, own) at (r .observes refl m f)
+  unfolding observedOf heldAfter schemaOf nothingSeen
+  all-observed first bytes w k m good e r f = rw (nothing-alone s k (rw own at good)) (rw (e, own) at (r .observes m f))
 
   -- the records by the header that was read
-  pub scanned-own : (n from : ℕ) (observing : Bool) (before : Observed) (bytes : List ℕ) (w : Walked)
-      → RecordsScanned form (sectionsOf s) s n from observing before bytes w → RecordsScanned form h s n from observing before bytes w
-  scanned-own n from observing before bytes w e = rw own e
+  pub scanned-own : (n from : ℕ) (before : Observed) (bytes : List ℕ) (w : Walked)
+      → RecordsScanned form (sectionsOf s) s n from before bytes w → RecordsScanned form h s n from before bytes w
+  scanned-own n from before bytes w e = rw own e
 
   -- rows 6 to 10
   pub at-records : (first bytes : List ℕ) (w : Walked) (a : Answer) (b : Bool)
@@ -87,10 +88,10 @@ module _ (form : Form) (s : List ℕ) (h : Sections) (own : h ≡ sectionsOf s) 
       → b ≡ isRefused a
       → b ≡ false
       → first ≡ nothingSeen (schema h s) .masks
-      → RecordsScanned form h s (h .records .count) (h .records .at) true (record { masks = first; named = 0 }) bytes w
+      → RecordsScanned form h s (h .records .count) (h .records .at) (record { masks = first; named = 0 }) bytes w
       → FormObserved form s bytes w
   at-records first bytes w a b p q r e n =
-      record { says = looked a (w .answer) b p q r (n .says); observes = λ m f. all-observed first bytes w m e n f }
+      record { says = looked a (w .answer) b p q r (n .says); observes = λ m f. all-observed first bytes w _ m (sym p ∙ is-good a (sym q ∙ r)) e n f }
 
 -- rows 11 and 12 from what is observed, after rows 1 to 10
 module _ (form : Form) (s bytes : List ℕ) (w : Walked) (looked′ : FormObserved form s bytes w) (b : Bool) (told : b ≡ isRefused (w .answer)) where
@@ -120,8 +121,7 @@ module _ (form : Form) (s bytes : List ℕ) (w : Walked) (looked′ : FormObserv
 
     module _ (c : Answer) (b₂ : Bool) (e₂ : c ≡ unboundAnswer (w .named)) (told₂ : b₂ ≡ isRefused c) where
       row11 : c ≡ unboundEffects (schemaOf s) (stepsOfBook form s)
-      unfolding observedOf
-      row11 = e₂ ∙ ap unboundAnswer (observes .named) ∙ observed-right form s _ formed .row11
+      row11 = e₂ ∙ ap unboundAnswer (observes .named) ∙ observed-taught form s _ formed .row11
 
       pub at-unbound : b₂ ≡ true → BookObserved form s bytes c
       at-unbound t = refused-book form s bytes c b₂ told₂ t (part-stays _ conflicting c b₂ row11 told₂ t ∙ sym rest)
@@ -129,8 +129,8 @@ module _ (form : Form) (s bytes : List ℕ) (w : Walked) (looked′ : FormObserv
       module _ (left₂ : b₂ ≡ false) (h : Sections) (own : h ≡ sectionsOf s) (d : Answer) (b₃ : Bool)
           (e₃ : d ≡ conflictAmong bytes (h .moves .count)) (told₃ : b₃ ≡ isRefused d) where
         row12 : d ≡ conflictingMove (schemaOf s) (transitionsOf form s)
-        unfolding observedOf transitionsOf
-        row12 = e₃ ∙ rw (moves-own s h own, observes .masks) (observed-right form s _ formed .row12)
+        unfolding transitionsOf
+        row12 = e₃ ∙ rw (moves-own s h own, observes .masks) (observed-taught form s _ formed .row12)
 
         behind : (conflictingMove (schemaOf s) (transitionsOf form s) >>= λ _. Good total) ≡ learnable form s
         unfolding conflicting
@@ -167,10 +167,10 @@ module _ (form : Form) (s old : List ℕ) (m : ℕ) (good : learnable form s ≡
 -- the sheet from what is observed
 pub sheet-by : (form : Form) (s : List ℕ) (m : ℕ) (h : Sections) (bytes new : List ℕ) → h ≡ sectionsOf s → learnable form s ≡ Good m → bytes ≡ observedOf form s .masks
     → new ≡ sheetObserved bytes (h .moves .count) 1 → new ≡ ruleSheet form s
-unfolding observedOf learnable transitionsOf learnedFrom ruleSheet
+unfolding learnable transitionsOf learnedFrom ruleSheet
 sheet-by form s m h bytes new own good e f =
     let p = parted (lookOver form s) m _ good in
-    f ∙ rw (moves-own s h own, e) (observed-right form s (p .0) (p .1) .sheet)
+    f ∙ rw (moves-own s h own, e) (observed-taught form s (p .0) (p .1) .sheet)
 
 -- a book that learns is of good form
 pub form-good : (form : Form) (s : List ℕ) (m : ℕ) → learnable form s ≡ Good m → (n : ℕ) × (lookOver form s ≡ Good n)

@@ -7,15 +7,10 @@ use Rattle.answer.specs.declared.Answer.{Answer}
 use Rattle.answer.specs.declared.Answer.the-variants.{Good}
 use Rattle.format.specs.Form.{Form}
 use Rattle.format.specs.LookOver.{lookOver}
-use Rattle.observed.specs.Observed.{Observed, observeAll, nothingSeen}
+use Rattle.observed.specs.Observed.{observedOf}
 use Rattle.notes.specs.Notes.{IsObserved}
-use Rattle.jobs.specs.Planning.{schemaOf, stepsOfBook}
 use Rattle.jobs.specs.Learn.{learnable, learn, learnBytes}
-use Rattle.scan.specs.declared.Walked.{Walked}
-
--- what is observed after all steps of a book
-unfoldable pub observedOf : Form → List ℕ → Observed
-observedOf form s = observeAll (stepsOfBook form s) (nothingSeen (schemaOf s))
+use Rattle.observing.specs.declared.Walked.{Walked}
 
 -- rows 1 to 10, and what is observed where they are good
 pub record FormObserved (form : Form) (s bytes : List ℕ) (w : Walked) : Type 0 where

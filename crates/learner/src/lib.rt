@@ -2,7 +2,7 @@
 // Uses sections and scan for the rows of the form, notes for what is observed before any record, rulesheet and conflicts for what comes of what is
 // observed, answer, limits and terms, and the definitions of jobs and observed.
 use answer::Answer;
-use scan::Walked;
+use observing::Walked;
 use terms::Sections;
 ghost use mathlib.Core.Path.{_≡_};
 ghost use Rattle.limits.specs.Limits.{observedSize};
@@ -28,7 +28,6 @@ fn observe_form(s: &[u8], short: bool, h: Sections, observed: &mut [u8]) -> Walk
         short,
         h.records.count as usize,
         h.records.at as usize,
-        true,
         observed,
     )
 }

@@ -103,6 +103,10 @@ observedPerMove = 224
 abbrev pub observedSize : ℕ
 observedSize = 7168
 
+-- the most that the learner may hold after a record, in bytes
+abbrev pub maxHeld : ℕ
+maxHeld = 8192
+
 -- ---- the numbers of bound facts and of facts: each is below the greatest, and a relation has so many
 
 abbrev pub maxAtoms : ℕ

@@ -1,6 +1,6 @@
 // Looking over a book of either form: rows 1 to 10 of the refusal table, for any bytes; the count of all steps is good.
-// Uses answer, limits, terms, sections, records, the reader of one record, scan, and the definitions of format. The records are walked once, and
-// nothing is observed.
+// Uses answer, terms, sections, records for a head, the reader of one record, and the definitions of format. Nothing is observed; learning has a walk
+// of its own (scan), which looks over and observes at once.
 use answer::Answer;
 use records::Head;
 use terms::Sections;
@@ -11,14 +11,31 @@ ghost use Rattle.terms.specs.Sections.{sectionsOf};
 ghost use Rattle.limits.specs.Limits.{maxLength, maxRecords, maxRelations};
 ghost use Rattle.format.specs.LookOver.{lookOver, allRecords};
 
-// A number of records, which end the book; the count of all steps is good.
+// A number of records, which end the book, walked once and in file order; the count of all steps is good.
 fn records(s: &[u8], short: bool, n: usize, from: usize) -> Answer
     requires { ⌜ (length (now s) ≤ maxLength) × (from ≤ maxLength) × (n ≤ maxRecords) × (sectionsOf (now s) .relations .count ≤ maxRelations) ⌝ }
     ensures { λ r. ⌜ r ≡ allRecords short (sectionsOf (now (s .entry))) (now (s .entry)) n from ⌝ }
 {
-    let mut none = [0u8; 0];
-    let w = scan::records(s, short, n, from, false, &mut none);
-    w.answer
+    let mut left = n;
+    let mut at = from;
+    let mut total: usize = 0;
+    while 0 < left {
+        match reader::record_from(s, at, short) {
+            Answer::Refused(k, p) => {
+                return Answer::Refused(k, p);
+            }
+            Answer::Good(next) => {
+                let head = Head::read(s, at);
+                total += head.steps as usize;
+                at = next;
+            }
+        }
+        left -= 1;
+    }
+    if at < s.len() {
+        return Answer::Refused(6, at);
+    }
+    Answer::Good(total)
 }
 
 // The record at an offset, which ends the book; the count of its steps is good.

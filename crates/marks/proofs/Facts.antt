@@ -16,8 +16,9 @@ use Rattle.limits.specs.Limits.{factSize, nearCeiling}
 use Rattle.format.specs.Lists.{factsAt, listAt, listEnd}
 use Rattle.observed.specs.Inverse.{marks, unbound, sameFacts, unboundChanged}
 use Rattle.marks.specs.declared.Cursor.{Cursor}
-use Rattle.marks.specs.Marks.{pairOf, markedAs, rest, Ahead, next, Comes}
-use Rattle.marks.proofs.Atoms.{pair-test, marked-as}
+use Rattle.lifting.specs.Pairs.{pairOf, markedAs}
+use Rattle.marks.specs.Marks.{rest, Ahead, next, Comes}
+use Rattle.lifting.proofs.Pairs.{pair-test, marked-as}
 use Rattle.marks.proofs.Unbound.{none-more}
 
 module _ (s : List ℕ) where

@@ -1,5 +1,5 @@
 -- The facts of a step's two states walked together: each turn leads on to the same sets and the same answer. For `turn` and `mark_step` of
--- src/lib.rt. Uses Unbound for row 11, Facts for each state.
+-- src/lib.rt. Uses Unbound for row 11, Facts and Looks for each state.
 use Prim.Native.Nat.{ℕ, _<_, _≤_}
 use mathlib.Core.Path.{_≡_, refl, sym, ap, ap₂, _∙_}
 use mathlib.Core.Bool.{Bool, true, false, _&&_, _||_, or-assoc, or-false}
@@ -11,14 +11,18 @@ use Rattle.truth.specs.Bools.{clash, and-out}
 use Rattle.mask.specs.Sets.{empty}
 use Rattle.terms.specs.declared.Binding.{Binding}
 use Rattle.terms.specs.declared.Fact.{Fact}
+use Rattle.format.specs.Lists.{listAt}
 use Rattle.observed.specs.Inverse.{marks, atomsIn, sameFact, sameFacts, unbound, unboundChanged}
 use Rattle.observed.proofs.Facts.{same-fact}
+use Rattle.states.specs.declared.FactCursor.{FactCursor}
 use Rattle.marks.specs.declared.Cursor.{Cursor}
 use Rattle.marks.specs.declared.Walk.{Walk}
-use Rattle.marks.specs.Marks.{pairOf, rest, Ahead, Comes, says, Turned, StepMarked}
-use Rattle.marks.proofs.Atoms.{place-bound, place-unbound, pair-test}
+use Rattle.lifting.specs.Pairs.{pairOf}
+use Rattle.marks.specs.Marks.{rest, Ahead, Comes, plain, says, Turned, ListAhead, StepMarked}
+use Rattle.lifting.proofs.Pairs.{place-bound, place-unbound, pair-test}
 use Rattle.marks.proofs.Unbound.{none-after, both-more, before-more, changed-more}
 use Rattle.marks.proofs.Facts.{rest-none, Passes, passed-by}
+use Rattle.marks.proofs.Looks.{suited-next}
 
 -- neither of two counts is 0
 pub both-left : (m n : ℕ) → (ltb 0 m && ltb 0 n) ≡ true → (0 < m) × (0 < n)
@@ -30,28 +34,29 @@ module _ (s atoms : List ℕ) (b : Binding) where
   -- ---- one turn: f comes next before
   module _ (w : Walk) (f : Fact) (m n : List ℕ) (now-f : Comes s (w .pre) f) where
     -- a bound fact that does not come next after
-    pub turned-before : Ahead s (w .post) → (x : ℕ) → x ≡ pairOf atoms b f → x < 16 → (p : Cursor) (m′ : List ℕ) → Passes f x (w .pre) m p m′
-        → Turned s atoms b w m n (record { pre = p; post = w .post; changed = w .changed }) m′ n
+    pub turned-before : Ahead s (plain (w .post)) → (x : ℕ) → x ≡ pairOf atoms b f → x < 16 → (p : Cursor) (m′ : List ℕ) → Passes f x (w .pre) m p m′
+        → Turned s atoms b w m n (record { pre = p; post = w .post; changed = w .changed; bad = false }) m′ n
     unfolding says
     turned-before a x is u p m′ d =
         let i = passed-by s atoms b is now-f d in
         record {
           ahead = i .ahead;
           aheadAfter = a;
+          suited = λ table. suited-next table f (rest s p) (rest s (w .pre)) (i .first);
           before = i .marked;
           after = refl;
-          same = ap (λ (y : Bool). w .changed || y) (rw (i .first) (sym (before-more atoms b f (rest s p) (rest s (w .post)) (place-bound b f atoms x is u))));
+          same = ap (λ (y : Bool). w .changed || y) (rw (i .first) (sym (before-more atoms b f (rest s p) (rest s (plain (w .post))) (place-bound b f atoms x is u))));
           less = omega (arith, i .less);
         }
 
     -- g comes next after
-    module _ (g : Fact) (now-g : Comes s (w .post) g) (t : Bool) (is-t : t ≡ sameFact f g) where
+    module _ (g : Fact) (now-g : Comes s (plain (w .post)) g) (t : Bool) (is-t : t ≡ sameFact f g) where
       pub turned-both : (x : ℕ) → x ≡ pairOf atoms b f → t ≡ true
-          → (p q : Cursor) (m′ n′ : List ℕ)
+          → (p : Cursor) (q : FactCursor) (m′ n′ : List ℕ)
           → Passes f x (w .pre) m p m′
-          → Passes f x (w .post) n q n′
-          → Turned s atoms b w m n (record { pre = p; post = q; changed = w .changed }) m′ n′
-      unfolding says
+          → Passes f x (plain (w .post)) n (plain q) n′
+          → Turned s atoms b w m n (record { pre = p; post = q; changed = w .changed; bad = false }) m′ n′
+      unfolding says plain
       turned-both x is u p q m′ n′ d e =
           let h : f ≡ g = same-fact f g (sym is-t ∙ u) in
           let k : sameFact f f ≡ true = ap (sameFact f) h ∙ sym is-t ∙ u in
@@ -60,9 +65,10 @@ module _ (s atoms : List ℕ) (b : Binding) where
           record {
             ahead = i .ahead;
             aheadAfter = j .ahead;
+            suited = λ table. suited-next table f (rest s p) (rest s (w .pre)) (i .first);
             before = i .marked;
             after = j .marked;
-            same = ap (λ (y : Bool). w .changed || y) (rw (i .first, j .first) (sym (both-more atoms b f (rest s p) (rest s q) k)));
+            same = ap (λ (y : Bool). w .changed || y) (rw (i .first, j .first) (sym (both-more atoms b f (rest s p) (rest s (plain q)) k)));
             less = omega (arith, i .less, j .less);
           }
 
@@ -72,22 +78,23 @@ module _ (s atoms : List ℕ) (b : Binding) where
           → x ≡ pairOf atoms b f
           → 16 ≤ x
           → y ≡ pairOf atoms b g
-          → (q : Cursor) (n′ : List ℕ)
-          → Passes g y (w .post) n q n′
-          → Turned s atoms b w m n (record { pre = w .pre; post = q; changed = w .changed || leb 16 y }) m n′
-      unfolding says
+          → (q : FactCursor) (n′ : List ℕ)
+          → Passes g y (plain (w .post)) n (plain q) n′
+          → Turned s atoms b w m n (record { pre = w .pre; post = q; changed = w .changed || leb 16 y; bad = false }) m n′
+      unfolding says plain
       turned-after a u x y is v is′ q n′ e =
           let j = passed-by s atoms b is′ now-g e in
           let h = place-unbound b f atoms x is v in
           record {
             ahead = a;
             aheadAfter = j .ahead;
+            suited = λ table all. all;
             before = refl;
             after = j .marked;
             same =
-                or-assoc (w .changed) (leb 16 y) (unboundChanged atoms b (rest s (w .pre)) (rest s q))
+                or-assoc (w .changed) (leb 16 y) (unboundChanged atoms b (rest s (w .pre)) (rest s (plain q)))
                 ∙ ap (λ (z : Bool). w .changed || z)
-                (rw (now-f .first, j .first) (changed-more atoms b f _ g (rest s q) (leb 16 y) (sym is-t ∙ u) h (pair-test b g atoms y is′)));
+                (rw (now-f .first, j .first) (changed-more atoms b f _ g (rest s (plain q)) (leb 16 y) (sym is-t ∙ u) h (pair-test b g atoms y is′)));
             less = omega (arith, j .less);
           }
 
@@ -112,20 +119,20 @@ module _ (s atoms : List ℕ) (b : Binding) where
   -- Where the walk stands: what is yet to come leads to the sets and the answer of the two states.
   pub record Stands (pre post : List Fact) (w : Walk) (m n : List ℕ) : Type 0 where
     pub ahead : Ahead s (w .pre)
-    pub aheadAfter : Ahead s (w .post)
+    pub aheadAfter : Ahead s (plain (w .post))
     pub before : marks atoms b m (rest s (w .pre)) ≡ atomsIn atoms b pre
-    pub after : marks atoms b n (rest s (w .post)) ≡ atomsIn atoms b post
+    pub after : marks atoms b n (rest s (plain (w .post))) ≡ atomsIn atoms b post
     pub same : says s atoms b w ≡ unboundChanged atoms b pre post
 
-  pub stands-first : (pre post : List Fact) (p q : Cursor) (m n : List ℕ)
+  pub stands-first : (pre : List Fact) (post : ℕ) (p : Cursor) (q : FactCursor) (m n : List ℕ)
       → (rest s p ≡ pre) × Ahead s p
-      → (rest s q ≡ post) × Ahead s q
+      → ListAhead s post q
       → m ≡ empty 32
       → n ≡ empty 32
-      → Stands pre post (record { pre = p; post = q; changed = false }) m n
+      → Stands pre (listAt s post) (record { pre = p; post = q; changed = false; bad = false }) m n
   unfolding atomsIn says
   stands-first pre post p q m n d e i j =
-      record { ahead = d .1; aheadAfter = e .1; before = rw (i, d .0); after = rw (j, e .0); same = rw (d .0, e .0) }
+      record { ahead = d .1; aheadAfter = e .ahead; before = rw (i, d .0); after = rw (j, e .facts); same = rw (d .0, e .facts) }
 
   module _ {pre post : List Fact} {w : Walk} {m n : List ℕ} (i : Stands pre post w m n) where
     pub stands-next : {v : Walk} {m′ n′ : List ℕ} → Turned s atoms b w m n v m′ n′ → Stands pre post v m′ n′
@@ -141,15 +148,15 @@ module _ (s atoms : List ℕ) (b : Binding) where
     pub stands-end : (ltb 0 (w .pre .left) && ltb 0 (w .post .left)) ≡ false
         → (m′ n′ : List ℕ) (only-before only-after : Bool)
         → (m′ ≡ marks atoms b m (rest s (w .pre))) × (only-before ≡ unboundChanged atoms b [] (rest s (w .pre)))
-        → (n′ ≡ marks atoms b n (rest s (w .post))) × (only-after ≡ unboundChanged atoms b [] (rest s (w .post)))
+        → (n′ ≡ marks atoms b n (rest s (plain (w .post)))) × (only-after ≡ unboundChanged atoms b [] (rest s (plain (w .post))))
         → StepMarked atoms b pre post m′ n′ (w .changed || only-before || only-after)
-    unfolding says
+    unfolding says plain
     stands-end u m′ n′ only-before only-after d e =
         record {
           before = d .0 ∙ i .before;
           after = e .0 ∙ i .after;
           unbound =
               or-assoc (w .changed) only-before only-after
-              ∙ ap (λ (y : Bool). w .changed || y) (ap₂ (λ (x y : Bool). x || y) (d .1) (e .1) ∙ end-says (w .pre) (w .post) u)
+              ∙ ap (λ (y : Bool). w .changed || y) (ap₂ (λ (x y : Bool). x || y) (d .1) (e .1) ∙ end-says (w .pre) (plain (w .post)) u)
               ∙ i .same;
         }

@@ -1,4 +1,4 @@
--- The facts of a list that turn in a state and in a set of bound facts, one by one. For `turn_fact` and `mark_turned` of src/lib.rt.
+-- The facts of a list that turn in a state and in a set of bound facts, one by one. For `turn_mark` and `mark_turned` of src/lib.rt.
 use Prim.Native.Nat.{ℕ, _-_}
 use mathlib.Core.Path.{_≡_, refl, sym, ap, _∙_}
 use mathlib.Core.Bool.{Bool, false, _||_, or-false, or-assoc}
@@ -13,8 +13,9 @@ use Rattle.model.specs.Quantify.{any}
 use Rattle.observed.specs.Inverse.{turnMarks, someUnbound}
 use Rattle.turning.specs.Turning.{flipped}
 use Rattle.marks.specs.declared.Cursor.{Cursor}
-use Rattle.marks.specs.Marks.{pairOf, turnedAs, rest, Ahead, next, Comes}
-use Rattle.marks.proofs.Atoms.{pair-test, turned-as}
+use Rattle.lifting.specs.Pairs.{pairOf, turnedAs}
+use Rattle.marks.specs.Marks.{rest, Ahead, next, Comes}
+use Rattle.lifting.proofs.Pairs.{pair-test, turned-as}
 use Rattle.marks.proofs.Facts.{rest-none}
 
 module _ (s atoms : List ℕ) (b : Binding) where

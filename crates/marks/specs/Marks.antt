@@ -1,64 +1,30 @@
 -- A step's bound facts and row 11, in the parts that the functions compute: a table of a binding, the facts of a state that are yet to come,
--- and two states walked together. `StepMarked` is for callers. Uses the definitions of observed and format.
+-- and two states walked together, the second looked over on the way. `StepMarked`, `StepTurned`, `Suited` and `RightForFew` are for callers.
+-- Uses the definitions of observed, format and states.
 use Prim.Native.Nat.{ℕ, _+_, _-_, _*_, _<_, _≤_}
 use mathlib.Core.Path.{_≡_}
-use mathlib.Core.Bool.{Bool, cond, _||_}
-use mathlib.Core.List.{List, _∷_}
-use lib.Dec.{leb}
-use lib.ListN.{length, getD, set, replicate}
-use Rattle.mask.specs.Bits.{setBit, flipBit}
-use Rattle.terms.specs.declared.Object.{Object}
+use mathlib.Core.Bool.{Bool, true, false, _||_}
+use mathlib.Core.List.{List, [], _∷_}
+use lib.ListN.{length}
 use Rattle.terms.specs.declared.Binding.{Binding}
 use Rattle.terms.specs.declared.Fact.{Fact}
-use Rattle.terms.specs.Steps.{objectOf}
-use Rattle.limits.specs.Limits.{factSize, atomsPerRelation, farCeiling}
-use Rattle.format.specs.Lists.{factsAt}
-use Rattle.observed.specs.Inverse.{paramOf, placeBound, factBound, marks, atomsIn, unboundChanged, turnMarks, someUnbound}
+use Rattle.terms.specs.Schema.{Schema, TypedObjects}
+use Rattle.terms.specs.Facts.{noFact}
+use Rattle.terms.specs.Told.{suits}
+use Rattle.answer.specs.declared.Answer.the-variants.{Good, Refused}
+use Rattle.limits.specs.Limits.{countSize, factSize, maxObjects, maxRelations, farCeiling}
+use Rattle.input.specs.Bytes.{two}
+use Rattle.format.specs.Lists.{factsAt, listAt, listEnd}
+use Rattle.format.specs.States.{facts}
+use Rattle.model.specs.Quantify.{Mem}
+use Rattle.tables.specs.Tables.{RightByPlace, ForRightByPlace}
+use Rattle.states.specs.declared.FactCursor.{FactCursor}
+use Rattle.states.specs.Looked.{Looked}
+use Rattle.observed.specs.Inverse.{marks, atomsIn, unboundChanged, turnMarks, someUnbound}
 use Rattle.turning.specs.Turning.{flipped}
 use Rattle.marks.specs.declared.Cursor.{Cursor}
 use Rattle.marks.specs.declared.Walk.{Walk}
-
--- ---- from a fact to its bound fact
-
--- What an object adds to a bound fact's number in the second place: the object's parameter, counted from 0, and nothing in an unused place.
--- The number of pairs of parameters where no parameter has the object.
-unfoldable pub digit : Binding → Object → ℕ
-digit b x = cond (placeBound b x) (paramOf b x - 1) atomsPerRelation
-
--- the number of the pair of parameters in both places, below that number where both are the binding's
-unfoldable pub placesOf : Binding → Fact → ℕ
-placesOf b f = 4 * digit b (f .first) + digit b (f .second)
-
--- the same of a bound fact, and that number of any other fact
-unfoldable pub pairOf : List ℕ → Binding → Fact → ℕ
-pairOf atoms b f = cond (factBound atoms b f) (placesOf b f) atomsPerRelation
-
--- what is made of a set at the bound fact that a fact is by its pair, if it is one
-unfoldable pub atPair : (List ℕ → ℕ → List ℕ) → List ℕ → Fact → ℕ → List ℕ
-atPair make m f pair = cond (leb atomsPerRelation pair) m (make m (atomsPerRelation * (f .relation .0 - 1) + pair))
-
--- the set with that bound fact put in, and with it turned
-abbrev pub markedAs : List ℕ → Fact → ℕ → List ℕ
-markedAs = atPair setBit
-
-abbrev pub turnedAs : List ℕ → Fact → ℕ → List ℕ
-turnedAs = atPair flipBit
-
-unfoldable pub noDigits : List ℕ
-noDigits = replicate 256 atomsPerRelation
-
--- a table with a digit put in for the object of each parameter, the last first, and then for the object 0
-unfoldable pub givenEach : Binding → ℕ → ℕ → ℕ → ℕ → ℕ → List ℕ → List ℕ
-givenEach b d₀ d₁ d₂ d₃ d₄ t =
-    let fourth = set t (objectOf b (record { 0 = 4 }) .0) d₄ in
-    let third = set fourth (objectOf b (record { 0 = 3 }) .0) d₃ in
-    let second = set third (objectOf b (record { 0 = 2 }) .0) d₂ in
-    set (set second (objectOf b (record { 0 = 1 }) .0) d₁) 0 d₀
-
--- a table of the digits, by the number of the object
-pub record Inverts (b : Binding) (t : List ℕ) : Type 0 where
-  pub long : length t ≡ 256
-  pub gives : (x : ℕ) → x < 256 → getD t x 0 ≡ digit b (record { 0 = x })
+use Rattle.marks.specs.declared.Sight.{Sight}
 
 -- ---- the facts of a state
 
@@ -81,6 +47,40 @@ pub record Comes (s : List ℕ) (c : Cursor) (f : Fact) : Type 0 where
   pub ahead : Ahead s (next c)
   pub less : next c .left < c .left
 
+-- ---- the facts of a state that are looked over on the way
+
+-- the facts at a cursor that looks over
+unfoldable pub plain : FactCursor → Cursor
+plain c = record { at = c .at; left = c .left }
+
+-- the table of a record is right for typed objects and a schema, no more of objects and relations than there may be
+pub record RightForFew (table : List ℕ) : Type 0 where
+  pub sch : Schema
+  pub ob : TypedObjects
+  pub right : RightByPlace sch ob table
+  pub few : ob .count ≤ maxObjects
+  pub known : sch .relations ≤ maxRelations
+
+-- each of the facts suits by the table
+abbrev pub Suited : List ℕ → List Fact → Type 0
+Suited table fs = (f : Fact) → Mem f fs → suits table f ≡ true
+
+-- at the first fact of the list at an offset, none of its facts looked over yet
+pub record ListAhead (s : List ℕ) (at : ℕ) (c : FactCursor) : Type 0 where
+  pub facts : rest s (plain c) ≡ listAt s at
+  pub ahead : Ahead s (plain c)
+  pub looked : (table : List ℕ) (end : ℕ) → listEnd s at ≤ end → Looked 8 s table end (two s at) (at + countSize) c
+
+-- From the cursor c to c′, which is past a fact or the same: a fact that is passed is right and in order, or else the list is refused at it.
+pub record Looks (s table : List ℕ) (c c′ : FactCursor) (bad : Bool) : Type 0 where
+  pub on : bad ≡ false → (end n from : ℕ) → Looked 8 s table end n from c → Looked 8 s table end n from c′
+  pub refused : bad ≡ true → (end n from : ℕ) → Looked 8 s table end n from c → ForRightByPlace table (λ sch ob. Refused 8 (c .at) ≡ facts 8 sch ob s end n noFact from)
+
+-- the facts from a cursor on, looked over and marked
+pub record RestSeen (s table atoms : List ℕ) (b : Binding) (c : FactCursor) (m m′ : List ℕ) (r : Sight) : Type 0 where
+  pub answers : (end n from : ℕ) → Looked 8 s table end n from c → ForRightByPlace table (λ sch ob. r .answer ≡ facts 8 sch ob s end n noFact from)
+  pub marked : (k : ℕ) → r .answer ≡ Good k → (m′ ≡ marks atoms b m (rest s (plain c))) × (r .unbound ≡ unboundChanged atoms b [] (rest s (plain c)))
+
 -- ---- the facts of two states
 
 abbrev pub toCome : Walk → ℕ
@@ -88,14 +88,15 @@ toCome w = w .pre .left + w .post .left
 
 -- row 11 of two states, by what was seen and what is yet to come
 unfoldable pub says : List ℕ → List ℕ → Binding → Walk → Bool
-says s atoms b w = w .changed || unboundChanged atoms b (rest s (w .pre)) (rest s (w .post))
+says s atoms b w = w .changed || unboundChanged atoms b (rest s (w .pre)) (rest s (plain (w .post)))
 
 -- From v with the sets m and n to w with m′ and n′: nearer to the end, and what is yet to come leads to the same.
 pub record Turned (s atoms : List ℕ) (b : Binding) (v : Walk) (m n : List ℕ) (w : Walk) (m′ n′ : List ℕ) : Type 0 where
   pub ahead : Ahead s (w .pre)
-  pub aheadAfter : Ahead s (w .post)
+  pub aheadAfter : Ahead s (plain (w .post))
+  pub suited : (table : List ℕ) → Suited table (rest s (v .pre)) → Suited table (rest s (w .pre))
   pub before : marks atoms b m′ (rest s (w .pre)) ≡ marks atoms b m (rest s (v .pre))
-  pub after : marks atoms b n′ (rest s (w .post)) ≡ marks atoms b n (rest s (v .post))
+  pub after : marks atoms b n′ (rest s (plain (w .post))) ≡ marks atoms b n (rest s (plain (v .post)))
   pub same : says s atoms b w ≡ says s atoms b v
   pub less : toCome w < toCome v
 

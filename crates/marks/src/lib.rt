@@ -1,121 +1,26 @@
 // Which bound facts (lifted atoms) of a step hold before and after it, and row 11: whether any other fact changed. By the lists of both states, or
-// in a short book by the list of the facts that turn.
-// Uses terms for facts and bindings, mask for the sets, input, limits; the contracts cite observed, format and turning, and specs/Marks.antt for
-// the parts.
+// in a short book by the list of the facts that turn. The list after the step is looked over as it is read, row 8.
+// Uses lifting for the bound fact that a fact is, states for a list that is looked over, turning for a state in which facts turn, terms, answer, input,
+// limits; the contracts cite observed and format, and specs/Marks.antt for the parts.
+ghost use Prim.Native.Nat.{ℕ, _+_, _≤_, _<_};
 ghost use mathlib.Core.Path.{_≡_};
-ghost use Prim.Native.Nat.{_+_, _*_, _≤_, _<_};
+ghost use mathlib.Core.Bool.{true, false};
 ghost use mathlib.Core.List.{[]};
-ghost use lib.ListN.{length, set};
-ghost use Rattle.limits.specs.Limits.{setSize, nearCeiling, farCeiling};
-ghost use Rattle.mask.specs.Sets.{empty};
+ghost use lib.ListN.{length};
+ghost use Rattle.limits.specs.Limits.{factSize, setSize, stateSize, nearCeiling, farCeiling};
+ghost use Rattle.mask.specs.Sets.{empty, cardinality};
+ghost use Rattle.terms.specs.Told.{factKey};
 ghost use Rattle.format.specs.Lists.{listAt, listEnd};
+ghost use Rattle.answer.specs.declared.Answer.the-variants.{Good};
+ghost use Rattle.states.specs.Looked.{ListLooked};
 ghost use Rattle.observed.specs.Inverse.{marks, sameFact, unboundChanged};
-ghost use Rattle.mask.specs.Bits.{flipBit};
-ghost use Rattle.terms.specs.Facts.{factNumber};
-ghost use Rattle.marks.specs.Marks.{noDigits, givenEach, Inverts, placesOf, pairOf, markedAs, rest, next, Ahead, Comes, Turned, StepMarked};
-ghost use Rattle.marks.specs.Marks.{turnedAs, StepTurned};
+ghost use Rattle.lifting.specs.Pairs.{noDigits, Inverts, markedAs};
+ghost use Rattle.marks.specs.Marks.{rest, next, Ahead, Comes};
+ghost use Rattle.marks.specs.Marks.{plain, RightForFew, Suited, ListAhead, Looks, RestSeen, Turned, StepMarked, StepTurned};
+use answer::Answer;
+use states::FactCursor;
 use terms::Binding;
 use terms::Fact;
-use terms::Object;
-use terms::Param;
-
-// What the table has for an object of no parameter: the two places of a bound fact add less. A relation has so many bound facts, one
-// for each pair of parameters.
-const UNBOUND: usize = limits::ATOMS_PER_RELATION;
-
-// ---- from a fact to its bound fact
-
-// A table with no parameter's object in it. One serves many steps: each puts its objects in and takes them out.
-pub fn no_digits() -> [u8; 256]
-    ensures { λ r. ⌜ r ≡ noDigits ⌝ }
-{
-    [16u8; 256]
-}
-
-fn give(t: &mut [u8], x: Object, digit: u8)
-    ensures { λ _. ⌜ now (t .exit) ≡ set (now (t .entry)) (x .0) digit ⌝ }
-{
-    let i = x.0 as usize;
-    if t.len() <= i {
-        return;
-    }
-    t[i] = digit;
-}
-
-// A digit for the object 0 and one for the object of each parameter. A parameter of a lower number is put in later, and so counts.
-fn give_each(t: &mut [u8], b: Binding, d0: u8, d1: u8, d2: u8, d3: u8, d4: u8)
-    ensures { λ _. ⌜ now (t .exit) ≡ givenEach b d0 d1 d2 d3 d4 (now (t .entry)) ⌝ }
-{
-    give(t, b.object(Param(4)), d4);
-    give(t, b.object(Param(3)), d3);
-    give(t, b.object(Param(2)), d2);
-    give(t, b.object(Param(1)), d1);
-    give(t, Object(0), d0);
-}
-
-// What each object adds to a bound fact's number in the second place, by the object's number; an unused place, object 0, adds nothing.
-fn invert(t: &mut [u8], b: Binding)
-    requires { ⌜ now t ≡ noDigits ⌝ }
-    ensures { λ _. ⌜ Inverts b (now (t .exit)) ⌝ }
-{
-    give_each(t, b, 0, 0, 1, 2, 3);
-}
-
-// What a table has for an object of no parameter.
-const NO_DIGIT: u8 = 16;
-
-// The table without the objects that `invert` put in.
-fn restore(t: &mut [u8], b: Binding)
-    requires { ⌜ Inverts b (now t) ⌝ }
-    ensures { λ _. ⌜ now (t .exit) ≡ noDigits ⌝ }
-{
-    give_each(t, b, NO_DIGIT, NO_DIGIT, NO_DIGIT, NO_DIGIT, NO_DIGIT);
-}
-
-fn wide(n: u8) -> usize
-    ensures { λ r. ⌜ (r ≡ n) × (r < 256) ⌝ }
-{
-    n as usize
-}
-
-// What both places add, UNBOUND or more where an object is no parameter's. The table `t` is that of the binding `b`, here and below.
-fn places(t: &[u8], b: Binding, f: Fact) -> usize
-    requires { ⌜ Inverts b (now t) ⌝ }
-    ensures { λ r. ⌜ r ≡ placesOf b f ⌝ }
-{
-    4 * wide(t[f.first.0 as usize]) + wide(t[f.second.0 as usize])
-}
-
-// What both places of a bound fact add, UNBOUND for any other fact. `atoms` is the set of the move's bound facts, here and below.
-fn pair(t: &[u8], atoms: &[u8], b: Binding, f: Fact) -> usize
-    requires { ⌜ Inverts b (now t) ⌝ }
-    ensures { λ r. ⌜ r ≡ pairOf (now (atoms .entry)) b f ⌝ }
-{
-    let x = places(t, b, f);
-    if UNBOUND <= x {
-        return UNBOUND;
-    }
-    if mask::test_bit(atoms, UNBOUND * terms::index(f.relation.0) + x) {
-        return x;
-    }
-    UNBOUND
-}
-
-// Marks the bound fact that the fact `f` is by its pair.
-fn mark(m: &mut [u8], f: Fact, pair: usize)
-    ensures { λ _. ⌜ now (m .exit) ≡ markedAs (now (m .entry)) f pair ⌝ }
-{
-    if UNBOUND <= pair {
-        return;
-    }
-    mask::set_bit(m, UNBOUND * terms::index(f.relation.0) + pair);
-}
-
-fn same_fact(f: Fact, g: Fact) -> bool
-    ensures { λ r. ⌜ r ≡ sameFact f g ⌝ }
-{
-    (f.relation.0 == g.relation.0) & (f.first.0 == g.first.0) & (f.second.0 == g.second.0)
-}
 
 // ---- the facts of a state
 
@@ -159,7 +64,7 @@ impl Cursor {
         requires { ⌜ (0 < self .left) × (self .at ≤ farCeiling) ⌝ }
         ensures { λ r. ⌜ (now (m .exit) ≡ markedAs (now (m .entry)) f pair) × (r ≡ next self) ⌝ }
     {
-        mark(m, f, pair);
+        lifting::mark(m, f, pair);
         self.on()
     }
 }
@@ -173,67 +78,159 @@ fn mark_rest(m: &mut [u8], s: &[u8], t: &[u8], atoms: &[u8], b: Binding, from: C
     let mut changed = false;
     while 0 < c.left {
         let f = c.fact(s);
-        let x = pair(t, atoms, b, f);
+        let x = lifting::pair(t, atoms, b, f);
         c = c.pass(m, f, x);
-        changed = changed | (UNBOUND <= x);
+        changed = changed | (lifting::UNBOUND <= x);
     }
     changed
 }
 
+// A list read once: row 8 of it and, where it is good, whether a fact that is no bound fact of the step changed.
+pub struct Sight {
+    pub answer: Answer,
+    pub unbound: bool,
+}
+
+// Looks over the facts to come, marks them, and says whether any is no bound fact: row 11 of no facts and them.
+fn look_rest(
+    m: &mut [u8],
+    s: &[u8],
+    table: &[u32; 512],
+    t: &[u8],
+    atoms: &[u8],
+    b: Binding,
+    from: FactCursor,
+) -> Sight
+    requires { ⌜ Inverts b (now t) × Ahead (now s) (plain from) × (from .size ≡ factSize) × (from .key ≡ factKey (from .last)) ⌝ }
+    ensures { λ r. ⌜ RestSeen (now (s .entry)) (now (table .entry)) (now (atoms .entry)) b from (now (m .entry)) (now (m .exit)) r ⌝ }
+{
+    let mut c = from;
+    let mut changed = false;
+    while 0 < c.left {
+        if c.bad(s, table) {
+            return Sight {
+                answer: Answer::Refused(8, c.at),
+                unbound: false,
+            };
+        }
+        let f = c.fact(s);
+        c = c.next(s);
+        let x = lifting::pair(t, atoms, b, f);
+        lifting::mark(m, f, x);
+        changed = changed | (lifting::UNBOUND <= x);
+    }
+    Sight {
+        answer: Answer::Good(c.at),
+        unbound: changed,
+    }
+}
+
 // ---- the facts of two states
 
-// The facts to come of a step's two states, and whether a fact that is no bound fact was seen to change.
+fn same_fact(f: Fact, g: Fact) -> bool
+    ensures { λ r. ⌜ r ≡ sameFact f g ⌝ }
+{
+    (f.relation.0 == g.relation.0) & (f.first.0 == g.first.0) & (f.second.0 == g.second.0)
+}
+
+// The facts to come of a step's two states, those after it yet to be looked over; whether a fact that is no bound fact was seen to change; and
+// whether the last fact read after the step is wrong or out of order.
 struct Walk {
     pre: Cursor,
-    post: Cursor,
+    post: FactCursor,
     changed: bool,
+    bad: bool,
+}
+
+// The walk at a fact that is wrong or out of order.
+fn wrong(w: Walk) -> Walk
+    ensures { λ r. ⌜ r .bad ≡ true ⌝ }
+{
+    let pre = w.pre;
+    let post = w.post;
+    Walk {
+        pre,
+        post,
+        changed: w.changed,
+        bad: true,
+    }
 }
 
 // One fact more of a state, or of both. Facts stand in order, so what is no bound fact stayed as it was if it comes in the same order in
 // both states: where the next ones differ and neither is a bound fact, a fact changed, whatever follows. A fact that comes next in both is
-// looked up once.
+// looked up once, and suits, as it did before the step.
 fn turn(
     before: &mut [u8],
     after: &mut [u8],
     s: &[u8],
+    table: &[u32; 512],
     t: &[u8],
     atoms: &[u8],
     b: Binding,
     w: Walk,
 ) -> Walk
-    requires { ⌜ Inverts b (now t) × Ahead (now s) (w .pre) × Ahead (now s) (w .post) × (0 < w .pre .left) × (0 < w .post .left) ⌝ }
-    ensures { λ r. ⌜ Turned (now (s .entry)) (now (atoms .entry)) b w (now (before .entry)) (now (after .entry)) r (now (before .exit)) (now (after .exit)) ⌝ }
+    requires { ⌜ Inverts b (now t) × Ahead (now s) (w .pre) × Ahead (now s) (plain (w .post)) × (0 < w .pre .left) × (0 < w .post .left) ⌝ }
+    requires { ⌜ Suited (now table) (rest (now s) (w .pre)) × (w .post .size ≡ factSize) × (w .post .key ≡ factKey (w .post .last)) ⌝ }
+    ensures { λ r. ⌜ (r .bad ≡ false → Turned (now (s .entry)) (now (atoms .entry)) b w (now (before .entry)) (now (after .entry)) r (now (before .exit)) (now (after .exit))) ⌝ }
+    ensures { λ r. ⌜ Looks (now (s .entry)) (now (table .entry)) (w .post) (r .post) (r .bad) ⌝ }
 {
     let p = w.pre;
     let q = w.post;
     let f = p.fact(s);
     let g = q.fact(s);
-    let x = pair(t, atoms, b, f);
+    let x = lifting::pair(t, atoms, b, f);
     if same_fact(f, g) {
+        if !g.follows(q.last, q.key) {
+            return wrong(w);
+        }
+        let post = q.next(s);
+        lifting::mark(after, f, x);
         return Walk {
             pre: p.pass(before, f, x),
-            post: q.pass(after, f, x),
+            post,
             changed: w.changed,
+            bad: false,
         };
     }
-    if x < UNBOUND {
+    if x < lifting::UNBOUND {
         return Walk {
             pre: p.pass(before, f, x),
             post: q,
             changed: w.changed,
+            bad: false,
         };
     }
-    let y = pair(t, atoms, b, g);
+    if q.bad(s, table) {
+        return wrong(w);
+    }
+    let post = q.next(s);
+    let y = lifting::pair(t, atoms, b, g);
+    lifting::mark(after, g, y);
     Walk {
         pre: p,
-        post: q.pass(after, g, y),
-        changed: w.changed | (UNBOUND <= y),
+        post,
+        changed: w.changed | (lifting::UNBOUND <= y),
+        bad: false,
     }
 }
 
-// Row 11 of the step with the binding `b`, and its bound facts in the states at `pre` and `post`. The table `t` is lent for the step.
+// The facts of the list at an offset, yet to be looked over.
+fn listed(s: &[u8], at: usize) -> FactCursor
+    requires { ⌜ (at ≤ nearCeiling) × (listEnd (now s) at ≤ length (now s)) ⌝ }
+    ensures { λ r. ⌜ ListAhead (now (s .entry)) at r ⌝ }
+{
+    FactCursor::new(
+        limits::FACT_SIZE,
+        input::two_at(s, at) as usize,
+        at + limits::COUNT_SIZE,
+    )
+}
+
+// Row 8 of the whole list at `post`, and where it is good row 11 of the step with the binding `b` and its bound facts in the states at `pre` and
+// `post`. The facts at `pre` suit. The table `t` is lent for the step.
 pub fn mark_step(
     s: &[u8],
+    table: &[u32; 512],
     t: &mut [u8],
     atoms: &[u8],
     b: Binding,
@@ -241,67 +238,90 @@ pub fn mark_step(
     post: usize,
     before: &mut [u8],
     after: &mut [u8],
-) -> bool
+) -> Sight
     requires { ⌜ (pre ≤ nearCeiling) × (post ≤ nearCeiling) × (listEnd (now s) pre ≤ length (now s)) × (listEnd (now s) post ≤ length (now s)) ⌝ }
-    requires { ⌜ (now t ≡ noDigits) × (now before ≡ empty setSize) × (now after ≡ empty setSize) ⌝ }
-    ensures { λ _. ⌜ now (t .exit) ≡ noDigits ⌝ }
-    ensures { λ r. ⌜ StepMarked (now (atoms .entry)) b (listAt (now (s .entry)) pre) (listAt (now (s .entry)) post) (now (before .exit)) (now (after .exit)) r ⌝ }
+    requires { ⌜ (now t ≡ noDigits) × (now before ≡ empty setSize) × (now after ≡ empty setSize) × Suited (now table) (listAt (now s) pre) ⌝ }
+    ensures { λ r. ⌜ ListLooked (now (s .entry)) (now (table .entry)) post (r .answer) ⌝ }
+    ensures { λ r. ⌜ ((k : ℕ) → r .answer ≡ Good k → (now (t .exit) ≡ noDigits) × StepMarked (now (atoms .entry)) b (listAt (now (s .entry)) pre) (listAt (now (s .entry)) post) (now (before .exit)) (now (after .exit)) (r .unbound)) ⌝ }
 {
-    invert(t, b);
+    lifting::invert(t, b);
     let mut w = Walk {
         pre: Cursor::of_list(s, pre),
-        post: Cursor::of_list(s, post),
+        post: listed(s, post),
         changed: false,
+        bad: false,
     };
     while (0 < w.pre.left) & (0 < w.post.left) {
-        w = turn(before, after, s, t, atoms, b, w);
+        let place = w.post.at;
+        w = turn(before, after, s, table, t, atoms, b, w);
+        if w.bad {
+            return Sight {
+                answer: Answer::Refused(8, place),
+                unbound: false,
+            };
+        }
     }
     let p = w.pre;
     let q = w.post;
     let only_before = mark_rest(before, s, t, atoms, b, p);
-    let only_after = mark_rest(after, s, t, atoms, b, q);
-    restore(t, b);
-    w.changed | only_before | only_after
+    let r = look_rest(after, s, table, t, atoms, b, q);
+    lifting::restore(t, b);
+    let answer = r.answer;
+    Sight {
+        answer,
+        unbound: w.changed | only_before | r.unbound,
+    }
 }
 
 // ---- the facts that turn
 
-// Turns a fact in a state, and the bound fact that it is by its pair in a set of these.
-fn turn_fact(state: &mut [u8], after: &mut [u8], f: Fact, pair: usize)
-    ensures { λ _. ⌜ (now (state .exit) ≡ flipBit (now (state .entry)) (factNumber f)) × (now (after .exit) ≡ turnedAs (now (after .entry)) f pair) ⌝ }
-{
-    mask::flip_bit(state, f.number());
-    if UNBOUND <= pair {
-        return;
-    }
-    mask::flip_bit(after, UNBOUND * terms::index(f.relation.0) + pair);
+// A list of facts that turn, read once: row 8 of it and, where it is good, whether one of them is no bound fact, and how many facts hold after it.
+pub struct TurnSight {
+    pub answer: Answer,
+    pub unbound: bool,
+    pub count: usize,
 }
 
-// Row 11 of the step with the binding `b` in a short book: the facts of the list at an offset turn in the state, and those that are bound facts in
-// `after`, which has those before the step. The table `t` is lent for the step.
+// Row 8 of the whole list at an offset of a short book, and where it is good row 11 of the step with the binding `b`: the facts of the list turn in the
+// state, of which `held` hold, and those that are bound facts in `after`, which has those before the step. The table `t` is lent for the step.
 pub fn mark_turned(
     s: &[u8],
+    table: &[u32; 512],
     t: &mut [u8],
     atoms: &[u8],
     b: Binding,
     at: usize,
     state: &mut [u8],
+    held: usize,
     after: &mut [u8],
-) -> bool
-    requires { ⌜ (at ≤ nearCeiling) × (listEnd (now s) at ≤ length (now s)) × (now t ≡ noDigits) ⌝ }
-    ensures { λ _. ⌜ now (t .exit) ≡ noDigits ⌝ }
-    ensures { λ r. ⌜ StepTurned (now (atoms .entry)) b (listAt (now (s .entry)) at) (now (state .entry)) (now (state .exit)) (now (after .entry)) (now (after .exit)) r ⌝ }
+) -> TurnSight
+    requires { ⌜ (at ≤ nearCeiling) × (listEnd (now s) at ≤ length (now s)) × (now t ≡ noDigits) × (length (now state) ≡ stateSize) × (held ≡ cardinality (now state)) × RightForFew (now table) ⌝ }
+    ensures { λ r. ⌜ ListLooked (now (s .entry)) (now (table .entry)) at (r .answer) ⌝ }
+    ensures { λ r. ⌜ ((k : ℕ) → r .answer ≡ Good k → (now (t .exit) ≡ noDigits) × StepTurned (now (atoms .entry)) b (listAt (now (s .entry)) at) (now (state .entry)) (now (state .exit)) (now (after .entry)) (now (after .exit)) (r .unbound) × (r .count ≡ cardinality (now (state .exit)))) ⌝ }
 {
-    invert(t, b);
-    let mut c = Cursor::of_list(s, at);
+    lifting::invert(t, b);
+    let mut c = listed(s, at);
     let mut unbound = false;
+    let mut count = held;
     while 0 < c.left {
+        if c.bad(s, table) {
+            return TurnSight {
+                answer: Answer::Refused(8, c.at),
+                unbound: false,
+                count: 0,
+            };
+        }
         let f = c.fact(s);
-        let x = pair(t, atoms, b, f);
-        turn_fact(state, after, f, x);
-        c = c.on();
-        unbound = unbound | (UNBOUND <= x);
+        c = c.next(s);
+        let x = lifting::pair(t, atoms, b, f);
+        count = turning::turn(f, state, count);
+        lifting::turn_mark(after, f, x);
+        unbound = unbound | (lifting::UNBOUND <= x);
     }
-    restore(t, b);
-    unbound
+    lifting::restore(t, b);
+    TurnSight {
+        answer: Answer::Good(c.at),
+        unbound,
+        count,
+    }
 }

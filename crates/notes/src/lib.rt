@@ -1,18 +1,22 @@
 // What the learner has observed, before any record and after a step: seven sets of bound facts (lifted atoms) for each move, and the first step
-// that row 11 names. Uses atoms for the bound facts of a move, marks for those of a step, mask for the sets, terms, limits, and where the sets
-// stand from observed; the contracts cite observed and format, and specs/Notes.antt for the parts.
+// that row 11 names. Uses atoms for the bound facts of a move, marks for those of a step, with row 8 of the list behind it, mask for the sets, terms,
+// answer, limits, and where the sets stand from observed; the contracts cite observed, format and states, and specs/Notes.antt for the parts.
 ghost use mathlib.Core.Path.{_≡_};
-ghost use Prim.Native.Nat.{_+_, _≤_};
+ghost use Prim.Native.Nat.{ℕ, _+_, _≤_};
 ghost use lib.ListN.{length};
 ghost use Rattle.limits.specs.Limits.{maxLength, maxMoves, stepSize, setSize, observedSize};
-ghost use Rattle.mask.specs.Sets.{difference, empty};
+ghost use Rattle.mask.specs.Sets.{difference, empty, cardinality};
 ghost use Rattle.terms.specs.Schema.{schema};
 ghost use Rattle.terms.specs.Steps.{stepAt};
 ghost use Rattle.format.specs.Lists.{listAt, listEnd};
 ghost use Rattle.format.specs.Form.{full};
 ghost use Rattle.observed.specs.Observed.{noted, nothingSeen, firstNamed};
-ghost use Rattle.marks.specs.Marks.{noDigits};
+ghost use Rattle.answer.specs.declared.Answer.the-variants.{Good};
+ghost use Rattle.states.specs.Looked.{ListLooked};
+ghost use Rattle.lifting.specs.Pairs.{noDigits};
+ghost use Rattle.marks.specs.Marks.{Suited, RightForFew};
 ghost use Rattle.notes.specs.Notes.{narrowed, widened, observedStep, IsObserved, firstSets, Turnable, TurnObserved};
+use answer::Answer;
 use terms::Move;
 use terms::Sections;
 use terms::Step;
@@ -84,21 +88,30 @@ fn first_named(named: usize, unbound: bool, at: usize) -> usize
     0
 }
 
-// What is observed of a full book after the step at `at`, before which the state at `pre` stands; the table `t` is lent for the step (`marks`).
-// Returns the offset of the first step that row 11 names, 0 for none.
+// A step read once: row 8 of the list behind it and, where that is good, the offset of the first step that row 11 names, 0 for none, and in a short
+// book how many facts hold after it.
+pub struct Noted {
+    pub answer: Answer,
+    pub named: usize,
+    pub count: usize,
+}
+
+// What is observed of a full book after the step at `at`, before which the state at `pre` stands, whose facts suit by the record's table; the table `t`
+// is lent for the step (`marks`).
 pub fn observe(
     s: &[u8],
+    table: &[u32; 512],
     pre: usize,
     at: usize,
     t: &mut [u8],
     observed: &mut [u8],
     named: usize,
-) -> usize
+) -> Noted
     requires { ⌜ (pre ≤ maxLength) × (at ≤ maxLength) × (length (now observed) ≡ observedSize) × (now t ≡ noDigits) ⌝ }
-    requires { ⌜ (1 ≤ stepAt (now s) at .action .0) × (stepAt (now s) at .action .0 ≤ maxMoves) ⌝ }
+    requires { ⌜ (1 ≤ stepAt (now s) at .action .0) × (stepAt (now s) at .action .0 ≤ maxMoves) × Suited (now table) (listAt (now s) pre) ⌝ }
     requires { ⌜ (listEnd (now s) pre ≤ length (now s)) × (listEnd (now s) (at + stepSize) ≤ length (now s)) ⌝ }
-    ensures { λ _. ⌜ now (t .exit) ≡ noDigits ⌝ }
-    ensures { λ r. ⌜ IsObserved (observedStep full (now (s .entry)) (listAt (now (s .entry)) pre) at (now (observed .entry)) named) (now (observed .exit)) r ⌝ }
+    ensures { λ r. ⌜ ListLooked (now (s .entry)) (now (table .entry)) (at + stepSize) (r .answer) × (r .count ≡ 0) ⌝ }
+    ensures { λ r. ⌜ ((k : ℕ) → r .answer ≡ Good k → (now (t .exit) ≡ noDigits) × IsObserved (observedStep full (now (s .entry)) (listAt (now (s .entry)) pre) at (now (observed .entry)) named) (now (observed .exit)) (r .named)) ⌝ }
 {
     let step = Step::read(s, at);
     let post = at + limits::STEP_SIZE;
@@ -106,8 +119,9 @@ pub fn observe(
     let end = bound + limits::SET_SIZE;
     let mut before = mask::empty32();
     let mut after = mask::empty32();
-    let unbound = marks::mark_step(
+    let sight = marks::mark_step(
         s,
+        table,
         t,
         &observed[bound..end],
         step.binding,
@@ -117,23 +131,30 @@ pub fn observe(
         &mut after,
     );
     note(observed, step.action, before, after);
-    first_named(named, unbound, at)
+    let answer = sight.answer;
+    Noted {
+        answer,
+        named: first_named(named, sight.unbound, at),
+        count: 0,
+    }
 }
 
-// What is observed of a short book after the step at `at`, by the state before it, in which the facts of its list turn: the bound facts are asked of
-// the state, and turned where they are listed.
+// What is observed of a short book after the step at `at`, by the state before it, of whose facts `held` hold, and in which the facts of its list turn:
+// the bound facts are asked of the state, and turned where they are listed.
 pub fn observe_turned(
     s: &[u8],
     h: Sections,
+    table: &[u32; 512],
     at: usize,
     t: &mut [u8],
     state: &mut [u8],
+    held: usize,
     observed: &mut [u8],
     named: usize,
-) -> usize
-    requires { ⌜ Turnable h (now s) at (now state) (now observed) × (now t ≡ noDigits) ⌝ }
-    ensures { λ _. ⌜ now (t .exit) ≡ noDigits ⌝ }
-    ensures { λ r. ⌜ TurnObserved (schema h (now (s .entry))) (stepAt (now (s .entry)) at) (listAt (now (s .entry)) (at + stepSize)) at (now (observed .entry)) named (now (observed .exit)) r (now (state .entry)) (now (state .exit)) ⌝ }
+) -> Noted
+    requires { ⌜ Turnable h (now s) at (now state) (now observed) × (now t ≡ noDigits) × (held ≡ cardinality (now state)) × RightForFew (now table) ⌝ }
+    ensures { λ r. ⌜ ListLooked (now (s .entry)) (now (table .entry)) (at + stepSize) (r .answer) ⌝ }
+    ensures { λ r. ⌜ ((k : ℕ) → r .answer ≡ Good k → (now (t .exit) ≡ noDigits) × TurnObserved (schema h (now (s .entry))) (stepAt (now (s .entry)) at) (listAt (now (s .entry)) (at + stepSize)) at (now (observed .entry)) named (now (observed .exit)) (r .named) (now (state .entry)) (now (state .exit)) × (r .count ≡ cardinality (now (state .exit)))) ⌝ }
 {
     let step = Step::read(s, at);
     let list = at + limits::STEP_SIZE;
@@ -141,17 +162,24 @@ pub fn observe_turned(
     let end = bound + limits::SET_SIZE;
     let before = grounding::held_atoms(s, h, step.binding, &observed[bound..end], state);
     let mut after = before;
-    let unbound = marks::mark_turned(
+    let turned = marks::mark_turned(
         s,
+        table,
         t,
         &observed[bound..end],
         step.binding,
         list,
         state,
+        held,
         &mut after,
     );
     note(observed, step.action, before, after);
-    first_named(named, unbound, at)
+    let answer = turned.answer;
+    Noted {
+        answer,
+        named: first_named(named, turned.unbound, at),
+        count: turned.count,
+    }
 }
 
 // ---- before any record

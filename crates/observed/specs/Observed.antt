@@ -1,16 +1,19 @@
 -- What the learner has observed: seven sets of bound facts for each move, 224 bytes a move, and the offset of the first step that row 11 names.
--- One of the seven is made before any record and stays: all bound facts of the move. Uses terms for these.
+-- One of the seven is made before any record and stays: all bound facts of the move. Uses terms for these, and jobs for the schema of a book.
 use Prim.Native.Nat.{ℕ, _+_, _-_, _*_, _/_, _%_}
 use mathlib.Core.Bool.{Bool, cond, _&&_, _||_}
 use mathlib.Core.List.{List, [], _∷_, _++_}
-use lib.ListN.{take, drop}
+use lib.ListN.{length, take, drop}
 use lib.Dec.{eqb}
 use Rattle.limits.specs.Limits.{setSize, observedSets, observedPerMove, observedSize, maxAtoms}
 use Rattle.mask.specs.Sets.{maskOf, intersection, union, difference}
+use Rattle.terms.specs.Sections.{sectionsOf}
 use Rattle.terms.specs.Schema.{Schema}
 use Rattle.terms.specs.Steps.{isAtom}
 use Rattle.format.specs.Form.{Form}
-use Rattle.format.specs.Decode.{RecordedStep, stepsOfRecord}
+use Rattle.format.specs.Decode.{RecordedStep, stepsOfRecord, movedBy}
+use Rattle.format.specs.Parts.{recordsAt, sectionsPart}
+use Rattle.jobs.specs.Planning.{schemaOf}
 use Rattle.observed.specs.Inverse.{atomsIn, unboundChanged}
 
 -- ---- the seven sets of a move, numbered in their order; src/lib.rt has the numbers for code
@@ -89,9 +92,14 @@ unfoldable pub observeAll : List RecordedStep → Observed → Observed
 observeAll [] h = h
 observeAll (f ∷ fs) h = observeAll fs (observe f h)
 
--- what is observed after a record: made from what was observed before, that record and its offset
+-- what is held after a record: made from what was held before, the record's bytes `r` and its offset
 unfoldable pub observedAfter : Form → List ℕ → ℕ → Observed → Observed
-observedAfter form s at h = observeAll (stepsOfRecord form s at) h
+observedAfter form r at h = observeAll (movedBy at (stepsOfRecord form r 0)) h
+
+-- after records in a row, the first at an offset, each next one where the one before it ends
+unfoldable pub observedAfterAll : Form → List (List ℕ) → ℕ → Observed → Observed
+observedAfterAll form [] at h = h
+observedAfterAll form (r ∷ rs) at h = observedAfterAll form rs (at + length r) (observedAfter form r at h)
 
 -- number n in set k of move a before any record: what holds at every one of no steps is every bound fact
 unfoldable pub atFirst : Schema → ℕ → ℕ → ℕ → Bool
@@ -104,3 +112,12 @@ nothingSeen sch =
       masks = maskOf observedSize (λ i. atFirst sch (i / maxAtoms / observedSets + 1) (i / maxAtoms % observedSets) (i % maxAtoms));
       named = 0;
     }
+
+-- what is held after so many records of a book, from the bytes of its sections and of these records
+unfoldable pub heldAfter : Form → ℕ → List ℕ → Observed
+heldAfter form k s =
+    observedAfterAll form (recordsAt s k (sectionsOf s .records .at)) (sectionsOf s .records .at) (nothingSeen (schemaOf (sectionsPart s)))
+
+-- and after all
+unfoldable pub observedOf : Form → List ℕ → Observed
+observedOf form s = heldAfter form (sectionsOf s .records .count) s

@@ -6,3 +6,5 @@ pub mod Unbound
 pub mod UnboundEffects
 pub mod Turned
 pub mod ObservedRight
+pub mod Sections
+pub mod OneWalk

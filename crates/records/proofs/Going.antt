@@ -33,9 +33,8 @@ schemaIn s c = schema (c .h) s
 abbrev objectsIn : List ℕ → Scope → TypedObjects
 objectsIn s c = typedObjects (c .objects) s
 
--- the steps that are left, from some facts that hold, answer as all of them do; the state of these facts is carried
-pub record Going (s : List ℕ) (c : Scope) (first from : ℕ) (m : List ℕ) (count left at : ℕ) : Type 0 where
-  pub before : List Fact
+-- the steps that are left, from the facts that hold before them, answer as all of them do; the state of these facts is carried
+pub record Going (s : List ℕ) (c : Scope) (first from : ℕ) (before : List Fact) (m : List ℕ) (count left at : ℕ) : Type 0 where
   pub near : at ≤ maxLength
   pub long : length m ≡ stateSize
   pub right : RightState (schemaIn s c) (objectsIn s c) before
@@ -57,11 +56,10 @@ module _ (s : List ℕ) (c : Scope) (ks t : List ℕ) (readable : Readable s c k
     pub first-turnable : Turnable s first
     first-turnable = list-turnable maxFacts 8 (schemaIn s c) (objectsIn s c) few known s (c .end) first from good (readable .within) near
 
-    pub going-first : (m m′ : List ℕ) (count : ℕ) → m ≡ empty stateSize → length m′ ≡ stateSize → Carried (c .short) s first m m′ count → Going s c first from m′ count (c .steps) from
+    pub going-first : (m m′ : List ℕ) (count : ℕ) → m ≡ empty stateSize → length m′ ≡ stateSize → Carried (c .short) s first m m′ count → Going s c first from (listAt s first) m′ count (c .steps) from
     going-first m m′ count e long carried =
         let order = list-increasing maxFacts 8 (schemaIn s c) (objectsIn s c) s (c .end) first from good in
         record {
-          before = listAt s first;
           near = omega (arith, list-within maxFacts 8 (schemaIn s c) (objectsIn s c) s (c .end) first from good, readable .near);
           long = long;
           right = state-right 8 (schemaIn s c) (objectsIn s c) s (c .end) first from good;
@@ -73,13 +71,13 @@ module _ (s : List ℕ) (c : Scope) (ks t : List ℕ) (readable : Readable s c k
 
   -- ---- one step on
 
-  module _ (first from : ℕ) (m : List ℕ) (count left at : ℕ) (going : Going s c first from m count left at) where
+  module _ (first from : ℕ) (before : List Fact) (m : List ℕ) (count left at : ℕ) (going : Going s c first from before m count left at) where
     pub going-count : c .short ≡ true → count ≡ cardinality m
-    going-count = carries-count (schemaIn s c) (objectsIn s c) few known (c .short) (going .before) m count (going .right .suits) (going .right .increasing) (going .carries)
+    going-count = carries-count (schemaIn s c) (objectsIn s c) few known (c .short) before m count (going .right .suits) (going .right .increasing) (going .carries)
 
     module _ (some : 0 < left) (a : Answer) (listed : a ≡ stepListed (c .short) (schemaIn s c) (objectsIn s c) s (c .end) at) where
       pub going-refused : (k p : ℕ) → a ≡ Refused k p → Refused k p ≡ steps (c .short) (schemaIn s c) (objectsIn s c) s (c .end) (c .steps) (listAt s first) from
-      going-refused k p e = steps-refused (c .short) (schemaIn s c) (objectsIn s c) s (c .end) _ left at (going .before) (going .rest) some a listed k p e
+      going-refused k p e = steps-refused (c .short) (schemaIn s c) (objectsIn s c) s (c .end) _ left at before (going .rest) some a listed k p e
 
       module _ (next : ℕ) (good : a ≡ Good next) where
         behind : (at + stepSize ≤ c .end) × (list 8 (mostListed (c .short)) (schemaIn s c) (objectsIn s c) s (c .end) (at + stepSize) ≡ Good next)
@@ -90,27 +88,26 @@ module _ (s : List ℕ) (c : Scope) (ks t : List ℕ) (readable : Readable s c k
             list-turnable (mostListed (c .short)) 8 (schemaIn s c) (objectsIn s c) few known s (c .end) (at + stepSize) next (behind .1) (readable .within) (omega (arith, behind .0, readable .near))
 
         module _ (m′ : List ℕ) (count′ : ℕ) (carried : Carried (c .short) s (at + stepSize) m m′ count′) where
-          many : ltb maxFacts count′ ≡ ltb maxFacts (length (stateAfter (c .short) s (going .before) (at + stepSize)))
+          many : ltb maxFacts count′ ≡ ltb maxFacts (length (stateAfter (c .short) s before (at + stepSize)))
           many =
-              carried-many (schemaIn s c) (objectsIn s c) few known (c .short) (going .before) m count (going .right .suits) (going .right .increasing) (going .carries) s (at + stepSize)
+              carried-many (schemaIn s c) (objectsIn s c) few known (c .short) before m count (going .right .suits) (going .right .increasing) (going .carries) s (at + stepSize)
               (list-suits (mostListed (c .short)) 8 _ _ s (c .end) _ next (behind .1)) (list-increasing (mostListed (c .short)) 8 _ _ s (c .end) _ next (behind .1)) m′ count′ carried
               (list-few (mostListed (c .short)) 8 _ _ s (c .end) _ next (behind .1))
 
           pub going-many : maxFacts < count′ → Refused 8 (at + stepSize) ≡ steps (c .short) (schemaIn s c) (objectsIn s c) s (c .end) (c .steps) (listAt s first) from
-          going-many l = steps-many (c .short) (schemaIn s c) (objectsIn s c) s (c .end) _ left at (going .before) (going .rest) some a listed next good _ many (lt-ltb _ _ l)
+          going-many l = steps-many (c .short) (schemaIn s c) (objectsIn s c) s (c .end) _ left at before (going .rest) some a listed next good _ many (lt-ltb _ _ l)
 
-          pub going-on : length m′ ≡ stateSize → count′ ≤ maxFacts → Going s c first from m′ count′ (left - 1) next
+          pub going-on : length m′ ≡ stateSize → count′ ≤ maxFacts → Going s c first from (stateAfter (c .short) s before (at + stepSize)) m′ count′ (left - 1) next
           going-on long l =
-              let size = ltb-false maxFacts (length (stateAfter (c .short) s (going .before) (at + stepSize))) (sym many ∙ le-ltb maxFacts count′ l) in
+              let size = ltb-false maxFacts (length (stateAfter (c .short) s before (at + stepSize))) (sym many ∙ le-ltb maxFacts count′ l) in
               record {
-                before = stateAfter (c .short) s (going .before) (at + stepSize);
                 near = omega (arith, list-within (mostListed (c .short)) 8 _ _ s (c .end) _ next (behind .1), readable .near);
                 long = long;
-                right = next-right (c .short) _ _ s (c .end) (going .before) (at + stepSize) next (going .right) (next-in (c .short) _ _ s (c .end) (going .before) (at + stepSize) next (behind .1) size);
-                carries = carried-on (schemaIn s c) (objectsIn s c) few known (c .short) (going .before) m count (going .right .suits) (going .right .increasing) (going .carries) s (at + stepSize)
+                right = next-right (c .short) _ _ s (c .end) before (at + stepSize) next (going .right) (next-in (c .short) _ _ s (c .end) before (at + stepSize) next (behind .1) size);
+                carries = carried-on (schemaIn s c) (objectsIn s c) few known (c .short) before m count (going .right .suits) (going .right .increasing) (going .carries) s (at + stepSize)
                     (list-suits (mostListed (c .short)) 8 _ _ s (c .end) _ next (behind .1)) (list-increasing (mostListed (c .short)) 8 _ _ s (c .end) _ next (behind .1)) m′ count′ carried;
-                rest = steps-on (c .short) (schemaIn s c) (objectsIn s c) s (c .end) _ left at (going .before) (going .rest) some a listed next good _ many (le-ltb _ _ l);
+                rest = steps-on (c .short) (schemaIn s c) (objectsIn s c) s (c .end) _ left at before (going .rest) some a listed next good _ many (le-ltb _ _ l);
               }
 
     pub going-none : left ≡ 0 → Good at ≡ steps (c .short) (schemaIn s c) (objectsIn s c) s (c .end) (c .steps) (listAt s first) from
-    going-none e = steps-none (c .short) (schemaIn s c) (objectsIn s c) s (c .end) _ left at (going .before) (going .rest) e
+    going-none e = steps-none (c .short) (schemaIn s c) (objectsIn s c) s (c .end) _ left at before (going .rest) e

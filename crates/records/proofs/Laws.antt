@@ -15,37 +15,57 @@ use Rattle.answer.specs.Laws.{refuse-met, refuse-unmet, bind-good, bind-refused
 use Rattle.answer.specs.Walk.{walk}
 use Rattle.terms.specs.declared.Sections.{Sections}
 use Rattle.terms.specs.Schema.{schema, typedObjects}
-use Rattle.limits.specs.Limits.{headSize}
+use Rattle.limits.specs.Limits.{maxLength, maxObjects, maxRelations, headSize}
+use Rattle.tables.specs.Tables.{RightByKind, RightByPlace}
 use Rattle.format.specs.Form.{Form}
 use Rattle.format.specs.Records.{stepsIn, lengthIn, headBad, object, objectsOf, trajectory, body, recordAt, closed}
 use Rattle.format.specs.LookOver.{stepTotal, allRecords}
 use Rattle.answer.specs.Turns.{part-stays, part-follows}
 use Rattle.records.specs.declared.Head.{Head}
+use Rattle.records.specs.declared.Scope.{Scope}
 use Rattle.records.specs.Head.{headOf}
+use Rattle.records.specs.Readable.{scopeOf, Readable}
 
-module _ (form : Form) (h : Sections) (s : List ℕ) (at end : ℕ) (head : Head) (read : head ≡ headOf s at) where
+-- a record whose head is right, by the scope that is made of it
+module _ (form : Form) (h : Sections) (s : List ℕ) (at end : ℕ) (head : Head) (read : head ≡ headOf s at) (c : Scope) (is : c ≡ scopeOf form h head at end) where
+  pub readable-by : (ks t : List ℕ) → end ≤ length s → end ≤ maxLength → h .relations .count ≤ maxRelations → head .objects ≤ maxObjects
+      → RightByKind (schema h s) (typedObjects (c .objects) s) ks
+      → RightByPlace (schema h s) (typedObjects (c .objects) s) t
+      → Readable s c ks t
+  unfolding scopeOf
+  readable-by ks t within near known few kinds table =
+      record { within = rw is within; near = rw is near; known = rw is known; few = rw is few; kinds = rw is (rw is at kinds); table = rw is (rw is at table) }
+
+  pub objects-at : c .objects .at ≡ at + headSize
+  unfolding scopeOf
+  objects-at = rw is
+
+  pub objects-counted : c .objects .count ≡ head .objects
+  unfolding scopeOf
+  objects-counted = rw is
+
   pub body-stays : (a : Answer) (b : Bool)
-      → a ≡ walk (object (h .kinds) s end) (head .objects) (at + headSize)
+      → a ≡ walk (object (h .kinds) s end) (head .objects) (c .objects .at)
       → b ≡ isRefused a
       → b ≡ true
       → a ≡ body form h s at end
   unfolding body headOf
-  body-stays a b p q r = part-stays _ _ a b (rw read at p) q r
+  body-stays a b p q r = part-stays _ _ a b (rw (objects-at, read) at p) q r
 
   -- after good objects
   pub body-rest : (v : ℕ) (a : Answer) (b : Bool) (t : Answer)
-      → a ≡ walk (object (h .kinds) s end) (head .objects) (at + headSize)
+      → a ≡ walk (object (h .kinds) s end) (head .objects) (c .objects .at)
       → b ≡ isRefused a
       → b ≡ false
       → v ≡ valueOf a
-      → t ≡ trajectory form (schema h s) (typedObjects (record { count = head .objects; at = at + headSize }) s) s end (head .steps) v
+      → t ≡ trajectory (c .short) (schema (c .h) s) (typedObjects (c .objects) s) s (c .end) (c .steps) v
       → closed at end t ≡ body form h s at end
-  unfolding body objectsOf closed headOf
+  unfolding body objectsOf closed headOf scopeOf
   body-rest v a b t p q r u w =
-      rw (w, read)
+      rw (w, is, read)
       (part-follows _
       (λ first. closed at end (trajectory form (schema h s) (typedObjects (objectsOf s at) s) s end (stepsIn s at) first))
-      a b v (rw read at p) q r u)
+      a b v (rw (objects-at, read) at p) q r u)
 
 module _ (at end : ℕ) (a : Answer) (b : Bool) where
   pub closed-stays : b ≡ isRefused a → b ≡ true → a ≡ closed at end a

@@ -3,7 +3,7 @@
 use Prim.Native.Nat.{ℕ, zero, suc, _+_, _-_, _≤_, _<_}
 use native.Mathlib.Numerals.{sub-one}
 use native.Mathlib.Omega.{arith}
-use mathlib.Core.Path.{_≡_, refl, sym, _∙_}
+use mathlib.Core.Path.{_≡_, refl, sym, ap, _∙_}
 use mathlib.Core.Bool.{Bool, true, false, _||_}
 use mathlib.Core.List.{List}
 use lib.Dec.{ltb}
@@ -13,7 +13,7 @@ use Rattle.answer.specs.declared.Answer.{Answer}
 use Rattle.answer.specs.declared.Answer.the-variants.{Good, Refused}
 use Rattle.answer.specs.Answer.{_>>=_, refuse, isRefused, valueOf}
 use Rattle.truth.specs.Bools.{neither}
-use Rattle.answer.specs.Laws.{refuse-met, refuse-unmet, bind-good, bind-refused, bind-assoc, bind-cong, passed}
+use Rattle.answer.specs.Laws.{refuse-met, refuse-unmet, bind-good, bind-refused, passed, parted}
 use Rattle.input.specs.Bytes.{byteAt}
 use Rattle.terms.specs.declared.Fact.{Fact}
 use Rattle.terms.specs.declared.Step.{Step}
@@ -24,8 +24,8 @@ use Rattle.format.specs.Lists.{listAt}
 use Rattle.format.specs.Form.{Form, mostListed, stateAfter}
 use Rattle.format.specs.States.{cut, list, state, nextState}
 use Rattle.format.specs.Records.{stepRefused, step, steps, trajectory}
-use Rattle.records.specs.Readable.{stepListed}
-use Rattle.answer.specs.Turns.{part-stays, part-follows}
+use Rattle.records.specs.Readable.{stepAlone, stepListed}
+use Rattle.answer.specs.Turns.{is-good, part-stays, part-follows}
 
 -- row 7, as the code meets it
 pub object-bad-by : (kinds : ℕ) (s : List ℕ) (end at x : ℕ) (b : Bool)
@@ -49,40 +49,71 @@ module _ (sch : Schema) (ob : TypedObjects) (s : List ℕ) (end : ℕ) where
   unfolding stepRefused cut
   step-fits at b p e = ltb-false _ _ (neither _ _ (sym p ∙ e) .0)
 
-module _ (form : Form) (sch : Schema) (ob : TypedObjects) (s : List ℕ) (end : ℕ) where
-  pub step-nine : (at : ℕ) (b : Bool) → b ≡ stepRefused sch ob s end at → b ≡ true → stepListed form sch ob s end at ≡ Refused 9 at
-  unfolding stepListed
-  step-nine at b p e = refuse-met _ _ _ _ (sym p ∙ e)
+  -- rows 9 and 10
+  pub alone-nine : (at : ℕ) (b : Bool) → b ≡ stepRefused sch ob s end at → b ≡ true → Refused 9 at ≡ stepAlone sch ob s end at
+  unfolding stepAlone
+  alone-nine at b p e = sym (refuse-met _ _ _ _ (sym p ∙ e))
 
-  -- what stands after row 9
   module _ (at : ℕ) (st : Step) (b : Bool) (told : b ≡ stepRefused sch ob s end at) (right : b ≡ false) (read : st ≡ stepAt s at) where
-    behind-nine : stepListed form sch ob s end at ≡ (refuse (repeats st) 10 at >>= λ _. list 8 (mostListed form) sch ob s end (at + stepSize))
-    unfolding stepListed
+    behind-nine : stepAlone sch ob s end at ≡ (refuse (repeats st) 10 at >>= λ _. Good (at + stepSize))
+    unfolding stepAlone
     behind-nine = rw read (refuse-unmet _ _ _ _ (sym told ∙ right))
 
-    pub step-repeats : (c : Bool) → c ≡ repeats st → c ≡ true → stepListed form sch ob s end at ≡ Refused 10 at
-    step-repeats c p e = behind-nine ∙ refuse-met _ _ _ _ (sym p ∙ e)
+    pub alone-ten : (c : Bool) → c ≡ repeats st → c ≡ true → Refused 10 at ≡ stepAlone sch ob s end at
+    alone-ten c p e = sym (behind-nine ∙ refuse-met _ _ _ _ (sym p ∙ e))
 
-    pub step-list : (c : Bool) → c ≡ repeats st → c ≡ false → stepListed form sch ob s end at ≡ list 8 (mostListed form) sch ob s end (at + stepSize)
-    step-list c p e = behind-nine ∙ refuse-unmet _ _ _ _ (sym p ∙ e)
+    pub alone-good : (c : Bool) → c ≡ repeats st → c ≡ false → Good (at + stepSize) ≡ stepAlone sch ob s end at
+    alone-good c p e = sym (behind-nine ∙ refuse-unmet _ _ _ _ (sym p ∙ e))
+
+  -- where the step is good, the list stands behind it
+  pub alone-behind : (at next : ℕ) → stepAlone sch ob s end at ≡ Good next → (at + stepSize ≤ end) × (stepBad sch ob (stepAt s at) ≡ false) × (repeats (stepAt s at) ≡ false) × (next ≡ at + stepSize)
+  unfolding stepAlone stepRefused cut
+  alone-behind at next e =
+      let (first, rest) = passed _ 9 at next _ e in
+      let (different, behind) = passed _ 10 at next _ rest in
+      let (fits, right) = neither (ltb end (at + stepSize)) (stepBad sch ob (stepAt s at)) first in
+      (ltb-false end (at + stepSize) fits, right, different, let p : at + stepSize ≡ next = cc in sym p)
+
+  -- the same, by what a call returned
+  pub alone-found : (at : ℕ) (a : Answer) (b : Bool) → a ≡ stepAlone sch ob s end at → b ≡ isRefused a → b ≡ false
+      → (at + stepSize ≤ end) × (stepAlone sch ob s end at ≡ Good (at + stepSize)) × (at + stepSize ≡ valueOf a)
+  alone-found at a b p q r =
+      let good = sym p ∙ is-good a (sym q ∙ r) in
+      let (fits, right, different, place) = alone-behind at (valueOf a) good in
+      (fits, good ∙ ap Good place, sym place)
+
+module _ (form : Form) (sch : Schema) (ob : TypedObjects) (s : List ℕ) (end : ℕ) where
+  pub step-stays : (at : ℕ) (a : Answer) (b : Bool) → a ≡ stepAlone sch ob s end at → b ≡ isRefused a → b ≡ true → a ≡ stepListed form sch ob s end at
+  unfolding stepListed
+  step-stays at a b p q r = part-stays _ _ a b p q r
+
+  pub step-follows : (at : ℕ) (a : Answer) (b : Bool) (v : ℕ) → a ≡ stepAlone sch ob s end at → b ≡ isRefused a → b ≡ false → v ≡ valueOf a
+      → list 8 (mostListed form) sch ob s end v ≡ stepListed form sch ob s end at
+  unfolding stepListed
+  step-follows at a b v p q r u = part-follows _ (list 8 (mostListed form) sch ob s end) a b v p q r u
 
   -- a step is its list, and then how many facts that leaves
   step-parts : (before : List Fact) (at : ℕ)
       → step form sch ob s end before at
       ≡ (stepListed form sch ob s end at >>= λ next. refuse (ltb maxFacts (length (stateAfter form s before (at + stepSize)))) 8 (at + stepSize) >>= λ _. Good next)
-  unfolding step stepListed nextState
-  step-parts before at =
-      sym
-      (bind-assoc (refuse (stepRefused sch ob s end at) 9 at) _ _
-      ∙ bind-cong (refuse (stepRefused sch ob s end at) 9 at) _ _ (λ n. bind-assoc (refuse (repeats (stepAt s at)) 10 at) _ _))
+  unfolding step stepListed stepAlone nextState _>>=_ refuse
+  step-parts before at = go (stepRefused sch ob s end at) (repeats (stepAt s at))
+    where
+      go : (x y : Bool)
+          → (refuse x 9 at >>= λ _. refuse y 10 at >>= λ _. nextState form sch ob s end before (at + stepSize))
+          ≡ ((refuse x 9 at >>= λ _. refuse y 10 at >>= λ _. Good (at + stepSize)) >>= list 8 (mostListed form) sch ob s end
+          >>= λ next. refuse (ltb maxFacts (length (stateAfter form s before (at + stepSize)))) 8 (at + stepSize) >>= λ _. Good next)
+      go true y = refl
+      go false true = refl
+      go false false = refl
 
   -- a good list behind a step
   pub listed-good : (at next : ℕ) → stepListed form sch ob s end at ≡ Good next → (at + stepSize ≤ end) × (list 8 (mostListed form) sch ob s end (at + stepSize) ≡ Good next)
-  unfolding stepListed stepRefused cut
+  unfolding stepListed
   listed-good at next e =
-      let (first, rest) = passed _ 9 at next _ e in
-      let (different, behind) = passed _ 10 at next _ rest in
-      (ltb-false end (at + stepSize) (neither (ltb end (at + stepSize)) (stepBad sch ob (stepAt s at)) first .0), behind)
+      let (listed, alone, good) = parted (stepAlone sch ob s end at) next _ e in
+      let (fits, right, different, place) = alone-behind sch ob s end at listed alone in
+      (fits, rw place at good)
 
   -- A turn of the loop over steps: what is left answers as the whole, by what the calls returned.
   module _ (whole : Answer) (n at : ℕ) (before : List Fact) (left : steps form sch ob s end n before at ≡ whole) where

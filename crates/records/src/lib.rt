@@ -5,11 +5,12 @@ use terms::Objects;
 use terms::Sections;
 use terms::Step;
 ghost use mathlib.Core.Path.{_≡_};
-ghost use Prim.Native.Nat.{_≤_};
+ghost use mathlib.Core.Bool.{false};
+ghost use Prim.Native.Nat.{_+_, _≤_};
 ghost use lib.ListN.{length};
 ghost use Rattle.answer.specs.Walk.{walk};
 ghost use Rattle.terms.specs.Schema.{schema, typedObjects};
-ghost use Rattle.limits.specs.Limits.{maxLength, maxObjects, maxRelations, maxTurns, nearCeiling};
+ghost use Rattle.limits.specs.Limits.{maxLength, maxObjects, maxRelations, maxTurns, stepSize, nearCeiling};
 ghost use Rattle.format.specs.Lists.{listAt};
 ghost use Rattle.format.specs.Form.{mostListed};
 ghost use Rattle.format.specs.States.{state};
@@ -17,7 +18,7 @@ ghost use Rattle.format.specs.Records.{headBad, object, stepRefused, steps, tra
 ghost use Rattle.answer.specs.declared.Answer.the-variants.{Good};
 ghost use Rattle.tables.specs.Tables.{ForRightByKind};
 ghost use Rattle.records.specs.Head.{headOf};
-ghost use Rattle.records.specs.Readable.{Readable, stepListed};
+ghost use Rattle.records.specs.Readable.{scopeOf, Readable, stepAlone, stepListed};
 
 // A record's head: how many objects it has, how many steps, and how many bytes.
 pub struct Head {
@@ -40,7 +41,7 @@ impl Head {
 }
 
 // Row 6, of a head.
-fn head_bad(s: &[u8], head: Head, at: usize) -> bool
+pub fn head_bad(s: &[u8], head: Head, at: usize) -> bool
     requires { ⌜ (at ≤ maxLength) × (head ≡ headOf (now s) at) ⌝ }
     ensures { λ r. ⌜ r ≡ headBad (now (s .entry)) at ⌝ }
 {
@@ -53,7 +54,7 @@ fn head_bad(s: &[u8], head: Head, at: usize) -> bool
 }
 
 // Row 7, for a number of objects.
-fn objects(s: &[u8], kinds: u16, end: usize, n: usize, from: usize) -> Answer
+pub fn objects(s: &[u8], kinds: u16, end: usize, n: usize, from: usize) -> Answer
     requires { ⌜ (from ≤ nearCeiling) × (n ≤ 255) ⌝ }
     ensures { λ r. ⌜ r ≡ walk (object kinds (now (s .entry)) end) n from ⌝ }
 {
@@ -72,7 +73,7 @@ fn objects(s: &[u8], kinds: u16, end: usize, n: usize, from: usize) -> Answer
 // Row 9.
 fn step_refused(book: &[u8], h: Sections, kinds: &[u32; 256], end: usize, at: usize) -> bool
     requires { ⌜ (end ≤ length (now book)) × (at ≤ maxLength) ⌝ }
-    ensures { λ r. ⌜ ForRightByKind (schema h (now (book .entry))) (now (kinds .entry)) (λ ob. r ≡ stepRefused (schema h (now (book .entry))) ob (now (book .entry)) end at) ⌝ }
+    ensures { λ r. ⌜ ForRightByKind (schema h (now (book .entry))) (now (kinds .entry)) (λ ob. r ≡ stepRefused (schema h (now (book .entry))) ob (now (book .entry)) end at) × (r ≡ false → at + stepSize ≤ end) ⌝ }
 {
     if end < at + limits::STEP_SIZE {
         return true;
@@ -80,16 +81,32 @@ fn step_refused(book: &[u8], h: Sections, kinds: &[u32; 256], end: usize, at: us
     tables::step_bad(book, h, kinds, Step::read(book, at))
 }
 
-// What a trajectory is read within: whether the book is short, its header, the record's objects, its number of steps, and where it ends.
-struct Scope {
-    short: bool,
-    h: Sections,
-    objects: Objects,
-    steps: usize,
-    end: usize,
+// Rows 9 and 10: where the list behind the step starts.
+pub fn step_alone(book: &[u8], h: Sections, kinds: &[u32; 256], end: usize, at: usize) -> Answer
+    requires { ⌜ (end ≤ length (now book)) × (at ≤ maxLength) ⌝ }
+    ensures { λ r. ⌜ ForRightByKind (schema h (now (book .entry))) (now (kinds .entry)) (λ ob. r ≡ stepAlone (schema h (now (book .entry))) ob (now (book .entry)) end at) ⌝ }
+{
+    if step_refused(book, h, kinds, end, at) {
+        return Answer::Refused(9, at);
+    }
+    let st = Step::read(book, at);
+    if st.repeats() {
+        return Answer::Refused(10, at);
+    }
+    Answer::Good(at + limits::STEP_SIZE)
 }
 
-fn most_listed(short: bool) -> u16
+// What a trajectory is read within: whether the book is short, its header, the record's objects, its number of steps, and where it ends.
+pub struct Scope {
+    pub short: bool,
+    pub h: Sections,
+    pub objects: Objects,
+    pub steps: usize,
+    pub end: usize,
+}
+
+// How many facts a list after a step may have.
+pub fn most_listed(short: bool) -> u16
     ensures { λ r. ⌜ (r ≡ mostListed short) × (r ≤ maxTurns) ⌝ }
 {
     if short {
@@ -103,12 +120,9 @@ fn step(book: &[u8], c: Scope, kinds: &[u32; 256], table: &[u32; 512], at: usize
     requires { ⌜ Readable (now book) c (now kinds) (now table) × (at ≤ maxLength) ⌝ }
     ensures { λ r. ⌜ r ≡ stepListed (c .short) (schema (c .h) (now (book .entry))) (typedObjects (c .objects) (now (book .entry))) (now (book .entry)) (c .end) at ⌝ }
 {
-    if step_refused(book, c.h, kinds, c.end, at) {
-        return Answer::Refused(9, at);
-    }
-    let st = Step::read(book, at);
-    if st.repeats() {
-        return Answer::Refused(10, at);
+    let alone = step_alone(book, c.h, kinds, c.end, at);
+    if answer::is_refused(alone) {
+        return alone;
     }
     states::list(
         8,
@@ -116,7 +130,7 @@ fn step(book: &[u8], c: Scope, kinds: &[u32; 256], table: &[u32; 512], at: usize
         book,
         table,
         c.end,
-        at + limits::STEP_SIZE,
+        answer::value_of(alone),
     )
 }
 
@@ -168,7 +182,7 @@ fn trajectory(book: &[u8], c: Scope, kinds: &[u32; 256], table: &[u32; 512], at:
 }
 
 // What a record answers, once its trajectory has: bytes left in it are row 6.
-fn closed(a: Answer, at: usize, end: usize) -> Answer
+pub fn closed(a: Answer, at: usize, end: usize) -> Answer
     ensures { λ r. ⌜ r ≡ closed at end a ⌝ }
 {
     if answer::is_refused(a) {
@@ -180,36 +194,37 @@ fn closed(a: Answer, at: usize, end: usize) -> Answer
     Answer::Good(end)
 }
 
+// What the trajectory of the record at an offset is read within, by its head.
+pub fn scope_of(short: bool, h: Sections, head: Head, at: usize, end: usize) -> Scope
+    requires { ⌜ at ≤ maxLength ⌝ }
+    ensures { λ r. ⌜ r ≡ scopeOf short h head at end ⌝ }
+{
+    Scope {
+        short,
+        h,
+        objects: Objects {
+            count: head.objects,
+            at: at + limits::HEAD_SIZE,
+        },
+        steps: head.steps as usize,
+        end,
+    }
+}
+
 // A record whose head is right.
 fn body(s: &[u8], short: bool, h: Sections, head: Head, at: usize, end: usize) -> Answer
     requires { ⌜ (h .relations .count ≤ maxRelations) × (at ≤ maxLength) × (end ≤ maxLength) × (end ≤ length (now s)) × (head ≡ headOf (now s) at) × (head .objects ≤ maxObjects) ⌝ }
     ensures { λ r. ⌜ r ≡ body short h (now (s .entry)) at end ⌝ }
 {
-    let listed = Objects {
-        count: head.objects,
-        at: at + limits::HEAD_SIZE,
-    };
-    let first = objects(
-        s,
-        h.kinds,
-        end,
-        listed.count as usize,
-        at + limits::HEAD_SIZE,
-    );
+    let c = scope_of(short, h, head, at, end);
+    let first = objects(s, h.kinds, end, head.objects as usize, c.objects.at);
     if answer::is_refused(first) {
         return first;
     }
-    let kinds = tables::kinds_of(s, h, s, listed);
+    let kinds = tables::kinds_of(s, h, s, c.objects);
     let table = tables::table_of(s, h, &kinds);
-    let scope = Scope {
-        short,
-        h,
-        objects: listed,
-        steps: head.steps as usize,
-        end,
-    };
     closed(
-        trajectory(s, scope, &kinds, &table, answer::value_of(first)),
+        trajectory(s, c, &kinds, &table, answer::value_of(first)),
         at,
         end,
     )

@@ -1,4 +1,2 @@
--- Steps and records observed one by one, for the proofs of the functions.
-pub mod Ready
-pub mod Steps
+-- Records observed one by one, for the proofs of the functions.
 pub mod Observing

@@ -14,6 +14,7 @@ ghost use Rattle.format.specs.States.{countBad, facts, list, state};
 ghost use Rattle.format.specs.Lists.{listEnd};
 ghost use Rattle.tables.specs.Tables.{ForRightByPlace};
 ghost use Rattle.states.specs.Cursor.{Ahead, factOf, misplaced};
+ghost use Rattle.states.specs.Looked.{wholeList};
 
 // Facts still to be looked at, each at the end of an item of a size: from where, how many, and the fact before them with its key. The items
 // of a state, which a start of an order is too, are its facts; a goal entry has a byte before its fact.
@@ -39,7 +40,7 @@ impl FactCursor {
         }
     }
 
-    fn fact(self, t: &[u8]) -> Fact
+    pub fn fact(self, t: &[u8]) -> Fact
         requires { ⌜ Ahead (now t) self ⌝ }
         ensures { λ r. ⌜ r ≡ factOf (now (t .entry)) self ⌝ }
     {
@@ -133,6 +134,17 @@ fn count_bad(s: &[u8], most: u16, end: usize, at: usize) -> bool
         return true;
     }
     most < count(s, at)
+}
+
+// Whether a list has no more than so many facts and none of them is cut: they can then be read without a test of each.
+pub fn is_whole(s: &[u8], most: u16, end: usize, at: usize) -> bool
+    requires { ⌜ (end ≤ length (now s)) × (at ≤ nearCeiling) ⌝ }
+    ensures { λ r. ⌜ r ≡ wholeList most (now (s .entry)) end at ⌝ }
+{
+    if count_bad(s, most, end, at) {
+        return false;
+    }
+    at + limits::COUNT_SIZE + limits::FACT_SIZE * count(s, at) as usize <= end
 }
 
 // A list of facts, at most so many, refused with the number given.

@@ -14,7 +14,7 @@ ghost use Rattle.turning.specs.Turning.{flipped, Turnable, Carried};
 use terms::Fact;
 
 // Turns one fact; says how many hold afterwards, by how many held before.
-fn turn(f: Fact, state: &mut [u8], count: usize) -> usize
+pub fn turn(f: Fact, state: &mut [u8], count: usize) -> usize
     requires { ⌜ (length (now state) ≡ stateSize) × (factNumber f < maxFactNumbers) × (count ≡ cardinality (now state)) ⌝ }
     ensures { λ r. ⌜ (now (state .exit) ≡ flipBit (now (state .entry)) (factNumber f)) × (r ≡ cardinality (now (state .exit))) ⌝ }
 {

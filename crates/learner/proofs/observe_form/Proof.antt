@@ -31,8 +31,7 @@ records-requires c κs =
     let g = sections-good _ _ _ e in
     let seen = c .before .before .before .before .before .nothing-seen .ensures in (
       (g .size .most, omega (arith, g .offsets .within, g .size .most), g .counts .records, rw (← p .0) (g .counts .relations)),
-      λ _.
-          rw (← p .0)
+      rw (← p .0)
           (g .counts .moves, schema-right _ _ _ g .falling, record { sized = ap length seen ∙ seen-nothing _ .sized; atoms = λ a low high. ap (λ (l : List ℕ). observedSet l a 6) seen ∙ seen-nothing _ .atoms a low high }),
     )
 
@@ -41,7 +40,7 @@ returns-2 c =
     let d = c .before .before .before in
     let x = d .before .before .before .before .before .before .before in
     at-records _ _ _ (c .before .before .before .before .before .before .before .before .before .before .before .before .before .before .before .pre .0) _ _ _ _ _ (x .before .before .sections .ensures) (x .before .is-refused .ensures) (x .if1 .left)
-    (d .before .before .before .before .before .nothing-seen .ensures) (scanned-own _ _ _ (c .before .before .before .before .before .before .before .before .before .before .before .before .before .before .before .pre .0) _ _ _ _ _ _ (c .before .before .records .ensures))
+    (d .before .before .before .before .before .nothing-seen .ensures) (scanned-own _ _ _ (c .before .before .before .before .before .before .before .before .before .before .before .before .before .before .before .pre .0) _ _ _ _ _ (c .before .before .records .ensures))
 
 pub observe-form-spec : {M : Type 1} → statement M
 observe-form-spec =

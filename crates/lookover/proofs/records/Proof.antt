@@ -1,10 +1,64 @@
--- `records` meets its contract: the walk's answer, with nothing observed.
-use mathlib.Core.Path.{refl}
-use Rattle.truth.specs.Bools.{clash}
+-- `lookover::records` meets its contract: the records that are left answer as all of them do.
+use Prim.Native.Nat.{_+_, _*_, _≤_}
+use mathlib.Core.Path.{_≡_, refl, sym, _∙_}
+use native.Mathlib.Omega.{arith}
+use Rattle.answer.specs.Walk.{walk}
+use Rattle.answer.specs.Turns.{turn-none, turn-refused, turn-good}
+use Rattle.terms.specs.Sections.{sectionsOf}
+use Rattle.limits.specs.Limits.{maxLength}
+use Rattle.format.specs.Records.{recordAt}
+use Rattle.format.specs.LookOver.{stepTotal}
+use Rattle.format.proofs.Records.{record-within}
+use Rattle.reader.specs.Reader.{record-by}
+use Rattle.records.proofs.Laws.{all-refused, all-left, all-good, total-none, total-more}
+use borrow.Author.Needs.{needs}
 use Rattle.lookover.proofs.records.Statement.{statement}
 use Rattle.lookover.proofs.records.Tie as tie
+
+abbrev Inv-loop : tie.InvT-loop
+Inv-loop s short n from left₀ at₀ total₀ left at total =
+    (at ≤ maxLength)
+    × (total + 255 * left ≤ 255 * n)
+    × (walk (recordAt short (sectionsOf s) s) left at ≡ walk (recordAt short (sectionsOf s) s) n from)
+    × (total + stepTotal s left at ≡ stepTotal s n from)
+
+abbrev μ-loop : tie.MeasureT-loop
+μ-loop s short n from left₀ at₀ total₀ left at total = left
+
+loop-holds : tie.Need-loop-holds Inv-loop μ-loop
+loop-holds c = let p = c .before .pre in (p .1, omega arith, refl, omega arith)
+
+returns : tie.Need-returns Inv-loop μ-loop
+returns c =
+    let r = c .before .before .before in
+    let l = r .before .before in
+    let p = l .before .before .pre in
+    let own = record-by _ _ _ _ refl (p .0) (l .loop .inv .0) (p .3) (r .record-from .ensures) in
+    all-refused _ _ _ _ _ _ _ (turn-refused _ _ _ _ _ _ _ (l .loop .inv .2) (r .before .loop-test .taken) own (c .before .k .given .1))
+
+loop-again : tie.Need-loop-again Inv-loop μ-loop
+loop-again c =
+    let a = c .before .before .before in
+    let r = a .before .before in
+    let l = r .before .before in
+    let p = l .before .before .pre in
+    let i = l .loop .inv in
+    let e = a .next .given .1 in
+    let some = r .before .loop-test .taken in
+    let own = record-by _ _ _ _ refl (p .0) (i .0) (p .3) (r .record-from .ensures) in
+    let w = record-within _ _ _ _ _ (sym own ∙ e) in
+    (omega (arith, p .0, w .1), omega arith, turn-good _ _ _ _ _ _ (i .2) some own e, total-more _ _ _ _ _ _ _ (i .3) some (c .before .read .ensures) (w .0))
+
+returns-2 : tie.Need-returns-2 Inv-loop μ-loop
+returns-2 c = all-left _ _ _ _ _ _ (turn-none _ _ _ _ (c .before .before .loop .inv .2) (omega arith)) (c .if1 .taken)
+
+returns-3 : tie.Need-returns-3 Inv-loop μ-loop
+returns-3 c =
+    let i = c .before .before .loop .inv in
+    all-good _ _ _ _ _ _ _ (turn-none _ _ _ _ (i .2) (omega arith)) (omega arith) (total-none _ _ _ _ _ (i .3) (omega arith))
 
 pub records-spec : {M : Type 1} → statement M
 records-spec =
     tie.close
-    (tie.spec (λ c. refl) (λ c κs. let p = c .before .before .pre in ((p .0, p .1, p .2, p .3), λ y. clash _ y refl)) (λ c. c .before .records .ensures .says))
+    (tie.spec Inv-loop μ-loop loop-holds (λ c κs. search needs) (λ c. search needs) returns (λ c. search needs) (λ c κs. search needs) (λ c. search needs) (λ c. search needs)
+    (λ c. search needs) (λ c. search needs) loop-again returns-2 returns-3)

@@ -1,6 +1,6 @@
 -- `marks::mark_rest` meets its contract: a loop of `Marked` facts.
 use native.Mathlib.Omega.{arith}
-use Rattle.marks.specs.Marks.{Inverts}
+use Rattle.lifting.specs.Pairs.{Inverts}
 use Rattle.marks.proofs.Facts.{passed-by, Marked, marked-none, marked-next, marked-all}
 use Rattle.marks.proofs.mark_rest.Statement.{statement}
 use Rattle.marks.proofs.mark_rest.Tie as tie

@@ -1,5 +1,5 @@
--- `notes::observe` meets its contract: the bound facts from `mark_step`, the sets from `note`, the offset from `first_named`.
-use mathlib.Core.Path.{ap}
+-- `notes::observe` meets its contract: the answer and the bound facts from `mark_step`, the sets from `note`, the offset from `first_named`.
+use mathlib.Core.Path.{refl, ap}
 use native.Mathlib.Omega.{arith}
 use borrow.Author.Needs.{needs}
 use Rattle.terms.specs.declared.Step.{Step}
@@ -17,7 +17,7 @@ mark-step-requires : tie.Need-mark-step-requires
 unfolding listEnd
 mark-step-requires c κs =
     let p = c .before .before .before .before .before .before .before .before .before .before .before .before .pre in
-    ((omega arith, omega arith, p .1 .1 .0, p .1 .1 .1), (p .0 .3, c .before .before .before .before .before .before .empty32 .ensures, c .before .before .before .before .before .empty322 .ensures))
+    ((omega arith, omega arith, p .1 .1 .0, p .1 .1 .1), (p .0 .3, c .before .before .before .before .before .before .empty32 .ensures, c .before .before .before .before .before .empty322 .ensures, p .1 .0 .2))
 
 note-requires : tie.Need-note-requires
 note-requires c κs =
@@ -32,8 +32,10 @@ returns c =
     let m = n .before .before .before .before .before .before in
     let b = m .before .before .before .before .before .before .before .before in
     let r = b .before in (
-      m .mark-step .ensures .0,
-      observed-by _ _ _ _ _ _ _ _ _ _ _ _ (r .read .ensures) (bound-part _ _ _ (b .set-at .ensures .0)) (m .mark-step .ensures .1) (n .note .ensures) (c .first-named .ensures),
+      (m .mark-step .ensures .0, refl),
+      λ k e.
+          let w = m .mark-step .ensures .1 k e in
+          (w .0, observed-by _ _ _ _ _ _ _ _ _ _ _ _ (r .read .ensures) (bound-part _ _ _ (b .set-at .ensures .0)) (w .1) (n .note .ensures) (c .first-named .ensures)),
     )
 
 pub observe-spec : {M : Type 1} → statement M

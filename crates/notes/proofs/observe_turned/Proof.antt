@@ -31,7 +31,7 @@ held-atoms-requires c κs =
     (rw e (p .bounded), rw own (length-observedSet _ _ 6 (p .sized) (rw a (p .counted)) (rw a (p .known)) (omega arith)), p .long, rw (own, e) (p .ended))
 
 mark-turned-requires : tie.Need-mark-turned-requires
-mark-turned-requires c κs = let p = c .before .before .before .before .before .before .before .before .before .before .before .before .before .before .before .pre in let n = p .0 .near in (omega arith, p .0 .within, p .1)
+mark-turned-requires c κs = let p = c .before .before .before .before .before .before .before .before .before .before .before .before .before .before .before .pre in let n = p .0 .near in (omega arith, p .0 .within, p .1, p .0 .long, p .2, p .3)
 
 note-requires : tie.Need-note-requires
 note-requires c κs =
@@ -43,7 +43,12 @@ returns : tie.Need-returns
 returns c =
     let m = c .before .before .before .before .before .before .before .before .before .before .mark-turned in
     let own = bound-part _ _ _ (c .before .before .before .before .before .before .before .before .before .before .before .before .before .before .before .before .before .before .before .before .set-at .ensures .0) in
-    (m .ensures .0, turned-by _ _ _ _ _ _ _ _ _ _ _ _ _ _ _ (c .before .before .before .before .before .before .before .before .before .before .before .before .before .before .before .before .before .before .before .before .before .read .ensures) own (c .before .before .before .before .before .before .before .before .before .before .before .before .before .before .before .before .held-atoms .ensures) (m .ensures .1) (c .before .before .before .note .ensures) (c .first-named .ensures))
+    let held = c .before .before .before .before .before .before .before .before .before .before .before .before .before .before .before .before in (
+      m .ensures .0,
+      λ k e.
+          let w = m .ensures .1 k e in
+          (w .0, turned-by _ _ _ _ _ _ _ _ _ _ _ _ _ _ _ (held .before .before .before .before .before .read .ensures) own (held .held-atoms .ensures) (w .1) (c .before .before .before .note .ensures) (c .first-named .ensures), w .2),
+    )
 
 pub observe-turned-spec : {M : Type 1} → statement M
 observe-turned-spec =

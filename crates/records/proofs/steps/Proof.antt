@@ -1,5 +1,7 @@
 -- `steps` meets its contract: the steps still left answer as all of them do, and the state before them is carried.
 use native.Mathlib.Omega.{arith}
+use mathlib.Core.List.{List}
+use Rattle.terms.specs.declared.Fact.{Fact}
 use mathlib.Core.Path.{sym}
 use Rattle.mask.proofs.Laws.{length-empty}
 use Rattle.mask.proofs.Flips.{cardinality-empty}
@@ -9,7 +11,7 @@ use Rattle.records.proofs.steps.Statement.{statement}
 use Rattle.records.proofs.steps.Tie as tie
 
 abbrev Inv-loop : tie.InvT-loop
-Inv-loop book c kinds table first from state₀ count₀ left₀ at₀ state count left at = Going book c first from state count left at
+Inv-loop book c kinds table first from state₀ count₀ left₀ at₀ state count left at = (before : List Fact) × Going book c first from before state count left at
 
 abbrev μ-loop : tie.MeasureT-loop
 μ-loop book c kinds table first from state₀ count₀ left₀ at₀ state count left at = left
@@ -24,35 +26,35 @@ loop-holds : tie.Need-loop-holds Inv-loop μ-loop
 loop-holds c =
     let p = c .before .before .before .before .before .pre in
     let k = c .before .carry .ensures in
-    going-first _ _ _ _ (p .0) _ _ (p .1) (p .3) _ _ _ (c .before .before .before .empty512 .ensures) (k .0) (k .1)
+    (_, going-first _ _ _ _ (p .0) _ _ (p .1) (p .3) _ _ _ (c .before .before .before .empty512 .ensures) (k .0) (k .1))
 
 step-requires : tie.Need-step-requires Inv-loop μ-loop
-step-requires c κs = (c .before .before .before .before .before .before .before .pre .0, c .before .loop .inv .near)
+step-requires c κs = (c .before .before .before .before .before .before .before .pre .0, c .before .loop .inv .1 .near)
 
 returns : tie.Need-returns Inv-loop μ-loop
 returns c =
     let d = c .before .before .before in
     let l = d .before .before in
-    going-refused _ _ _ _ (l .before .before .before .before .before .before .pre .0) _ _ _ _ _ _ (l .loop .inv) (d .before .loop-test .taken) _ (d .step .ensures) _ _ (c .before .k .given .1)
+    going-refused _ _ _ _ (l .before .before .before .before .before .before .pre .0) _ _ _ _ _ _ _ (l .loop .inv .1) (d .before .loop-test .taken) _ (d .step .ensures) _ _ (c .before .k .given .1)
 
 add-listed : tie.Need-add-listed Inv-loop μ-loop
-add-listed c = let n = c .before .before .before .before .before .loop .inv .near in omega arith
+add-listed c = let n = c .before .before .before .before .before .loop .inv .1 .near in omega arith
 
 carry-requires-2 : tie.Need-carry-requires-2 Inv-loop μ-loop
 carry-requires-2 c κs =
     let d = c .before .before .before .before in
     let l = d .before .before in
     let p = l .before .before .before .before .before .before .pre in (
-      l .loop .inv .long,
+      l .loop .inv .1 .long,
       λ short.
-          (going-turnable _ _ _ _ (p .0) _ _ _ _ _ _ (l .loop .inv) (d .before .loop-test .taken) _ (d .step .ensures) _ (c .before .before .next .given .1), going-count _ _ _ _ (p .0) _ _ _ _ _ _ (l .loop .inv) short),
+          (going-turnable _ _ _ _ (p .0) _ _ _ _ _ _ _ (l .loop .inv .1) (d .before .loop-test .taken) _ (d .step .ensures) _ (c .before .before .next .given .1), going-count _ _ _ _ (p .0) _ _ _ _ _ _ _ (l .loop .inv .1) short),
     )
 
 returns-2 : tie.Need-returns-2 Inv-loop μ-loop
 returns-2 c =
     let d = c .before .before .before .before .before .before .before in
     let l = d .before .before in
-    going-many _ _ _ _ (l .before .before .before .before .before .before .pre .0) _ _ _ _ _ _ (l .loop .inv) (d .before .loop-test .taken) _ (d .step .ensures) _ (c .before .before .before .before .before .next .given .1) _ _ (c .before .before .carry2 .ensures .1)
+    going-many _ _ _ _ (l .before .before .before .before .before .before .pre .0) _ _ _ _ _ _ _ (l .loop .inv .1) (d .before .loop-test .taken) _ (d .step .ensures) _ (c .before .before .before .before .before .next .given .1) _ _ (c .before .before .carry2 .ensures .1)
     (c .if1 .taken)
 
 loop-again : tie.Need-loop-again Inv-loop μ-loop
@@ -60,10 +62,10 @@ loop-again c =
     let d = c .before .before .before .before .before .before .before in
     let l = d .before .before in
     let k = c .before .before .carry2 .ensures in
-    going-on _ _ _ _ (l .before .before .before .before .before .before .pre .0) _ _ _ _ _ _ (l .loop .inv) (d .before .loop-test .taken) _ (d .step .ensures) _ (c .before .before .before .before .before .next .given .1) _ _ (k .1) (k .0) (c .if1 .left)
+    (_, going-on _ _ _ _ (l .before .before .before .before .before .before .pre .0) _ _ _ _ _ _ _ (l .loop .inv .1) (d .before .loop-test .taken) _ (d .step .ensures) _ (c .before .before .before .before .before .next .given .1) _ _ (k .1) (k .0) (c .if1 .left))
 
 returns-3 : tie.Need-returns-3 Inv-loop μ-loop
-returns-3 c = going-none _ _ _ _ (c .before .before .before .before .before .before .before .pre .0) _ _ _ _ _ _ (c .before .loop .inv) (omega arith)
+returns-3 c = going-none _ _ _ _ (c .before .before .before .before .before .before .before .pre .0) _ _ _ _ _ _ _ (c .before .loop .inv .1) (omega arith)
 
 pub steps-spec : {M : Type 1} → statement M
 steps-spec =

@@ -1,6 +1,5 @@
 -- `streams::write_to_end` ends: each turn takes a byte of the text or a pause.
 use Prim.Native.Nat.{_+_, _-_, _*_, _≤_}
-use native.Mathlib.Omega.{arith}
 use lib.ListN.{length}
 use borrow.Author.Needs.{needs}
 use Rattle.streams.proofs.write_to_end.Statement.{statement}

@@ -1,0 +1,2 @@
+-- The proofs of the code, and the laws of pairs that they use.
+pub mod Pairs

@@ -1,0 +1,2 @@
+-- From a fact to its bound fact, in numbers.
+pub mod Pairs

@@ -1,0 +1,192 @@
+-- A book of good form is learned in one walk over its records.
+use Prim.Native.Nat.{ℕ, zero, suc, _+_, _-_, _≤_, _<_}
+use native.Mathlib.Decide.{decLt}
+use native.Mathlib.Omega.{arith}
+use mathlib.Core.Path.{_≡_, sym, ap, ap₂, _∙_}
+use mathlib.Core.Bool.{Bool, true, false, cond}
+use mathlib.Core.List.{List, [], _∷_, _++_}
+use lib.Dec.{eqb}
+use lib.ListN.{length, getD, length-append, List·getD-append}
+use lib.Seq.{take-at, getD-append-add}
+use Rattle.answer.specs.declared.Answer.{Answer}
+use Rattle.answer.specs.declared.Answer.the-variants.{Good}
+use Rattle.answer.specs.Answer.{_>>=_}
+use Rattle.answer.specs.Laws.{parted, bind-assoc, bind-cong}
+use Rattle.input.specs.Bytes.{byteAt, two}
+use Rattle.output.specs.Written.{twoBytes}
+use Rattle.limits.specs.Limits.{maxLength, stepSize, observedSize}
+use Rattle.mask.specs.Bits.{Bytes}
+use Rattle.terms.specs.declared.Fact.{Fact}
+use Rattle.terms.specs.Sections.{sectionsOf}
+use Rattle.terms.specs.Schema.{Schema, TypedObjects}
+use Rattle.format.specs.Form.{Form, stateAfter}
+use Rattle.format.specs.Header.{sections}
+use Rattle.format.specs.Lists.{listEnd}
+use Rattle.format.specs.Records.{steps}
+use Rattle.format.specs.LookOver.{lookOver, lookOverBy}
+use Rattle.format.specs.Decode.{RecordedStep, recordedStep, recordedStepsAt, stepsOfRecord, stepsOfRecords, recordedSteps}
+use Rattle.format.specs.Parts.{recordPart, sectionsPart}
+use Rattle.format.proofs.Records.{head-limits, step-reach, steps-parted, record-good}
+use Rattle.format.proofs.LookOver.{LookedOver, look-over-good}
+use Rattle.format.proofs.Parts.{parts-joined}
+use Rattle.model.specs.Quantify.{Mem, here, there}
+use Rattle.model.proofs.Members.{mem-left}
+use Rattle.jobs.specs.Planning.{schemaOf, stepsOfBook, transitionsOf}
+use Rattle.jobs.specs.Learn.{conflictingMove, learnable, learnedFrom, ruleSheet}
+use Rattle.observed.specs.Observed.{Observed, observe, observeBy, firstNamed, observeAll, observedAfter, nothingSeen, heldAfter, observedOf}
+use Rattle.observed.specs.Rules.{unboundAnswer, conflictAmong}
+use Rattle.observed.specs.Seen.{Seen}
+use Rattle.observed.specs.Taught.{Taught}
+use Rattle.observed.proofs.Observe.{seen-observed}
+use Rattle.observed.proofs.Records.{held-none, held-steps, held-first, held-next}
+use Rattle.wellformed.proofs.Headers.{moves-few}
+use Rattle.wellformed.proofs.Records.{recorded-somewhere}
+use Rattle.observedright.specs.OneWalk.{heldBytes, Small, heldRows, heldSheet, recordOffset, LearnsInOneWalk, SameRecordSameHeld}
+use Rattle.observedright.proofs.ObservedRight.{recorded-faithful, observed-right}
+use Rattle.observedright.proofs.Sections.{moves-alone, nothing-alone}
+
+-- ---- what is held, as bytes
+
+-- a number below 65,536 is held in two bytes
+module _ (h : Observed) (sized : length (h .masks) ≡ observedSize) (bytes : Bytes (h .masks)) (near : h .named < 65536) where
+  behind : (i : ℕ) → byteAt (heldBytes h) (observedSize + i) ≡ getD (twoBytes (h .named)) i 0
+  unfolding heldBytes byteAt
+  behind i = rw (← sized) (getD-append-add (h .masks) (twoBytes (h .named)) i 0)
+
+  byte-two : (i : ℕ) → getD (twoBytes (h .named)) i 0 < 256
+  unfolding twoBytes
+  byte-two zero = omega arith
+  byte-two (suc zero) = omega arith
+  byte-two (suc (suc i)) = omega arith
+
+  byte-held : (i : ℕ) → Dec (i < observedSize) → getD (heldBytes h) i 0 < 256
+  unfolding heldBytes byteAt
+  byte-held i (yes l) = rw (List·getD-append (h .masks) (twoBytes (h .named)) 0 i (omega arith)) (bytes i)
+  byte-held i (no l) =
+      let e : i ≡ observedSize + (i - observedSize) = omega arith in
+      omega (arith, ap (λ (j : ℕ). getD (heldBytes h) j 0) e ∙ behind (i - observedSize), byte-two (i - observedSize))
+
+  small-by : Small h
+  unfolding heldBytes twoBytes two
+  small-by =
+      let size = length-append (h .masks) (twoBytes (h .named)) in
+      record {
+        size = omega arith;
+        limit = omega arith;
+        bytes = λ i. byte-held i (decLt i observedSize);
+        masks = take-at (h .masks) (twoBytes (h .named)) observedSize sized;
+        named = omega (arith, behind 0, behind 1);
+      }
+
+-- ---- the offset that is held is that of a step, or 0
+
+module _ (most : ℕ) where
+  named-one : (named at : ℕ) (unbound : Bool) → at ≤ most → named ≤ most → firstNamed named unbound at ≤ most
+  unfolding firstNamed
+  named-one named at unbound place l = go (eqb named 0) unbound
+    where
+      go : (a b : Bool) → cond a (cond b at 0) named ≤ most
+      go true true = place
+      go true false = omega arith
+      go false b = l
+
+  named-within : (fs : List RecordedStep) → ((f : RecordedStep) → Mem f fs → f .place ≤ most) → (h : Observed) → h .named ≤ most → observeAll fs h .named ≤ most
+  unfolding observeAll observe observeBy
+  named-within [] places h l = l
+  named-within (f ∷ fs) places h l = named-within fs (λ g m. places g (there m)) (observe f h) (named-one _ _ _ (places f here) l)
+
+-- a step stands within its record
+steps-before : (form : Form) (sch : Schema) (ob : TypedObjects) (s : List ℕ) (end n : ℕ) (before : List Fact) (at last : ℕ) → steps form sch ob s end n before at ≡ Good last
+    → {f : RecordedStep} → Mem f (recordedStepsAt form s n before at) → f .place ≤ end
+unfolding recordedStepsAt recordedStep
+steps-before form sch ob s end (suc n) before at last e here =
+    let reach = step-reach form sch ob s end before at _ (steps-parted form sch ob s end n before at last e .0) in
+    omega arith
+steps-before form sch ob s end (suc n) before at last e (there m) =
+    steps-before form sch ob s end n (stateAfter form s before (at + stepSize)) (listEnd s (at + stepSize)) last (steps-parted form sch ob s end n before at last e .1) m
+
+-- ---- a book of good form
+module _ (form : Form) (s : List ℕ) (n : ℕ) (good : lookOver form s ≡ Good n) where
+  looked : LookedOver form s n
+  looked = look-over-good form s n good
+
+  sections-passed : (k : ℕ) × (sections (sectionsOf s) s ≡ Good k)
+  unfolding lookOver lookOverBy
+  sections-passed = let p = parted _ _ _ good in (p .0, p .1)
+
+  step-placed : (f : RecordedStep) → Mem f (stepsOfBook form s) → f .place ≤ maxLength
+  unfolding stepsOfRecord
+  step-placed f m =
+      let (from, next, whole, k) = recorded-somewhere form s n good m in
+      let g = record-good form (sectionsOf s) s from next whole in
+      let low = steps-before form _ _ s _ _ _ _ (g .last) (g .steps) k in
+      omega (arith, low, head-limits s from (g .head) .2, looked .sections .size .most)
+
+  -- What is held after the records is what is observed after their steps: after all of them,
+  pub observed-book : observedOf form s ≡ observeAll (stepsOfBook form s) (nothingSeen (schemaOf s))
+  unfolding observedOf heldAfter stepsOfBook recordedSteps
+  observed-book =
+      held-steps form (sectionsOf s) s _ _ _ (looked .records) _
+      ∙ ap (observeAll (stepsOfRecords form s (sectionsOf s .records .count) (sectionsOf s .records .at))) (nothing-alone s _ (sections-passed .1))
+
+  -- and after the first k.
+  held-book : (k : ℕ) → k ≤ sectionsOf s .records .count
+      → (fs gs : List RecordedStep) × (stepsOfBook form s ≡ fs ++ gs) × (heldAfter form k s ≡ observeAll fs (nothingSeen (schemaOf s)))
+  unfolding heldAfter stepsOfBook recordedSteps
+  held-book k l =
+      let (fs, gs, e, held) = held-first form (sectionsOf s) s _ _ _ (looked .records) k l in
+      (fs, gs, e, held _ ∙ ap (observeAll fs) (nothing-alone s _ (sections-passed .1)))
+
+  -- What is held after all gives exactly the sheet, row 11 and row 12,
+  pub observed-taught : Taught (schemaOf s) (stepsOfBook form s) (observedOf form s)
+  observed-taught = rw observed-book (observed-right form s n good)
+
+  -- and its sets are those of the transitions.
+  pub observed-seen : Seen (schemaOf s) (transitionsOf form s) (observedOf form s .masks)
+  unfolding transitionsOf
+  observed-seen = rw observed-book (seen-observed (schemaOf s) (moves-few form s n good) (stepsOfBook form s) (recorded-faithful form s n good))
+
+  -- After each record it is small.
+  small : (k : ℕ) → k ≤ sectionsOf s .records .count → Small (heldAfter form k s)
+  unfolding nothingSeen
+  small k l =
+      let (fs, gs, e, held) = held-book k l in
+      let all : (f : RecordedStep) → Mem f fs → Mem f (stepsOfBook form s) = λ f m. rw e (mem-left gs m) in
+      let seen = seen-observed (schemaOf s) (moves-few form s n good) fs (λ f m. recorded-faithful form s n good f (all f m)) in
+      let near = named-within maxLength fs (λ f m. step-placed f (all f m)) (nothingSeen (schemaOf s)) (omega arith) in
+      rw held (small-by (observeAll fs (nothingSeen (schemaOf s))) (seen .sized) (seen .bytes) (omega arith))
+
+  rows : learnable form s ≡ (lookOver form s >>= λ total. heldRows (sectionsPart s) (observedOf form s) >>= λ _. Good total)
+  unfolding learnable heldRows transitionsOf
+  rows =
+      let taught = observed-taught in
+      let row12 : conflictAmong (observedOf form s .masks) (schemaOf (sectionsPart s) .moves) ≡ conflictingMove (schemaOf s) (transitionsOf form s) =
+      rw (moves-alone s _ (sections-passed .1)) (taught .row12) in
+      bind-cong (lookOver form s) _ _
+      (λ total.
+      ap₂ (λ (a b : Answer). a >>= λ _. b >>= λ _. Good total) (sym (taught .row11)) (sym row12) ∙ sym (bind-assoc (unboundAnswer (observedOf form s .named)) _ _))
+
+  sheet : ruleSheet form s ≡ heldSheet (sectionsPart s) (observedOf form s)
+  unfolding ruleSheet heldSheet learnedFrom transitionsOf
+  sheet = rw (moves-alone s _ (sections-passed .1)) (sym (observed-taught .sheet))
+
+-- The records are walked once, what is held is small, and sheet, row 11 and row 12 come of the sections and what is held at the end.
+pub learns-in-one-walk : LearnsInOneWalk
+unfolding heldAfter
+learns-in-one-walk form s n good =
+    record {
+      parts = parts-joined form s n (look-over-good form s n good);
+      first = held-none form s _ _;
+      next = λ k l. held-next form (sectionsOf s) s _ _ _ (look-over-good form s n good .records) k l _;
+      small = small form s n good;
+      rows = rows form s n good;
+      sheet = sheet form s n good;
+    }
+
+-- What is held after a record is a function of what was held before it, its bytes and its offset.
+pub same-record-same-held : SameRecordSameHeld
+same-record-same-held form s t m n k j good good′ l l′ at bytes held =
+    learns-in-one-walk form s m good .next k l
+    ∙ ap (observedAfter form (recordPart s (recordOffset s k)) (recordOffset s k)) held
+    ∙ ap₂ (λ (r : List ℕ) (a : ℕ). observedAfter form r a (heldAfter form j t)) bytes at
+    ∙ sym (learns-in-one-walk form t n good′ .next j l′)

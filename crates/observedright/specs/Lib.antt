@@ -1,0 +1,2 @@
+-- Learning in one walk, as statements.
+pub mod OneWalk
