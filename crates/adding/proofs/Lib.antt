@@ -1,6 +1,6 @@
 -- The proofs of the code, and laws: Formed and Returns for this crate's functions; NewBook and Kept for what the new book keeps;
 -- Front and OneRecord for looking over the record alone, which has the theorem of specs/OneRecord.antt; ReadBack, which has those of
--- specs/ReadBack.antt; Bounds for callers; Cases by computation.
+-- specs/ReadBack.antt; Bounds for callers.
 pub mod Formed
 pub mod NewBook
 pub mod Kept
@@ -9,4 +9,3 @@ pub mod OneRecord
 pub mod Returns
 pub mod ReadBack
 pub mod Bounds
-pub mod Cases

@@ -7,7 +7,3 @@ pub mod Add
 pub mod Convert
 pub mod Judge
 pub mod Listing
-pub mod Marked
-pub mod Further
-pub mod Shorts
-pub mod Cases

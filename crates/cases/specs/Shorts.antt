@@ -5,12 +5,12 @@ use lib.ListN.{replicate}
 use Rattle.limits.specs.Limits.{ruleSize, endSheetSize}
 use Rattle.format.specs.Form.{full, short}
 use Rattle.format.specs.LookOver.{lookOver}
 use Rattle.jobs.specs.Learn.{learn, learnBytes}
 use Rattle.jobs.specs.Check.{check}
 use Rattle.jobs.specs.Add.{add}
 use Rattle.jobs.specs.Convert.{convert, convertBytes}
-use Rattle.jobs.specs.Marked.{book, rollsOf, Case, said, saidAt, pairs}
-use Rattle.jobs.specs.Further.{rules, lentRules}
+use Rattle.cases.specs.Marked.{book, rollsOf, Case, said, saidAt, pairs}
+use Rattle.cases.specs.Further.{rules, lentRules}
 
 -- the small hall as a short book: the step turns four facts, the bank at 2 and at 3, spots 2 and 3 clear
 abbrev pub shortBook : List ℕ

@@ -5,10 +5,10 @@ use lib.ListN.{length, take, drop, replicate}
 use Rattle.limits.specs.Limits.{ruleSize, endSheetSize}
 use Rattle.format.specs.Form.{full}
 use Rattle.format.specs.LookOver.{lookOver}
 use Rattle.jobs.specs.Learn.{learn, learnBytes}
 use Rattle.jobs.specs.Check.{check, checkBytes}
 use Rattle.jobs.specs.Listing.{rulesPrinted}
-use Rattle.jobs.specs.Marked.{book, rollsOf, printed, Case, said, saidAt, lent}
+use Rattle.cases.specs.Marked.{book, rollsOf, printed, Case, said, saidAt, lent}
 
 -- The small hall with parents between header and relations: the count of kinds, the parents, the kind that the roll's first parameter names,
 -- and the kind of the object that the record rolls. Kind 3 is a wagon.

@@ -35,7 +35,7 @@ use Rattle.format.proofs.Records.{head-limits, record-good, record-within}
 use Rattle.format.proofs.Reading.{Copied, part-copied, byte-copied, head-copied}
 use Rattle.format.proofs.Copies.{record-copied}
 use Rattle.format.proofs.LookOver.{look-over-in}
-use Rattle.jobs.specs.Marked.{said, longHeader, longSections, longRecord, copies, long}
+use Rattle.cases.specs.Marked.{said, longHeader, longSections, longRecord, copies, long}
 
 -- ---- row 1
 
