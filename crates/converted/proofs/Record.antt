@@ -9,6 +9,7 @@ use borrow.Author.Tests.{le-ltb}
 use lib.ListN.{length, length-append}
 use Rattle.truth.specs.Bools.{neither}
 use Rattle.answer.specs.declared.Answer.the-variants.{Good}
+use Rattle.answer.specs.Laws.{refuse-unmet}
 use Rattle.answer.specs.Walk.{walk}
 use Rattle.answer.specs.Entries.{entries-right, entries-all}
 use Rattle.input.specs.Bytes.{byteAt}
@@ -22,7 +23,7 @@ use Rattle.terms.proofs.Agree.{SameObjects, fact-over}
 use Rattle.format.specs.Lists.{listAt, listEnd}
 use Rattle.format.specs.Form.{Form}
 use Rattle.format.specs.States.{cut, state}
-use Rattle.format.specs.Records.{objectsIn, stepsIn, lengthIn, headBad, object, steps, objectsOf, recordAt}
+use Rattle.format.specs.Records.{objectsIn, stepsIn, lengthIn, headBad, recordHead, object, steps, objectsOf, recordAt}
 use Rattle.format.specs.Decode.{firstAt, recordedStepsAt, stepsOfRecord}
 use Rattle.format.proofs.States.{list-ends}
 use Rattle.format.proofs.Records.{RecordGood, head-objects, head-limits, object-entry, record-good, record-in}
@@ -139,14 +140,15 @@ module _ (form to : Form) (h k : Sections) (s t : List ℕ) (at next at′ : ℕ
       rw (a, object-byte i m, le-ltb end′ (at′ + headSize + i + 1) (omega arith)) (rw b at right))
       ∙ ap Good (omega arith)
 
-  head-in : headBad t at′ ≡ false
-  unfolding headBad cut
+  head-in : recordHead t at′ ≡ Good (at′ + lengthIn t at′)
+  unfolding recordHead headBad cut
   head-in =
       let (x, y, z) = head-read form to s t at at′ small stands in
       let w = stands .within in
       let n = length-recordIn form to s at in
-      rw (x, y, z, le-ltb (length t) (at′ + headSize) (omega arith), le-ltb (length t) (at′ + length (recordIn form to s at)) (omega arith))
-      (rw (le-ltb maxObjects (objectsIn s at) (head-objects s at (was .head)), le-ltb maxSteps (stepsIn s at) (head-limits s at (was .head) .0), le-ltb (length (recordIn form to s at)) headSize (omega arith)))
+      refuse-unmet _ _ _ _
+      (rw (x, y, z, le-ltb (length t) (at′ + headSize) (omega arith), le-ltb (length t) (at′ + length (recordIn form to s at)) (omega arith))
+      (rw (le-ltb maxObjects (objectsIn s at) (head-objects s at (was .head)), le-ltb maxSteps (stepsIn s at) (head-limits s at (was .head) .0), le-ltb (length (recordIn form to s at)) headSize (omega arith))))
 
   module _ (kinds : h .kinds ≡ k .kinds) (same : SameSchema (schema h s) (schema k t)) (fall : Falling (schema h s)) where
     start-in : at′ + length (recordIn form to s at) ≤ at′ + lengthIn t at′

@@ -25,7 +25,7 @@ use Rattle.terms.proofs.Agree.{SameObjects, fact-over, step-over}
 use Rattle.limits.specs.Limits.{headSize, countSize, factSize, stepSize, maxFacts, maxObjects, maxSteps}
 use Rattle.format.specs.Form.{Form, mostListed, stateAfter}
 use Rattle.format.specs.States.{cut, countBad, factRefused, facts, list, nextState}
-use Rattle.format.specs.Records.{objectsIn, stepsIn, lengthIn, headBad, object, step, steps, objectsOf, recordAt, stepRefused}
+use Rattle.format.specs.Records.{objectsIn, stepsIn, lengthIn, headBad, recordHead, object, step, steps, objectsOf, recordAt, stepRefused}
 use Rattle.format.specs.LookOver.{stepTotal}
 use Rattle.format.specs.Lists.{listAt, listEnd}
 use Rattle.format.specs.Decode.{RecordedStep, firstAt, recordedStep, recordedStepsAt, stepsOfRecord, stepsOfRecords}
@@ -128,14 +128,15 @@ module _ {s t : List ℕ} {at at′ size : ℕ} (c : Copied s at t at′ size) w
       rw (byte-copied c (a + 1 * i) (b + 1 * i) (facing-on f (1 * i)) (omega arith), le-ltb end′ (b + 1 * i + 1) (omega arith)) right)
       ∙ ap Good (omega arith)
 
-  head-beside : (a b : ℕ) → Facing at at′ a b → a + lengthIn s a ≤ at + size → headBad s a ≡ false → headBad t b ≡ false
-  unfolding headBad cut
+  head-beside : (a b : ℕ) → Facing at at′ a b → a + lengthIn s a ≤ at + size → {end : ℕ} → recordHead s a ≡ Good end → recordHead t b ≡ Good (b + lengthIn t b)
+  unfolding recordHead headBad cut
   head-beside a b f l e =
       let within = c .within in
       let (few, long, reach) = head-limits s a e in
       let (x, y, z) = head-copied c a b f (omega arith) in
-      rw (x, y, z, le-ltb (length t) (b + headSize) (omega arith), le-ltb (length t) (b + lengthIn s a) (omega arith))
-      (rw (le-ltb maxObjects (objectsIn s a) (head-objects s a e), le-ltb maxSteps (stepsIn s a) few, le-ltb (lengthIn s a) headSize long))
+      refuse-unmet _ _ _ _
+      (rw (x, y, z, le-ltb (length t) (b + headSize) (omega arith), le-ltb (length t) (b + lengthIn s a) (omega arith))
+      (rw (le-ltb maxObjects (objectsIn s a) (head-objects s a e), le-ltb maxSteps (stepsIn s a) few, le-ltb (lengthIn s a) headSize long)))
 
   typed-beside : (kinds a b : ℕ) → Facing at at′ a b → a + headSize + objectsIn s a ≤ at + size → objectsIn t b ≡ objectsIn s a
       → (end last : ℕ) → walk (object kinds s end) (objectsIn s a) (a + headSize) ≡ Good last

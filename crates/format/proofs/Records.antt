@@ -20,19 +20,24 @@ use Rattle.terms.specs.Steps.{stepAt, stepBad, repeats}
 use Rattle.limits.specs.Limits.{headSize, maxObjects, maxSteps, maxFacts, stepSize}
 use Rattle.format.specs.Form.{Form, stateAfter}
 use Rattle.format.specs.States.{cut, state, nextState}
-use Rattle.format.specs.Records.{objectsIn, stepsIn, lengthIn, headBad, object, step, steps, objectsOf, trajectory, body, recordAt, stepRefused, closed}
+use Rattle.format.specs.Records.{objectsIn, stepsIn, lengthIn, headBad, recordHead, object, step, steps, objectsOf, trajectory, body, recordAt, stepRefused, closed}
 use Rattle.format.specs.Lists.{listAt, listEnd}
 use Rattle.format.specs.Decode.{firstAt}
 use Rattle.format.proofs.States.{list-ends, next-ends}
 
-module _ (s : List ℕ) (at : ℕ) (good : headBad s at ≡ false) where
+module _ (s : List ℕ) (at : ℕ) {end : ℕ} (good : recordHead s at ≡ Good end) where
   -- a head that is not refused
   head-good : (objectsIn s at ≤ maxObjects) × (stepsIn s at ≤ maxSteps) × (headSize ≤ lengthIn s at) × (at + lengthIn s at ≤ length s)
-  unfolding headBad cut
+  unfolding recordHead headBad cut
   head-good =
-      let p = neither _ _ good in
+      let p = neither _ _ (passed _ 6 at end _ good .0) in
       let w = none-over (at + headSize) (objectsIn s at) (stepsIn s at) headSize (length s) maxObjects maxSteps (lengthIn s at) (p .0) in
       (w .1, w .2, w .3, ltb-false _ _ (p .1))
+
+  -- it says where its record ends
+  pub head-end : end ≡ at + lengthIn s at
+  unfolding recordHead
+  head-end = let p = passed _ 6 at end _ good .1 in cc
 
   pub head-objects : objectsIn s at ≤ maxObjects
   head-objects = head-good .0
@@ -98,7 +103,7 @@ module _ (form : Form) (sch : Schema) (ob : TypedObjects) (s : List ℕ) (end : 
 -- a good record: its first state ends where its steps begin, and these at `last`, after which it has no bytes
 pub record RecordGood (form : Form) (h : Sections) (s : List ℕ) (at next : ℕ) : Type 0 where
   pub last : ℕ
-  pub head : headBad s at ≡ false
+  pub head : recordHead s at ≡ Good (at + lengthIn s at)
   pub objects : walk (object (h .kinds) s (at + lengthIn s at)) (objectsIn s at) (at + headSize) ≡ Good (firstAt s at)
   pub start : state 8 (schema h s) (typedObjects (objectsOf s at) s) s (at + lengthIn s at) (firstAt s at) ≡ Good (listEnd s (firstAt s at))
   pub steps : steps form (schema h s) (typedObjects (objectsOf s at) s) s (at + lengthIn s at) (stepsIn s at) (listAt s (firstAt s at)) (listEnd s (firstAt s at)) ≡ Good last
@@ -109,14 +114,16 @@ pub record-in : (form : Form) (h : Sections) (s : List ℕ) (at next : ℕ) → 
 unfolding recordAt body closed trajectory
 record-in form h s at next g =
     rw (g .end)
-    (refuse-unmet _ _ _ _ (g .head) ∙ bind-good _ _ _ (g .objects) ∙ bind-good _ _ _ (bind-good _ _ _ (g .start) ∙ g .steps) ∙ refuse-unmet _ _ _ _ (g .full))
+    (bind-good _ _ _ (g .head) ∙ bind-good _ _ _ (g .objects) ∙ bind-good _ _ _ (bind-good _ _ _ (g .start) ∙ g .steps) ∙ refuse-unmet _ _ _ _ (g .full))
 
 module _ (form : Form) (h : Sections) (s : List ℕ) (at next : ℕ) (good : recordAt form h s at ≡ Good next) where
   pub record-good : RecordGood form h s at next
   unfolding recordAt body closed trajectory
   record-good =
       let end : ℕ = at + lengthIn s at in
-      let (head, whole) = passed _ 6 at next _ good in
+      let (reach, head, rest) = parted (recordHead s at) next _ good in
+      let place′ = head-end s at head in
+      let whole : body form h s at end ≡ Good next = subst (λ (x : ℕ). body form h s at x ≡ Good next) place′ rest in
       let (first, objects, behind) = parted (walk (object (h .kinds) s end) (objectsIn s at) (at + headSize)) next _ whole in
       let (last, way, tail) = parted (trajectory form (schema h s) (typedObjects (objectsOf s at) s) s end (stepsIn s at) first) next _ behind in
       let place = objects-end (h .kinds) s end (objectsIn s at) (at + headSize) first objects in
@@ -126,7 +133,7 @@ module _ (form : Form) (h : Sections) (s : List ℕ) (at next : ℕ) (good : rec
       let (full, same) = passed _ 6 at next _ tail in
       record {
         last = last;
-        head = head;
+        head = head ∙ ap Good place′;
         objects = objects ∙ ap Good place;
         start = start ∙ ap Good ends;
         steps = subst (λ (x : ℕ). steps form (schema h s) (typedObjects (objectsOf s at) s) s end (stepsIn s at) (listAt s (firstAt s at)) x ≡ Good last) ends behind′;

@@ -37,6 +37,12 @@ headBad s at =
     || ltb (lengthIn s at) headSize
     || cut (length s) at (lengthIn s at)
 
+-- the rows of a record's head: where the record ends
+unfoldable pub recordHead : List ℕ → ℕ → Answer
+recordHead s at = do
+  _ ← refuse (headBad s at) 6 at
+  Good (at + lengthIn s at)
+
 -- row 7
 unfoldable pub object : ℕ → List ℕ → ℕ → ℕ → Answer
 object kinds s end at = do
@@ -87,5 +93,5 @@ body form h s at end = do
 -- one record: where the next one starts
 unfoldable pub recordAt : Form → Sections → List ℕ → ℕ → Answer
 recordAt form h s at = do
-  _ ← refuse (headBad s at) 6 at
-  body form h s at (at + lengthIn s at)
+  end ← recordHead s at
+  body form h s at end

@@ -256,8 +256,12 @@ pub fn observe_record(
     ensures { λ r. ⌜ RecordObserved short h (now (s .entry)) at (record { masks = now (observed .entry); named = named }) (now (observed .exit)) r ⌝ }
 {
     let head = Head::read(s, at);
-    if records::head_bad(s, head, at) {
-        return refused(6, at);
+    let end = records::record_head(s, head, at);
+    if answer::is_refused(end) {
+        return Walked {
+            answer: end,
+            named: 0,
+        };
     }
     observe_body(
         s,
@@ -265,7 +269,7 @@ pub fn observe_record(
         h,
         head,
         at,
-        at + head.length as usize,
+        answer::value_of(end),
         observed,
         named,
     )

@@ -7,7 +7,7 @@ use native.Mathlib.Omega.{arith}
 use borrow.Author.Tests.{ltb-false}
 use Rattle.answer.specs.declared.Answer.the-variants.{Good}
 use Rattle.truth.specs.Bools.{neither}
-use Rattle.answer.specs.Laws.{parted}
+use Rattle.answer.specs.Laws.{parted, refuse-unmet}
 use Rattle.answer.specs.Walk.{walk}
 use Rattle.terms.specs.declared.Fact.{Fact}
 use Rattle.terms.specs.declared.Sections.{Sections}
@@ -16,11 +16,11 @@ use Rattle.limits.specs.Limits.{headSize, stepSize, maxSteps, maxFacts}
 use Rattle.format.specs.Lists.{listAt}
 use Rattle.format.specs.Form.{Form, stateAfter}
 use Rattle.format.specs.States.{cut}
-use Rattle.format.specs.Records.{lengthIn, object, step, steps, trajectory, body, recordAt, stepRefused, closed}
+use Rattle.format.specs.Records.{recordHead, object, step, steps, trajectory, body, recordAt, stepRefused, closed}
 use Rattle.format.specs.LookOver.{stepTotal}
 use Rattle.answer.specs.Bounds.{Bounded, bounded-good, bounded-then, bounded-row, bounded-walk, bounded-wider}
 use Rattle.format.proofs.States.{list-bounded, next-bounded}
-use Rattle.format.proofs.Records.{head-limits, record-within, record-steps}
+use Rattle.format.proofs.Records.{head-limits, head-end, record-within, record-steps}
 
 object-bounded : (kinds : ℕ) (s : List ℕ) (end at : ℕ) → at ≤ end → Bounded end (object kinds s end at)
 unfolding object cut
@@ -48,6 +48,11 @@ module _ (form : Form) (sch : Schema) (ob : TypedObjects) (s : List ℕ) (end : 
       bounded-then end _ _ (list-bounded maxFacts 8 sch ob s end (omega arith) at h)
       (λ next e i. steps-bounded n (listAt s at) next i)
 
+head-bounded : (s : List ℕ) (at : ℕ) → at ≤ length s → Bounded (length s) (recordHead s at)
+unfolding recordHead
+head-bounded s at l =
+    bounded-row (length s) _ _ _ _ (omega arith) l (λ e. bounded-good (length s) _ (head-limits s at (refuse-unmet _ _ _ _ e) .2))
+
 module _ (form : Form) (h : Sections) (s : List ℕ) where
   body-bounded : (at end : ℕ) → at + headSize ≤ end → Bounded end (body form h s at end)
   unfolding body closed
@@ -60,10 +65,11 @@ module _ (form : Form) (h : Sections) (s : List ℕ) where
   pub record-bounded : (at : ℕ) → at ≤ length s → Bounded (length s) (recordAt form h s at)
   unfolding recordAt
   record-bounded at l =
-      bounded-row (length s) _ _ _ _ (omega arith) l
-      (λ e.
+      bounded-then (length s) _ _ (head-bounded s at l)
+      (λ end e i.
       let w = head-limits s at e in
-      bounded-wider _ (length s) _ (w .2) (body-bounded at (at + lengthIn s at) (omega arith)))
+      let p = head-end s at e in
+      bounded-wider _ (length s) _ i (body-bounded at end (omega arith)))
 
   pub records-bounded : (n at : ℕ) → at ≤ length s → Bounded (length s) (walk (recordAt form h s) n at)
   records-bounded n at l = bounded-walk (length s) _ record-bounded n at l

@@ -18,7 +18,7 @@ use Rattle.terms.specs.Schema.{schema, typedObjects}
 use Rattle.limits.specs.Limits.{maxLength, maxObjects, maxRelations, headSize}
 use Rattle.tables.specs.Tables.{RightByKind, RightByPlace}
 use Rattle.format.specs.Form.{Form}
-use Rattle.format.specs.Records.{stepsIn, lengthIn, headBad, object, objectsOf, trajectory, body, recordAt, closed}
+use Rattle.format.specs.Records.{stepsIn, lengthIn, headBad, recordHead, object, objectsOf, trajectory, body, recordAt, closed}
 use Rattle.format.specs.LookOver.{stepTotal, allRecords}
 use Rattle.answer.specs.Turns.{part-stays, part-follows}
 use Rattle.records.specs.declared.Head.{Head}
@@ -80,19 +80,31 @@ module _ (at end : ℕ) (a : Answer) (b : Bool) where
   unfolding closed
   closed-good v q r u l = sym (sym (part-follows a _ a b v refl q r u) ∙ refuse-unmet _ _ _ _ (le-ltb _ _ l))
 
-module _ (form : Form) (h : Sections) (s : List ℕ) where
-  pub record-refused : (at : ℕ) (b : Bool) → b ≡ headBad s at → b ≡ true → Refused 6 at ≡ recordAt form h s at
-  unfolding recordAt
-  record-refused at b p e = sym (refuse-met _ _ _ _ (sym p ∙ e))
+-- a head
+module _ (s : List ℕ) (at : ℕ) (b : Bool) (is : b ≡ headBad s at) where
+  pub head-refused : b ≡ true → Refused 6 at ≡ recordHead s at
+  unfolding recordHead
+  head-refused e = sym (refuse-met _ _ _ _ (sym is ∙ e))
 
-  pub record-body : (at : ℕ) (head : Head) (b : Bool) (r : Answer)
-      → head ≡ headOf s at
-      → b ≡ headBad s at
+  pub head-right : (head : Head) → head ≡ headOf s at → b ≡ false → Good (at + head .length) ≡ recordHead s at
+  unfolding recordHead headOf
+  head-right head q e = rw q (sym (refuse-unmet _ _ _ _ (sym is ∙ e)))
+
+-- a record, by its head
+module _ (form : Form) (h : Sections) (s : List ℕ) where
+  pub record-stays : (at : ℕ) (a : Answer) (b : Bool) → a ≡ recordHead s at → b ≡ isRefused a → b ≡ true → a ≡ recordAt form h s at
+  unfolding recordAt
+  record-stays at a b p q r = part-stays _ _ a b p q r
+
+  pub record-body : (at v : ℕ) (a : Answer) (b : Bool) (r : Answer)
+      → a ≡ recordHead s at
+      → b ≡ isRefused a
       → b ≡ false
-      → r ≡ body form h s at (at + head .length)
+      → v ≡ valueOf a
+      → r ≡ body form h s at v
       → r ≡ recordAt form h s at
-  unfolding recordAt headOf
-  record-body at head b r q p e u = u ∙ rw q (sym (refuse-unmet _ _ _ _ (sym p ∙ e)))
+  unfolding recordAt
+  record-body at v a b r p q e u w = w ∙ part-follows _ (body form h s at) a b v p q e u
 
   -- the records of a book, by what a loop over them has in hand
   pub all-refused : (n from k p : ℕ) → Refused k p ≡ walk (recordAt form h s) n from → Refused k p ≡ allRecords form h s n from

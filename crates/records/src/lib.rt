@@ -14,7 +14,7 @@ ghost use Rattle.limits.specs.Limits.{maxLength, maxObjects, maxRelations, maxT
 ghost use Rattle.format.specs.Lists.{listAt};
 ghost use Rattle.format.specs.Form.{mostListed};
 ghost use Rattle.format.specs.States.{state};
-ghost use Rattle.format.specs.Records.{headBad, object, stepRefused, steps, trajectory, closed, body, recordAt};
+ghost use Rattle.format.specs.Records.{headBad, recordHead, object, stepRefused, steps, trajectory, closed, body, recordAt};
 ghost use Rattle.answer.specs.declared.Answer.the-variants.{Good};
 ghost use Rattle.tables.specs.Tables.{ForRightByKind};
 ghost use Rattle.records.specs.Head.{headOf};
@@ -41,7 +41,7 @@ impl Head {
 }
 
 // Row 6, of a head.
-pub fn head_bad(s: &[u8], head: Head, at: usize) -> bool
+fn head_bad(s: &[u8], head: Head, at: usize) -> bool
     requires { ⌜ (at ≤ maxLength) × (head ≡ headOf (now s) at) ⌝ }
     ensures { λ r. ⌜ r ≡ headBad (now (s .entry)) at ⌝ }
 {
@@ -51,6 +51,17 @@ pub fn head_bad(s: &[u8], head: Head, at: usize) -> bool
         | (limits::MAX_STEPS < head.steps)
         | (size < limits::HEAD_SIZE)
         | (s.len() < at + size)
+}
+
+// The rows of a record's head: where the record ends.
+pub fn record_head(s: &[u8], head: Head, at: usize) -> Answer
+    requires { ⌜ (at ≤ maxLength) × (head ≡ headOf (now s) at) ⌝ }
+    ensures { λ r. ⌜ r ≡ recordHead (now (s .entry)) at ⌝ }
+{
+    if head_bad(s, head, at) {
+        return Answer::Refused(6, at);
+    }
+    Answer::Good(at + head.length as usize)
 }
 
 // Row 7, for a number of objects.
@@ -236,8 +247,9 @@ pub fn record_at(s: &[u8], short: bool, h: Sections, at: usize) -> Answer
     ensures { λ r. ⌜ r ≡ recordAt short h (now (s .entry)) at ⌝ }
 {
     let head = Head::read(s, at);
-    if head_bad(s, head, at) {
-        return Answer::Refused(6, at);
+    let end = record_head(s, head, at);
+    if answer::is_refused(end) {
+        return end;
     }
-    body(s, short, h, head, at, at + head.length as usize)
+    body(s, short, h, head, at, answer::value_of(end))
 }
