@@ -56,12 +56,13 @@
  *   bits 32 to 47   by 19 and 20 the position of the start, from 1; else 0
  *   bits  0 to 31   place
  * A refusal leaves all lent memory as it was. The rows are tested in the order of
- * the table, in which 21 stands after 3, 23 before 13 and 22 between the two of
- * 14, each thing of a row in file order; "rows 1 to 10" are those from 1 to 10 in
- * it, 21 among them. But 6 to 10 as they come up in the records: a record's head,
- * objects, state, step (9, then 10), state and so on, its tail, then the next
- * record. And 19 and 20 for one start after the other: 19, 20, then the next
- * start. The answer is the first that is met.
+ * the table, in which 21 stands after 3, 24 after the first 6, 23 before 13 and 22
+ * between the two of 14, each thing of a row in file order; "rows 1 to 10" are
+ * those from 1 to 10 in it, 21 and 24 among them. But 6 to 10 as they come up in
+ * the records: a record's head (6, then 24), objects, state, step (9, then 10),
+ * state and so on, its tail, then the next record. And 19 and 20 for one start
+ * after the other: 19, 20, then the next start. The answer is the first that is
+ * met.
  *
  *   No.  met when                                          place
  *    0   success                                           see each call
@@ -74,6 +75,7 @@
  *    5   move: likewise                                    its offset
  *    6   record head cut, over a limit, length under 4 or  the record's offset
  *        past the end
+ *   24   record: its step count is 0                       the record's offset
  *    7   object cut, or no such kind                       its offset
  *    8   state: count cut or over 256 (facts that turn:    offset of the count
  *        over 512); fact cut, wrong or out of order        or the fact
@@ -122,13 +124,13 @@
  * of refusals, and books that were refused before; what was not refused has the
  * same answer, what was refused may have another number.
  * Another major version may change the parameters of a call, the bytes of
- * books, orders and sheets and what the bits of an answer mean; the shared
- * library's soname has its number.
+ * books, orders and sheets, which of them are good, and what the bits of an
+ * answer mean; the shared library's soname has its number.
  */
-#define CHANGEOVER_VERSION_MAJOR 3
+#define CHANGEOVER_VERSION_MAJOR 4
 #define CHANGEOVER_VERSION_MINOR 0
 #define CHANGEOVER_VERSION_PATCH 0
-#define CHANGEOVER_VERSION_STRING "3.0.0"
+#define CHANGEOVER_VERSION_STRING "4.0.0"
 /* One number that grows with the version, for #if. */
 #define CHANGEOVER_VERSION                                                    \
     (CHANGEOVER_VERSION_MAJOR * 1000000 + CHANGEOVER_VERSION_MINOR * 1000 +   \
@@ -171,7 +173,8 @@ enum changeover_numbers {
     CHANGEOVER_GOAL_MISSED = 20,
     CHANGEOVER_PARENT = 21,
     CHANGEOVER_START_COUNT = 22,
-    CHANGEOVER_CONVERTED_LENGTH = 23
+    CHANGEOVER_CONVERTED_LENGTH = 23,
+    CHANGEOVER_NO_STEPS = 24
 };
 
 /* What a call is told of its book; any number but 0 says that it is short. */
@@ -242,11 +245,12 @@ uint64_t changeover_check(const uint8_t *book, size_t book_len, uint32_t form,
  * Adds a record, which is in the book's form: the old book is looked over (rows 1
  * to 10), then the old book with the record's bytes behind it, record count and
  * end renewed; the places of the second looking over are in the new book. A new
- * length over 60,000 is 1, a 65th record 2. Then 13 if the output is shorter
- * than the new length, which is book_len + record_len. On success the new book
- * is written to the front of the output, the bytes beyond it stay, and the
- * place is the new length. The old book is not changed. Whether the new book
- * learns (11, 12) is left to changeover_learn.
+ * length over 60,000 is 1, a 65th record 2, and a record without steps is 24 at
+ * book_len. Then 13 if the output is shorter than the new length, which is
+ * book_len + record_len. On success the new book is written to the front of the
+ * output, the bytes beyond it stay, and the place is the new length. The old book
+ * is not changed. Whether the new book learns (11, 12) is left to
+ * changeover_learn.
  */
 uint64_t changeover_add(const uint8_t *book, size_t book_len, uint32_t form,
                         const uint8_t *record, size_t record_len, uint8_t *out, size_t out_len);
@@ -340,6 +344,8 @@ static inline const char *changeover_words(enum changeover_numbers number)
         return "order header: no start, or over 16 of them";
     case CHANGEOVER_CONVERTED_LENGTH:
         return "the converted book would pass 60,000 bytes";
+    case CHANGEOVER_NO_STEPS:
+        return "record without steps";
     }
     return "no such number";
 }

@@ -10,7 +10,8 @@ pub struct Answer {
 }
 
 /// The rows of the paper's table, by number. 21 stands between 3 and 4, 22 between
-/// the counts and the offsets of 14, 23 directly before 13.
+/// the counts and the offsets of 14, 23 directly before 13, 24 between 6 of a record's
+/// head and 7.
 #[derive(Clone, Copy, Debug, PartialEq, Eq, PartialOrd, Ord, Hash)]
 #[repr(u32)]
 pub enum Refusal {
@@ -37,6 +38,7 @@ pub enum Refusal {
     Parent = 21,
     StartCount = 22,
     ConvertedLength = 23,
+    NoSteps = 24,
 }
 
 impl Refusal {

@@ -29,7 +29,7 @@ pub struct ActionModel {
 }
 
 impl ActionModel {
-    /// Rows 1 to 12 and 21.
+    /// Rows 1 to 12, 21 and 24.
     pub fn learn(book: &[u8], form: Form) -> Result<Self, Answer> {
         let mut trajectories = Trajectories::new();
         let front = form::walk(book, form, &mut trajectories)?;
@@ -45,7 +45,7 @@ impl ActionModel {
     }
 }
 
-/// Rows 1 to 13 and 21; on success the sheet is written and the place is the
+/// Rows 1 to 13, 21 and 24; on success the sheet is written and the place is the
 /// step total.
 pub fn learn(book: &[u8], form: Form, sheet: &mut [u8]) -> Answer {
     let model = match ActionModel::learn(book, form) {

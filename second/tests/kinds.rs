@@ -89,8 +89,8 @@ fn row_11_by_a_parameter_too_wide() {
 /// Facts and steps by a bank and by a wagon where the wagon is named.
 #[test]
 fn a_place_that_names_the_lower_kind() {
-    let state = |kind: u8| with_record(&format!("01000 00A {kind:02x} 0001 030100"));
-    assert_eq!(form::look_over(&state(3), Form::Full), Answer::success(0));
+    let state = |kind: u8| with_record(&format!("01010011 {kind:02x} 0001 030100 0201000000 0000"));
+    assert_eq!(form::look_over(&state(3), Form::Full), Answer::success(1));
     assert_eq!(form::look_over(&state(1), Form::Full), Refusal::State.at(43 + 5 + 2));
     let step = |kind: u8| with_record(&format!("0101000E {kind:02x} 0000 0201000000 0000"));
     assert_eq!(form::look_over(&step(3), Form::Full), Answer::success(1));
@@ -228,7 +228,7 @@ fn adding_to_a_book_with_parents() {
     let mut expected = [old.clone(), hex(WAGON_ROLLS)].concat();
     (expected[7], expected[15]) = (2, 99);
     assert_eq!(new, expected);
-    let bank_loaded = hex("0100000A 01 0001 030100");
+    let bank_loaded = hex("01010011 01 0001 030100 0201000000 0000");
     assert_eq!(add::add(&old, Form::Full, &bank_loaded, &mut new), Refusal::State.at(71 + 7));
     assert_eq!(new, expected, "a refusal leaves lent memory untouched");
     let mut wrong = old;

@@ -141,19 +141,22 @@ fn limits_of_length() {
 #[test]
 fn limits_of_facts() {
     for facts in [256, 257] {
-        // Two relations of two places over 16 objects, one record of one state.
-        let mut book = hex("0001 0002 0000 0001 0010 0018 0018 0000 02010100 02010100");
-        book.extend([16, 0]);
-        book.extend((4 + 16 + 2 + 3 * facts as u16).to_be_bytes());
+        // Two relations of two places over 16 objects, one record of one step, after
+        // which nothing holds.
+        let mut book =
+            hex("0001 0002 0001 0001 0010 0018 001E 0000 02010100 02010100 000000000000");
+        book.extend([16, 1]);
+        book.extend((4 + 16 + 2 + 3 * facts as u16 + 7).to_be_bytes());
         book.extend([1; 16]);
         let count_at = book.len();
         book.extend((facts as u16).to_be_bytes());
         for n in 0..facts {
             book.extend([1 + (n / 256) as u8, (n / 16 % 16) as u8 + 1, (n % 16) as u8 + 1]);
         }
+        book.extend(hex("0100000000 0000"));
         let end = (book.len() as u16).to_be_bytes();
         book[14..16].copy_from_slice(&end);
-        let answer = if facts == 256 { Answer::success(0) } else { Refusal::State.at(count_at) };
+        let answer = if facts == 256 { Answer::success(1) } else { Refusal::State.at(count_at) };
         assert_eq!(form::look_over(&book, Form::Full), answer);
     }
 }

@@ -21,7 +21,7 @@ fn the_file_is_what_is_printed() {
     let file = concat!(env!("CARGO_MANIFEST_DIR"), "/../tests/vectors/vectors.txt");
     let text = std::fs::read_to_string(file).expect("the file is there");
     assert!(text == print(&ALL), "run `vectors print` and store what it prints");
-    assert!(text.len() < 1_100_000, "{} bytes", text.len());
+    assert!(text.len() < 1_200_000, "{} bytes", text.len());
 }
 
 #[test]
@@ -172,7 +172,7 @@ fn every_row_has_its_mistakes() {
     let here = Path::new(env!("CARGO_MANIFEST_DIR"));
     let mistakes = list::all(&here.join("mistakes")).expect("the list can be read");
     let about = |what: &str| mistakes.iter().any(|mistake| mistake.about.starts_with(what));
-    for row in 1..=23 {
+    for row in 1..=24 {
         assert!(about(&format!("row {row}, condition")), "{row}");
         assert!(about(&format!("row {row}, place")), "{row}");
         assert!(row == 20 || about(&format!("row {row} before row")), "{row}");

@@ -27,9 +27,19 @@ static uint64_t refusal(enum changeover_numbers number, uint32_t place)
 static const uint8_t bare[16] = {0, 0, 0, 0, 0, 0, 0, 0, 0, 16, 0, 16, 0, 16, 0, 16};
 static const uint8_t bare_order[18] = {0, 0, 0, 1, 0, 0, 0, 0, 0, 16, 0, 16, 0, 18, 0, 18, 0, 0};
 
+/*
+ * A move without parameters, and a record of one step of it between two states
+ * without facts. The first 22 bytes are a book by themselves if the record count
+ * and the end say so.
+ */
+static const uint8_t one_step[35] = {
+    0, 0, 0, 0, 0, 1, 0, 1, 0, 16, 0, 16, 0, 22, 0, 35, /* header */
+    0, 0, 0, 0, 0, 0,                                   /* move */
+    0, 1, 0, 13, 0, 0, 1, 0, 0, 0, 0, 0, 0,             /* a record */
+};
+
 static void test_calls(void)
 {
-    static const uint8_t record[6] = {0, 0, 0, 6, 0, 0};
     uint8_t end[CHANGEOVER_END_LEN], out[22];
     const size_t len = sizeof bare;
 
@@ -43,15 +53,32 @@ static void test_calls(void)
     expect(changeover_check(bare, len, CHANGEOVER_FULL, NULL, 0, end, sizeof end) ==
                refusal(CHANGEOVER_ORDER_HEADER, 0),
            "no order");
-    expect(changeover_add(bare, len, CHANGEOVER_FULL, record, sizeof record, out, sizeof out) == 22,
-           "add");
-    expect(out[7] == 1 && out[15] == 22, "record count and end renewed");
     expect(changeover_add(bare, len, CHANGEOVER_FULL, NULL, 0, NULL, 0) ==
                refusal(CHANGEOVER_RECORD, 16),
            "no record");
     expect(changeover_to_short(bare, len, out, sizeof out) == len, "to short");
     expect(changeover_to_full(bare, len, out, sizeof out) == len, "to full");
     expect(memcmp(out, bare, len) == 0, "a book without records converted");
+}
+
+/* A record is added to a book that has none; one without steps is not. */
+static void test_records(void)
+{
+    static const uint8_t without_steps[6] = {0, 0, 0, 6, 0, 0};
+    uint8_t book[22], out[35];
+
+    memcpy(book, one_step, sizeof book);
+    book[7] = 0;
+    book[15] = sizeof book;
+    memset(out, 0xa7, sizeof out);
+    expect(changeover_add(book, sizeof book, CHANGEOVER_FULL, without_steps, sizeof without_steps,
+                          out, sizeof out) == refusal(CHANGEOVER_NO_STEPS, sizeof book),
+           "a record without steps");
+    expect(all_are(out, sizeof out, 0xa7), "a refusal writes nothing");
+    expect(changeover_add(book, sizeof book, CHANGEOVER_FULL, one_step + 22, 13, out,
+                          sizeof out) == sizeof one_step,
+           "add");
+    expect(memcmp(out, one_step, sizeof out) == 0, "record count and end renewed");
 }
 
 /*
@@ -158,18 +185,18 @@ static void test_overlap(void)
 {
     static const uint8_t both[32] = {0, 0, 0, 1, 0, 0, 0, 0, 0, 16, 0, 16, 0, 18, 0, 18,
                                      0, 0, 0, 0, 0, 0, 0, 0, 0, 16, 0, 16, 0, 16, 0, 16};
-    static const uint8_t book[22] = {0, 0, 0, 0, 0, 0, 0, 1, 0, 16, 0,
-                                     16, 0, 16, 0, 22, 0, 0, 0, 6, 0, 0};
-    uint8_t end[CHANGEOVER_END_LEN], out[28];
+    const uint8_t *record = one_step + 22;
+    const size_t len = sizeof one_step;
+    uint8_t end[CHANGEOVER_END_LEN], out[48];
 
     expect(changeover_check(bare, sizeof bare, CHANGEOVER_FULL, bare, sizeof bare, end,
                             sizeof end) == refusal(CHANGEOVER_START_COUNT, 0),
            "a book as its own order");
     expect(changeover_check(both + 16, 16, CHANGEOVER_FULL, both, 18, end, sizeof end) == 0,
            "an order that reaches into the book");
-    expect(changeover_add(book, sizeof book, CHANGEOVER_FULL, book + 16, 6, out, sizeof out) == 28,
+    expect(changeover_add(one_step, len, CHANGEOVER_FULL, record, 13, out, sizeof out) == 48,
            "a record of the book added again");
-    expect(memcmp(out + 16, book + 16, 6) == 0 && memcmp(out + 22, book + 16, 6) == 0,
+    expect(memcmp(out + 22, record, 13) == 0 && memcmp(out + 35, record, 13) == 0,
            "both records");
 }
 
@@ -201,6 +228,7 @@ static void test_impossible_lengths(void)
 int main(void)
 {
     test_calls();
+    test_records();
     test_forms();
     test_converters();
     test_starts();

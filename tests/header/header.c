@@ -27,7 +27,7 @@ static void test_version(void)
     snprintf(parts, sizeof parts, "%d.%d.%d", CHANGEOVER_VERSION_MAJOR, CHANGEOVER_VERSION_MINOR,
              CHANGEOVER_VERSION_PATCH);
     expect(strcmp(parts, CHANGEOVER_VERSION_STRING) == 0, "version as text");
-#if CHANGEOVER_VERSION < 3000000 || CHANGEOVER_VERSION >= 4000000
+#if CHANGEOVER_VERSION < 4000000 || CHANGEOVER_VERSION >= 5000000
     expect(0, "version as a number");
 #endif
 }
@@ -35,10 +35,10 @@ static void test_version(void)
 /* Every number has words of its own, and no other number has any. */
 static void test_words(void)
 {
-    const unsigned last = CHANGEOVER_CONVERTED_LENGTH;
+    const unsigned last = CHANGEOVER_NO_STEPS;
     const char *none = changeover_words((enum changeover_numbers)(last + 1));
 
-    expect(last == 23, "the last number");
+    expect(last == 24, "the last number");
     expect(strcmp(none, "no such number") == 0, "a number beyond the last");
     for (unsigned one = 0; one <= last; one++) {
         const char *words = changeover_words((enum changeover_numbers)one);

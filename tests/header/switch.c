@@ -16,6 +16,7 @@ int whose_fault(uint64_t answer)
     case CHANGEOVER_RELATION:
     case CHANGEOVER_MOVE:
     case CHANGEOVER_RECORD:
+    case CHANGEOVER_NO_STEPS:
     case CHANGEOVER_OBJECT:
     case CHANGEOVER_STATE:
     case CHANGEOVER_STEP:

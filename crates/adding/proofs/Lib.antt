@@ -1,6 +1,6 @@
 -- The proofs of the code, and laws: Formed and Returns for this crate's functions; NewBook and Kept for what the new book keeps;
 -- Front and OneRecord for looking over the record alone, which has the theorem of specs/OneRecord.antt; ReadBack, which has those of
--- specs/ReadBack.antt; Bounds for callers.
+-- specs/ReadBack.antt; Stepless, which has that of specs/Stepless.antt; Bounds for callers.
 pub mod Formed
 pub mod NewBook
 pub mod Kept
@@ -8,4 +8,5 @@ pub mod Front
 pub mod OneRecord
 pub mod Returns
 pub mod ReadBack
+pub mod Stepless
 pub mod Bounds

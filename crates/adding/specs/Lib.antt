@@ -2,3 +2,4 @@
 pub mod Outcome
 pub mod ReadBack
 pub mod OneRecord
+pub mod Stepless

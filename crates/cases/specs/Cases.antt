@@ -1,14 +1,15 @@
--- The marked cases of the paper and its limits, and cases of kinds under kinds, of several starts, of short books and of adding, as one list of what
--- the definitions give and what the paper says. proofs/Cases.antt has the one theorem that covers it.
+-- The marked cases of the paper and its limits, and cases of kinds under kinds, of several starts, of short books, of adding and of records without steps, as one
+-- list of what the definitions give and what the paper says. proofs/Cases.antt has the one theorem that covers it.
 use mathlib.Core.Path.{_≡_}
 use mathlib.Core.List.{List, [], _∷_, _++_}
 use Rattle.cases.specs.Marked.{Case, marked}
 use Rattle.cases.specs.Further.{kindsUnder, severalStarts}
 use Rattle.cases.specs.Shorts.{shortBooks}
 use Rattle.cases.specs.Adding.{recordsAdded}
+use Rattle.cases.specs.Stepless.{recordsOfNothing}
 
 abbrev pub cases : List Case
-cases = marked ++ (kindsUnder ++ (severalStarts ++ (shortBooks ++ recordsAdded)))
+cases = marked ++ (kindsUnder ++ (severalStarts ++ (shortBooks ++ (recordsAdded ++ recordsOfNothing))))
 
 abbrev pub AllRight : List Case → Type 0
 AllRight [] = Unit {0}

@@ -3,4 +3,5 @@ pub mod Marked
 pub mod Further
 pub mod Shorts
 pub mod Adding
+pub mod Stepless
 pub mod Cases

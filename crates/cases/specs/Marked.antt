@@ -136,26 +136,34 @@ abbrev pub pairs : ℕ → ℕ → ℕ → ℕ → List ℕ
 pairs relation objects zero from = []
 pairs relation objects (suc left) from = relation ∷ (from / objects + 1) ∷ (from % objects + 1) ∷ pairs relation objects left (suc from)
 
--- a book of one relation over two places and 16 objects, with one record of one state of all its facts
+-- a step of a move of no parameters, numbered 1, and a state of no facts after it
+abbrev toNothing : List ℕ
+toNothing = 1 ∷ 0 ∷ 0 ∷ 0 ∷ 0 ∷ 0 ∷ 0 ∷ []
+
+-- a book of one relation over two places and 16 objects, and a move of no parameters, with one record of a state of all its facts and one step
 abbrev dense : List ℕ
 dense =
-    (0 ∷ 1 ∷ 0 ∷ 1 ∷ 0 ∷ 0 ∷ 0 ∷ 1 ∷ 0 ∷ 16 ∷ 0 ∷ 20 ∷ 0 ∷ 20 ∷ 0x03 ∷ 0x2a ∷ [])
+    (0 ∷ 1 ∷ 0 ∷ 1 ∷ 0 ∷ 1 ∷ 0 ∷ 1 ∷ 0 ∷ 16 ∷ 0 ∷ 20 ∷ 0 ∷ 26 ∷ 0x03 ∷ 0x37 ∷ [])
     ++ (2 ∷ 1 ∷ 1 ∷ 0 ∷ [])
-    ++ (16 ∷ 0 ∷ 0x03 ∷ 0x16 ∷ [])
+    ++ (0 ∷ 0 ∷ 0 ∷ 0 ∷ 0 ∷ 0 ∷ [])
+    ++ (16 ∷ 1 ∷ 0x03 ∷ 0x1d ∷ [])
     ++ replicate 16 1
     ++ (1 ∷ 0 ∷ [])
     ++ pairs 1 16 256 0
+    ++ toNothing
 
 -- the same with a relation of no places more, and with its fact as the 257th
 abbrev denser : List ℕ
 denser =
-    (0 ∷ 1 ∷ 0 ∷ 2 ∷ 0 ∷ 0 ∷ 0 ∷ 1 ∷ 0 ∷ 16 ∷ 0 ∷ 24 ∷ 0 ∷ 24 ∷ 0x03 ∷ 0x31 ∷ [])
+    (0 ∷ 1 ∷ 0 ∷ 2 ∷ 0 ∷ 1 ∷ 0 ∷ 1 ∷ 0 ∷ 16 ∷ 0 ∷ 24 ∷ 0 ∷ 30 ∷ 0x03 ∷ 0x3e ∷ [])
     ++ (2 ∷ 1 ∷ 1 ∷ 0 ∷ 0 ∷ 0 ∷ 0 ∷ 0 ∷ [])
-    ++ (16 ∷ 0 ∷ 0x03 ∷ 0x19 ∷ [])
+    ++ (0 ∷ 0 ∷ 0 ∷ 0 ∷ 0 ∷ 0 ∷ [])
+    ++ (16 ∷ 1 ∷ 0x03 ∷ 0x20 ∷ [])
     ++ replicate 16 1
     ++ (1 ∷ 1 ∷ [])
     ++ pairs 1 16 256 0
     ++ (2 ∷ 0 ∷ 0 ∷ [])
+    ++ toNothing
 
 -- a book of 60,000 bytes: one relation over two places, two moves of no parameters, and 64 copies of one record of 937 bytes, which has 10
 -- objects and 3 steps between four equal states of 75 facts. The header is told the count of records and the end.
@@ -200,8 +208,8 @@ marked =
     ∷ record { gives = saidAt (check full book (rolled 2 2) endSheetSize); wanted = 18 ∷ 31 ∷ 0 ∷ [] }
     ∷ record { gives = said (learn full book9 ruleSize); wanted = 12 ∷ 1 ∷ [] }
     ∷ record { gives = said (lookOver full (take 15 book)); wanted = 1 ∷ 0 ∷ [] }
-    ∷ record { gives = said (lookOver full dense); wanted = 0 ∷ 0 ∷ [] }
-    ∷ record { gives = said (lookOver full denser); wanted = 8 ∷ 44 ∷ [] }
+    ∷ record { gives = said (lookOver full dense); wanted = 0 ∷ 1 ∷ [] }
+    ∷ record { gives = said (lookOver full denser); wanted = 8 ∷ 50 ∷ [] }
     ∷ record { gives = said (lookOver full long); wanted = 0 ∷ 192 ∷ [] }
     ∷ record { gives = said (lookOver full (long ++ (0 ∷ []))); wanted = 1 ∷ 0 ∷ [] }
     ∷ []

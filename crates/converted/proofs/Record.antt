@@ -2,7 +2,6 @@
 -- would be from the first book.
 use Prim.Native.Nat.{ℕ, _+_, _-_, _*_, _≤_, _<_}
 use mathlib.Core.Path.{_≡_, sym, ap, _∙_}
-use mathlib.Core.Bool.{false}
 use mathlib.Core.List.{List, _++_}
 use native.Mathlib.Omega.{arith}
 use borrow.Author.Tests.{le-ltb}
@@ -26,7 +25,7 @@ use Rattle.format.specs.States.{cut, state}
 use Rattle.format.specs.Records.{objectsIn, stepsIn, lengthIn, headBad, recordHead, object, steps, objectsOf, recordAt}
 use Rattle.format.specs.Decode.{firstAt, recordedStepsAt, stepsOfRecord}
 use Rattle.format.proofs.States.{list-ends}
-use Rattle.format.proofs.Records.{RecordGood, head-objects, head-limits, object-entry, record-good, record-in}
+use Rattle.format.proofs.Records.{RecordGood, head-passed, head-objects, head-limits, object-entry, record-good, record-in}
 use Rattle.format.proofs.Typing.{objects-known}
 use Rattle.format.proofs.Copies.{placedBy}
 use Rattle.jobs.specs.Convert.{bytesAt, listBytes, stepsBytes}
@@ -146,9 +145,11 @@ module _ (form to : Form) (h k : Sections) (s t : List ℕ) (at next at′ : ℕ
       let (x, y, z) = head-read form to s t at at′ small stands in
       let w = stands .within in
       let n = length-recordIn form to s at in
+      let some = head-passed s at (was .head) .1 in
       refuse-unmet _ _ _ _
       (rw (x, y, z, le-ltb (length t) (at′ + headSize) (omega arith), le-ltb (length t) (at′ + length (recordIn form to s at)) (omega arith))
       (rw (le-ltb maxObjects (objectsIn s at) (head-objects s at (was .head)), le-ltb maxSteps (stepsIn s at) (head-limits s at (was .head) .0), le-ltb (length (recordIn form to s at)) headSize (omega arith))))
+      ∙ refuse-unmet _ _ _ _ (rw y some)
 
   module _ (kinds : h .kinds ≡ k .kinds) (same : SameSchema (schema h s) (schema k t)) (fall : Falling (schema h s)) where
     start-in : at′ + length (recordIn form to s at) ≤ at′ + lengthIn t at′

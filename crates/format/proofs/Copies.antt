@@ -30,7 +30,7 @@ use Rattle.format.specs.LookOver.{stepTotal}
 use Rattle.format.specs.Lists.{listAt, listEnd}
 use Rattle.format.specs.Decode.{RecordedStep, firstAt, recordedStep, recordedStepsAt, stepsOfRecord, stepsOfRecords}
 use Rattle.format.proofs.States.{fact-good, count-within, list-ends, next-good, next-in}
-use Rattle.format.proofs.Records.{head-limits, head-objects, object-entry, step-good, step-reach, step-ends, steps-parted, steps-within, record-good, record-in, record-within}
+use Rattle.format.proofs.Records.{head-in-limits, head-passed, head-limits, object-entry, step-good, step-reach, step-ends, steps-parted, steps-within, record-good, record-in, record-within}
 use Rattle.format.proofs.Typing.{objects-known}
 use Rattle.format.proofs.Reading.{Copied, Facing, facing-on, byte-copied, two-copied, fact-copied, step-copied, head-copied, end-copied, list-copied}
 
@@ -128,15 +128,23 @@ module _ {s t : List ℕ} {at at′ size : ℕ} (c : Copied s at t at′ size) w
       rw (byte-copied c (a + 1 * i) (b + 1 * i) (facing-on f (1 * i)) (omega arith), le-ltb end′ (b + 1 * i + 1) (omega arith)) right)
       ∙ ap Good (omega arith)
 
-  head-beside : (a b : ℕ) → Facing at at′ a b → a + lengthIn s a ≤ at + size → {end : ℕ} → recordHead s a ≡ Good end → recordHead t b ≡ Good (b + lengthIn t b)
-  unfolding recordHead headBad cut
-  head-beside a b f l e =
+  -- a head that row 6 does not refuse, and one that no row does
+  pub head-kept : (a b : ℕ) → Facing at at′ a b → a + lengthIn s a ≤ at + size → headBad s a ≡ false → headBad t b ≡ false
+  unfolding headBad cut
+  head-kept a b f l e =
       let within = c .within in
-      let (few, long, reach) = head-limits s a e in
+      let (objects, few, long, reach) = head-in-limits s a e in
       let (x, y, z) = head-copied c a b f (omega arith) in
-      refuse-unmet _ _ _ _
-      (rw (x, y, z, le-ltb (length t) (b + headSize) (omega arith), le-ltb (length t) (b + lengthIn s a) (omega arith))
-      (rw (le-ltb maxObjects (objectsIn s a) (head-objects s a e), le-ltb maxSteps (stepsIn s a) few, le-ltb (lengthIn s a) headSize long)))
+      rw (x, y, z, le-ltb (length t) (b + headSize) (omega arith), le-ltb (length t) (b + lengthIn s a) (omega arith))
+      (rw (le-ltb maxObjects (objectsIn s a) objects, le-ltb maxSteps (stepsIn s a) few, le-ltb (lengthIn s a) headSize long))
+
+  head-beside : (a b : ℕ) → Facing at at′ a b → a + lengthIn s a ≤ at + size → {end : ℕ} → recordHead s a ≡ Good end → recordHead t b ≡ Good (b + lengthIn t b)
+  unfolding recordHead
+  head-beside a b f l e =
+      let (right, some, end) = head-passed s a e in
+      let long = head-limits s a e .1 in
+      let (x, y, z) = head-copied c a b f (omega arith) in
+      refuse-unmet _ _ _ _ (head-kept a b f l right) ∙ refuse-unmet _ _ _ _ (rw y some)
 
   typed-beside : (kinds a b : ℕ) → Facing at at′ a b → a + headSize + objectsIn s a ≤ at + size → objectsIn t b ≡ objectsIn s a
       → (end last : ℕ) → walk (object kinds s end) (objectsIn s a) (a + headSize) ≡ Good last

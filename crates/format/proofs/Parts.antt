@@ -24,14 +24,14 @@ use Rattle.terms.proofs.Atoms.{parent-some, parent-none}
 use Rattle.terms.proofs.Agree.{same-by-bytes}
 use Rattle.format.specs.Form.{Form}
 use Rattle.format.specs.Header.{moveBad}
-use Rattle.format.specs.Records.{lengthIn, recordAt}
+use Rattle.format.specs.Records.{stepsIn, lengthIn, recordAt}
 use Rattle.format.specs.Decode.{stepsOfRecord, movedBy}
 use Rattle.format.specs.Parts.{recordPart, recordsAt, sectionsPart, recordsOf}
 use Rattle.format.proofs.Header.{SectionsGood}
-use Rattle.format.proofs.Records.{record-within}
+use Rattle.format.proofs.Records.{head-limits, record-good, record-within}
 use Rattle.format.proofs.Typing.{schema-right}
 use Rattle.format.proofs.LookOver.{LookedOver}
-use Rattle.format.proofs.Reading.{Copied}
+use Rattle.format.proofs.Reading.{Copied, head-copied}
 use Rattle.format.proofs.Copies.{placedBy, placed-same, recorded-copied}
 
 module _ (form : Form) (h : Sections) (s : List ℕ) where
@@ -43,14 +43,20 @@ module _ (form : Form) (h : Sections) (s : List ℕ) where
         let (place, within) = record-within form h s at next good in
         length-take-le (lengthIn s at) (drop at s) (omega (arith, length-drop at s))
 
+    part-alone : Copied s at (recordPart s at) 0 (lengthIn s at)
+    unfolding recordPart byteAt
+    part-alone = record { within = omega (arith, record-length); bytes = λ i l. rw zero-add (getD-take (lengthIn s at) (drop at s) i 0 l ∙ getD-drop at s i 0) }
+
+    -- its head says by itself how many steps it has,
+    pub steps-alone : stepsIn (recordPart s at) 0 ≡ stepsIn s at
+    steps-alone = head-copied part-alone at 0 (record { low = omega arith; level = omega arith }) (omega (arith, head-limits s at (record-good form h s at next good .head) .1)) .1
+
     -- and its steps are those that its bytes say by themselves.
     pub record-alone : stepsOfRecord form s at ≡ movedBy at (stepsOfRecord form (recordPart s at) 0)
-    unfolding movedBy placedBy recordPart byteAt
+    unfolding movedBy placedBy
     record-alone =
         let (place, within) = record-within form h s at next good in
-        let alone : Copied s at (recordPart s at) 0 (lengthIn s at) =
-        record { within = omega (arith, record-length); bytes = λ i l. rw zero-add (getD-take (lengthIn s at) (drop at s) i 0 l ∙ getD-drop at s i 0) } in
-        sym (placed-same (stepsOfRecord form s at)) ∙ recorded-copied alone (λ p. p) (λ p. at + p) (λ i. omega arith) form h next good (omega arith)
+        sym (placed-same (stepsOfRecord form s at)) ∙ recorded-copied part-alone (λ p. p) (λ p. at + p) (λ i. omega arith) form h next good (omega arith)
 
   -- good records in a row are their bytes, up to where they end
   pub records-joined : (n at last : ℕ) → walk (recordAt form h s) n at ≡ Good last → flatten (recordsAt s n at) ++ drop last s ≡ drop at s

@@ -1,12 +1,12 @@
--- Rows 6 to 10: what a good head, object, step, trajectory and record say, and where each of them ends.
+-- Rows 6 to 10, row 24 among them: what a good head, object, step, trajectory and record say, and where each of them ends.
 use Prim.Native.Nat.{ℕ, zero, suc, _+_, _≤_}
 use mathlib.Core.Path.{_≡_, refl, ap, _∙_, subst}
 use mathlib.Core.Bool.{false, _||_}
 use mathlib.Core.List.{List}
 use lib.ListN.{length}
 use native.Mathlib.Omega.{arith}
-use lib.Dec.{ltb}
-use borrow.Author.Tests.{ltb-false}
+use lib.Dec.{eqb, ltb}
+use borrow.Author.Tests.{ltb-false, eqb-false}
 use Rattle.answer.specs.declared.Answer.the-variants.{Good}
 use Rattle.truth.specs.Bools.{neither}
 use Rattle.answer.specs.Laws.{passed, parted, refuse-unmet, bind-good, none-over}
@@ -25,25 +25,42 @@ use Rattle.format.specs.Lists.{listAt, listEnd}
 use Rattle.format.specs.Decode.{firstAt}
 use Rattle.format.proofs.States.{list-ends, next-ends}
 
+-- a head that row 6 does not refuse
+pub head-in-limits : (s : List ℕ) (at : ℕ) → headBad s at ≡ false
+    → (objectsIn s at ≤ maxObjects) × (stepsIn s at ≤ maxSteps) × (headSize ≤ lengthIn s at) × (at + lengthIn s at ≤ length s)
+unfolding headBad cut
+head-in-limits s at good =
+    let p = neither _ _ good in
+    let w = none-over (at + headSize) (objectsIn s at) (stepsIn s at) headSize (length s) maxObjects maxSteps (lengthIn s at) (p .0) in
+    (w .1, w .2, w .3, ltb-false _ _ (p .1))
+
+-- a head that is not refused
 module _ (s : List ℕ) (at : ℕ) {end : ℕ} (good : recordHead s at ≡ Good end) where
-  -- a head that is not refused
-  head-good : (objectsIn s at ≤ maxObjects) × (stepsIn s at ≤ maxSteps) × (headSize ≤ lengthIn s at) × (at + lengthIn s at ≤ length s)
-  unfolding recordHead headBad cut
-  head-good =
-      let p = neither _ _ (passed _ 6 at end _ good .0) in
-      let w = none-over (at + headSize) (objectsIn s at) (stepsIn s at) headSize (length s) maxObjects maxSteps (lengthIn s at) (p .0) in
-      (w .1, w .2, w .3, ltb-false _ _ (p .1))
+  pub head-passed : (headBad s at ≡ false) × (eqb (stepsIn s at) 0 ≡ false) × (end ≡ at + lengthIn s at)
+  unfolding recordHead
+  head-passed =
+      let p = passed _ 6 at end _ good in
+      let q = passed _ 24 at end _ (p .1) in
+      let r = q .1 in
+      (p .0, q .0, cc)
 
   -- it says where its record ends
   pub head-end : end ≡ at + lengthIn s at
-  unfolding recordHead
-  head-end = let p = passed _ 6 at end _ good .1 in cc
+  head-end = head-passed .2
 
   pub head-objects : objectsIn s at ≤ maxObjects
-  head-objects = head-good .0
+  head-objects = head-in-limits s at (head-passed .0) .0
 
   pub head-limits : (stepsIn s at ≤ maxSteps) × (headSize ≤ lengthIn s at) × (at + lengthIn s at ≤ length s)
-  head-limits = (head-good .1, head-good .2, head-good .3)
+  head-limits = let w = head-in-limits s at (head-passed .0) in (w .1, w .2, w .3)
+
+  -- its record has a step
+  pub head-steps : 1 ≤ stepsIn s at
+  head-steps = some (stepsIn s at) (head-passed .1)
+    where
+      some : (n : ℕ) → eqb n 0 ≡ false → 1 ≤ n
+      some zero e = absurd (eqb-false 0 0 e refl)
+      some (suc n) e = omega arith
 
 module _ (kinds : ℕ) (s : List ℕ) (end : ℕ) where
   -- an object is an entry of one byte
@@ -147,3 +164,7 @@ module _ (form : Form) (h : Sections) (s : List ℕ) (at next : ℕ) (good : rec
 
   pub record-steps : stepsIn s at ≤ maxSteps
   record-steps = head-limits s at (record-good .head) .0
+
+  -- and has a step
+  pub record-stepped : 1 ≤ stepsIn s at
+  record-stepped = head-steps s at (record-good .head)

@@ -1,9 +1,9 @@
--- Rows 6 to 10: the records of a book, in file order, each to its end.
+-- Rows 6 to 10, row 24 among them: the records of a book, in file order, each to its end.
 use Prim.Native.Nat.{ℕ, zero, suc, _+_}
 use mathlib.Core.Bool.{Bool, _||_}
 use mathlib.Core.List.{List}
 use lib.ListN.{length}
-use lib.Dec.{ltb}
+use lib.Dec.{eqb, ltb}
 use Rattle.answer.specs.declared.Answer.{Answer}
 use Rattle.answer.specs.declared.Answer.the-variants.{Good}
 use Rattle.answer.specs.Answer.{_>>=_, refuse}
@@ -37,10 +37,11 @@ headBad s at =
     || ltb (lengthIn s at) headSize
     || cut (length s) at (lengthIn s at)
 
--- the rows of a record's head: where the record ends
+-- the rows of a record's head, 6 and then 24: where the record ends
 unfoldable pub recordHead : List ℕ → ℕ → Answer
 recordHead s at = do
   _ ← refuse (headBad s at) 6 at
+  _ ← refuse (eqb (stepsIn s at) 0) 24 at
   Good (at + lengthIn s at)
 
 -- row 7

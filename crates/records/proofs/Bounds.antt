@@ -7,7 +7,7 @@ use native.Mathlib.Omega.{arith}
 use borrow.Author.Tests.{ltb-false}
 use Rattle.answer.specs.declared.Answer.the-variants.{Good}
 use Rattle.truth.specs.Bools.{neither}
-use Rattle.answer.specs.Laws.{parted, refuse-unmet}
+use Rattle.answer.specs.Laws.{parted}
 use Rattle.answer.specs.Walk.{walk}
 use Rattle.terms.specs.declared.Fact.{Fact}
 use Rattle.terms.specs.declared.Sections.{Sections}
@@ -20,7 +20,7 @@ use Rattle.format.specs.Records.{recordHead, object, step, steps, trajectory, b
 use Rattle.format.specs.LookOver.{stepTotal}
 use Rattle.answer.specs.Bounds.{Bounded, bounded-good, bounded-then, bounded-row, bounded-walk, bounded-wider}
 use Rattle.format.proofs.States.{list-bounded, next-bounded}
-use Rattle.format.proofs.Records.{head-limits, head-end, record-within, record-steps}
+use Rattle.format.proofs.Records.{head-in-limits, head-limits, head-end, record-within, record-steps}
 
 object-bounded : (kinds : ℕ) (s : List ℕ) (end at : ℕ) → at ≤ end → Bounded end (object kinds s end at)
 unfolding object cut
@@ -51,7 +51,8 @@ module _ (form : Form) (sch : Schema) (ob : TypedObjects) (s : List ℕ) (end : 
 head-bounded : (s : List ℕ) (at : ℕ) → at ≤ length s → Bounded (length s) (recordHead s at)
 unfolding recordHead
 head-bounded s at l =
-    bounded-row (length s) _ _ _ _ (omega arith) l (λ e. bounded-good (length s) _ (head-limits s at (refuse-unmet _ _ _ _ e) .2))
+    bounded-row (length s) _ _ _ _ (omega arith) l
+    (λ e. bounded-row (length s) _ _ _ _ (omega arith) l (λ f. bounded-good (length s) _ (head-in-limits s at e .3)))
 
 module _ (form : Form) (h : Sections) (s : List ℕ) where
   body-bounded : (at end : ℕ) → at + headSize ≤ end → Bounded end (body form h s at end)

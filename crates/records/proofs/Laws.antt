@@ -4,6 +4,7 @@ use Prim.Native.Nat.{ℕ, zero, suc, _+_, _-_, _≤_, _<_}
 use mathlib.Core.Path.{_≡_, refl, sym, _∙_}
 use mathlib.Core.Bool.{Bool, true, false}
 use mathlib.Core.List.{List}
+use lib.Dec.{eqb}
 use lib.ListN.{length}
 use native.Mathlib.Numerals.{sub-one}
 use native.Mathlib.Omega.{arith}
@@ -86,9 +87,14 @@ module _ (s : List ℕ) (at : ℕ) (b : Bool) (is : b ≡ headBad s at) where
   unfolding recordHead
   head-refused e = sym (refuse-met _ _ _ _ (sym is ∙ e))
 
-  pub head-right : (head : Head) → head ≡ headOf s at → b ≡ false → Good (at + head .length) ≡ recordHead s at
-  unfolding recordHead headOf
-  head-right head q e = rw q (sym (refuse-unmet _ _ _ _ (sym is ∙ e)))
+  module _ (head : Head) (read : head ≡ headOf s at) (right : b ≡ false) where
+    pub head-stepless : eqb (head .steps) 0 ≡ true → Refused 24 at ≡ recordHead s at
+    unfolding recordHead headOf
+    head-stepless e = sym (refuse-unmet _ _ _ _ (sym is ∙ right) ∙ refuse-met _ _ _ _ (rw read at e))
+
+    pub head-right : eqb (head .steps) 0 ≡ false → Good (at + head .length) ≡ recordHead s at
+    unfolding recordHead headOf
+    head-right e = rw read (sym (refuse-unmet _ _ _ _ (sym is ∙ right) ∙ refuse-unmet _ _ _ _ (rw read at e)))
 
 -- a record, by its head
 module _ (form : Form) (h : Sections) (s : List ℕ) where

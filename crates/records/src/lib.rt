@@ -1,4 +1,4 @@
-// Rows 6 to 10 of the refusal table: one record of a book, to its end. In a short book the state is carried on from step to step.
+// Rows 6 to 10 of the refusal table, row 24 among them: one record of a book, to its end. In a short book the state is carried on from step to step.
 // Uses answer, input, limits, mask, terms, tables, states, turning, and the definitions of format.
 use answer::Answer;
 use terms::Objects;
@@ -53,13 +53,18 @@ fn head_bad(s: &[u8], head: Head, at: usize) -> bool
         | (s.len() < at + size)
 }
 
-// The rows of a record's head: where the record ends.
+// The rows of a record's head, 6 and then 24: where the record ends.
 pub fn record_head(s: &[u8], head: Head, at: usize) -> Answer
     requires { ⌜ (at ≤ maxLength) × (head ≡ headOf (now s) at) ⌝ }
     ensures { λ r. ⌜ r ≡ recordHead (now (s .entry)) at ⌝ }
 {
-    if head_bad(s, head, at) {
+    let bad = head_bad(s, head, at);
+    let stepless = head.steps == 0;
+    if bad {
         return Answer::Refused(6, at);
+    }
+    if stepless {
+        return Answer::Refused(24, at);
     }
     Answer::Good(at + head.length as usize)
 }

@@ -1,9 +1,10 @@
--- Theorems about good form, from bytes up to the hypotheses of `model`. To cite: recorded-right (Records), formed (Formed), order-right and grounded (Orders),
+-- Theorems about good form, from bytes up to the hypotheses of `model`. To cite: recorded-right (Records), every-record-has-a-step (Stepped), formed (Formed), order-right and grounded (Orders),
 -- fact-of-atom and fact-of-places (Inverse); of states in which facts turn, the laws of Toggled and Turned.
 pub mod Lists
 pub mod States
 pub mod Headers
 pub mod Records
+pub mod Stepped
 pub mod Suits
 pub mod Numbers
 pub mod Atoms

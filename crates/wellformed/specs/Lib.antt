@@ -1,3 +1,4 @@
--- What good form says of steps, states and orders, for the proofs above.
+-- What good form says of steps, states, orders and records, for the proofs above.
 pub mod Right
 pub mod Grounding
+pub mod Stepped

@@ -1,5 +1,5 @@
-//! The form of books and orders: rows 1 to 10, 21, 22 and 14 to 18. All that reads
-//! a book is told whether it is a full or a short one.
+//! The form of books and orders: rows 1 to 10, 21, 24, 22 and 14 to 18. All that
+//! reads a book is told whether it is a full or a short one.
 
 mod hall;
 mod header;
@@ -41,7 +41,7 @@ pub fn walk(book: &[u8], form: Form, observer: &mut impl Observer) -> Result<Fro
     Ok(Front { header, signature, steps })
 }
 
-/// Rows 1 to 10 and 21; success has the count of all steps as its place.
+/// Rows 1 to 10, 21 and 24; success has the count of all steps as its place.
 #[must_use]
 pub fn look_over(book: &[u8], form: Form) -> Answer {
     walk(book, form, &mut ()).map_or_else(|refusal| refusal, |front| Answer::success(front.steps))

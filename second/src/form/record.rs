@@ -1,4 +1,4 @@
-//! Records (trajectories), walked in file order: rows 6 to 10.
+//! Records (trajectories), walked in file order: rows 6 to 10, and 24.
 
 use super::state::{read_facts, State, States};
 use super::{two_bytes, Hall, Signature};
@@ -57,7 +57,7 @@ struct Record<'a> {
 }
 
 impl<'a> Record<'a> {
-    /// Row 6 at the head.
+    /// Row 6 at the head, all of it before row 24.
     fn head(book: &'a [u8], at: usize) -> Result<Self, Answer> {
         let refused = Refusal::Record.at(at);
         let rest = &book[at..];
@@ -71,6 +71,9 @@ impl<'a> Record<'a> {
             || !(HEAD_LENGTH..=rest.len()).contains(&length)
         {
             return Err(refused);
+        }
+        if steps == 0 {
+            return Err(Refusal::NoSteps.at(at));
         }
         Ok(Self { bytes: &book[..at + length], at, objects, steps })
     }

@@ -3,7 +3,7 @@
 
 use super::aim::{Aim, Label};
 use super::draft::{BookDraft, RecordDraft};
-use super::hall::Dynamics;
+use super::hall::{Dynamics, World};
 use super::mixed::BookStream;
 use super::rng::Rng;
 use super::twin::told;
@@ -100,6 +100,7 @@ impl AddStream {
         let (book, record, answer) = match what {
             DAMAGED_BOOK => {
                 let case = self.books.of_row(4 * round + turn, rng);
+                // The record would be refused as well, by 24.
                 return (case.book, vec![0, 0, 0, 6, 0, 0], case.aimed);
             }
             DAMAGED_RECORD => self.damaged_record(2 * round + turn - 4, rng),
@@ -112,14 +113,10 @@ impl AddStream {
 
     /// A good book, and a record that is good but for bytes behind it.
     fn good(&self, what: &str, rng: &mut Rng) -> (Vec<u8>, Vec<u8>, Answer) {
-        let shape = if rng.chance(90) { book::SMALL } else { book::MEDIUM };
-        let mut world = book::of_shape(&shape, Dynamics::Follows, rng);
-        let dynamics = if rng.chance(70) { Dynamics::Follows } else { Dynamics::Random };
-        let record = world.record(&shape, dynamics, rng);
+        let (mut world, record) = with_record(rng);
         if let "64 records before" | "63 records before" = what {
             let count = if what == "64 records before" { 64 } else { 63 };
-            let small = RecordDraft { states: vec![Vec::new()], ..RecordDraft::default() };
-            world.book.records.resize(count, small);
+            world.book.records.resize(count, first_step(&record));
         }
         world.book.records.push(record);
         let mut draft = world.book.in_form(self.books.form());
@@ -142,7 +139,7 @@ impl AddStream {
         (book, record, answer)
     }
 
-    /// The faults of rows 6 to 10 that a record added can have.
+    /// The faults of rows 6 to 10 and 24 that a record added can have.
     #[must_use]
     pub fn record_aims(&self) -> &[Aim<BookDraft>] {
         &self.record_aims
@@ -169,12 +166,33 @@ impl AddStream {
     }
 }
 
-/// A record without steps, with which a book has 60,000 bytes or more.
+/// A good book with a record for it.
+fn with_record(rng: &mut Rng) -> (World, RecordDraft) {
+    loop {
+        let shape = if rng.chance(90) { book::SMALL } else { book::MEDIUM };
+        let world = book::of_shape(&shape, Dynamics::Follows, rng);
+        let dynamics = if rng.chance(70) { Dynamics::Follows } else { Dynamics::Random };
+        if let Some(record) = world.record(&shape, dynamics, rng) {
+            return (world, record);
+        }
+    }
+}
+
+/// The record up to the state after its first step: short enough for 64 of them.
+fn first_step(record: &RecordDraft) -> RecordDraft {
+    RecordDraft {
+        objects: record.objects.clone(),
+        states: record.states[..2].to_vec(),
+        steps: record.steps[..1].to_vec(),
+    }
+}
+
+/// A record of one step, with which a book has 60,000 bytes or more.
 fn new_length(what: &str, rng: &mut Rng) -> (Vec<u8>, Vec<u8>, Answer) {
     let record = RecordDraft {
         objects: vec![1; rng.range(0, 16)],
-        states: vec![Vec::new()],
-        steps: Vec::new(),
+        states: vec![Vec::new(); 2],
+        steps: vec![[1, 0, 0, 0, 0]],
     };
     let over = if what == "new length 60,000" { 0 } else { rng.range(1, 6) };
     let book = fullbook::of_length(60_000 - record.length() + over, rng);

@@ -56,8 +56,8 @@ pub fn fill(world: &mut World, shape: &Shape, records: usize, dynamics: Dynamics
     fill_in(Form::Full, world, shape, records, dynamics, rng);
 }
 
-/// Records that keep the book in its limit when it is written in this form. The
-/// world's book is a full one, and may then be too long.
+/// Records that keep the book in its limit when it is written in this form: fewer, or
+/// none if no step goes. The world's book is a full one, and may then be too long.
 fn fill_in(
     form: Form,
     world: &mut World,
@@ -68,7 +68,7 @@ fn fill_in(
 ) {
     let mut length = world.book.length();
     for _ in 0..records {
-        let record = world.record(shape, dynamics, rng);
+        let Some(record) = world.record(shape, dynamics, rng) else { break };
         length += match form {
             Form::Full => record.length(),
             Form::Short => record.rewritten(form).length(),

@@ -1,7 +1,7 @@
 //! Books at a limit and one beyond it, complete in everything else.
 
 use super::aim::Label;
-use super::draft::{BookDraft, RecordDraft};
+use super::draft::{BookDraft, Fact, RecordDraft};
 use super::rng::Rng;
 use super::twin::told;
 use super::{fullbook, turns, BookCase};
@@ -13,7 +13,7 @@ type Maker = fn(&mut Rng) -> (Vec<u8>, Answer);
 
 /// Their answers are the same in either form: what is listed for a state after a
 /// step may as well be what turns.
-const MAKERS: [(&str, Maker); 24] = [
+const MAKERS: [(&str, Maker); 26] = [
     ("0 to 15 bytes", |rng| {
         let mut bytes = base().bytes();
         bytes.truncate(rng.below(16));
@@ -50,17 +50,22 @@ const MAKERS: [(&str, Maker); 24] = [
         (draft.bytes(), Refusal::Record.at(draft.front_length()))
     }),
     ("record of its head alone", |_| {
-        let mut bytes = base().bytes();
-        bytes[7] = 1;
-        bytes[15] += 4;
-        bytes.extend([0, 0, 0, 4]);
+        let bytes = head_alone(1);
         let end = bytes.len();
         (bytes, Refusal::State.at(end))
+    }),
+    ("record of its head alone, without steps", |_| {
+        (head_alone(0), Refusal::NoSteps.at(base().length()))
     }),
     ("record without objects, facts and steps", |_| {
         let mut draft = base();
         draft.records.push(RecordDraft { states: vec![Vec::new()], ..RecordDraft::default() });
-        (draft.bytes(), Answer::success(0))
+        (draft.bytes(), Refusal::NoSteps.at(draft.front_length()))
+    }),
+    ("record without objects and facts, of one step", |_| {
+        let mut draft = base();
+        draft.records.push(of_a_step(0, Vec::new()));
+        (draft.bytes(), Answer::success(1))
     }),
     ("8 kinds in a chain", |rng| chain(8, rng)),
     ("9 kinds in a chain", |rng| chain(9, rng)),
@@ -105,6 +110,24 @@ fn base() -> BookDraft {
     BookDraft { kinds: 1, relations, moves, ..BookDraft::default() }
 }
 
+/// A record of one step, after which nothing holds or nothing turned.
+fn of_a_step(objects: usize, first: Vec<Fact>) -> RecordDraft {
+    RecordDraft {
+        objects: vec![1; objects],
+        states: vec![first, Vec::new()],
+        steps: vec![[1, 0, 0, 0, 0]],
+    }
+}
+
+/// A book whose one record is a head that announces no objects and as many steps.
+fn head_alone(steps: u8) -> Vec<u8> {
+    let mut bytes = base().bytes();
+    bytes[7] = 1;
+    bytes[15] += 4;
+    bytes.extend([0, steps, 0, 4]);
+    bytes
+}
+
 fn filed_steps(bytes: &[u8]) -> usize {
     let (mut at, mut steps) = (16 + 4 + 6, 0);
     while at < bytes.len() {
@@ -122,10 +145,9 @@ fn facts(count: usize, rng: &mut Rng) -> (Vec<u8>, Answer) {
     while state.len() > count {
         state.remove(rng.below(state.len()));
     }
-    let record = RecordDraft { objects: vec![1; 16], states: vec![state], steps: Vec::new() };
-    draft.records.push(record);
+    draft.records.push(of_a_step(16, state));
     let answer = match count {
-        0..=256 => Answer::success(0),
+        0..=256 => Answer::success(1),
         _ => Refusal::State.at(draft.front_length() + 4 + 16),
     };
     (draft.bytes(), answer)
@@ -134,11 +156,9 @@ fn facts(count: usize, rng: &mut Rng) -> (Vec<u8>, Answer) {
 fn objects(count: usize, rng: &mut Rng) -> (Vec<u8>, Answer) {
     let mut draft = base();
     let fact = [1, rng.range(1, count) as u8, count as u8];
-    let record =
-        RecordDraft { objects: vec![1; count], states: vec![vec![fact]], steps: Vec::new() };
-    draft.records.push(record);
+    draft.records.push(of_a_step(count, vec![fact]));
     let answer = match count {
-        0..=16 => Answer::success(0),
+        0..=16 => Answer::success(1),
         _ => Refusal::Record.at(draft.front_length()),
     };
     (draft.bytes(), answer)
@@ -160,10 +180,9 @@ fn steps(count: usize, rng: &mut Rng) -> (Vec<u8>, Answer) {
 fn records(count: usize, rng: &mut Rng) -> (Vec<u8>, Answer) {
     let mut draft = base();
     for _ in 0..count {
-        let objects = vec![1; rng.below(3)];
-        draft.records.push(RecordDraft { objects, states: vec![Vec::new()], steps: Vec::new() });
+        draft.records.push(of_a_step(rng.below(3), Vec::new()));
     }
-    (draft.bytes(), if count > 64 { Refusal::HeaderCounts.at(0) } else { Answer::success(0) })
+    (draft.bytes(), if count > 64 { Refusal::HeaderCounts.at(0) } else { Answer::success(count) })
 }
 
 fn kinds(count: usize, rng: &mut Rng) -> (Vec<u8>, Answer) {
@@ -172,10 +191,9 @@ fn kinds(count: usize, rng: &mut Rng) -> (Vec<u8>, Answer) {
     draft.relations.push([1, count as u8, 0, 0]);
     draft.records.push(RecordDraft {
         objects: vec![rng.range(1, count) as u8, count as u8],
-        states: vec![vec![[2, 2, 0]]],
-        steps: Vec::new(),
+        ..of_a_step(0, vec![[2, 2, 0]])
     });
-    (draft.bytes(), if count > 8 { Refusal::HeaderCounts.at(0) } else { Answer::success(0) })
+    (draft.bytes(), if count > 8 { Refusal::HeaderCounts.at(0) } else { Answer::success(1) })
 }
 
 /// Each kind is the parent of the next. Objects of all kinds suit relation 1,
@@ -208,9 +226,8 @@ fn relations(count: usize, rng: &mut Rng) -> (Vec<u8>, Answer) {
         relation[1] = relation[0];
     }
     let object = draft.relations[0][0];
-    let states = vec![vec![[count as u8, object, 0]]];
-    draft.records.push(RecordDraft { objects: vec![1], states, steps: Vec::new() });
-    (draft.bytes(), if count > 16 { Refusal::HeaderCounts.at(0) } else { Answer::success(0) })
+    draft.records.push(of_a_step(1, vec![[count as u8, object, 0]]));
+    (draft.bytes(), if count > 16 { Refusal::HeaderCounts.at(0) } else { Answer::success(1) })
 }
 
 fn moves(count: usize, rng: &mut Rng) -> (Vec<u8>, Answer) {

@@ -26,10 +26,10 @@ pub fn draft_of_length(length: usize, rng: &mut Rng) -> BookDraft {
         moves: vec![[0; 6]],
         ..BookDraft::default()
     };
-    // Each record without steps takes 6 + 16 + 3·150 bytes, each step 457 more.
-    // What is left is then filled by one record of fitting objects and facts.
+    // Each record takes 6 + 16 + 3·150 bytes, and 457 for each step. What is left is
+    // then filled by a few records of one step, of fitting objects and facts.
     let state = || first_facts(16, FACTS);
-    while length - draft.length() > 1000 {
+    while length - draft.length() > 1500 {
         let room = (length - draft.length() - 1000) / 457;
         let steps = room.min(rng.range(40, 64));
         draft.records.push(RecordDraft {
@@ -41,13 +41,13 @@ pub fn draft_of_length(length: usize, rng: &mut Rng) -> BookDraft {
     while length > draft.length() {
         let rest = length - draft.length();
         let share = if rest > 500 { rest / 2 } else { rest };
-        // The objects that leave a multiple of 3 for the facts.
-        let objects = (14..=16).find(|o| (share - 6 - o) % 3 == 0).expect("one of three in a row");
-        let facts = first_facts(objects, (share - 6 - objects) / 3);
+        // The objects that leave a multiple of 6 for the facts of two states.
+        let objects = (11..=16).find(|o| (share - 13 - o) % 6 == 0).expect("one of six in a row");
+        let facts = first_facts(objects, (share - 13 - objects) / 6);
         draft.records.push(RecordDraft {
             objects: vec![1; objects],
-            states: vec![facts],
-            steps: Vec::new(),
+            states: vec![facts; 2],
+            steps: vec![[1, 0, 0, 0, 0]],
         });
     }
     debug_assert_eq!(draft.length(), length);

@@ -9,6 +9,9 @@ use super::rng::Rng;
 
 pub type State = BTreeSet<Fact>;
 
+/// How many halls are drawn for one in which a step goes.
+const RECORD_TRIES: usize = 20;
+
 /// How the states of a record come about.
 #[derive(Clone, Copy, PartialEq, Eq, Debug)]
 pub enum Dynamics {
@@ -99,10 +102,24 @@ impl World {
         state
     }
 
-    pub fn record(&self, shape: &Shape, dynamics: Dynamics, rng: &mut Rng) -> RecordDraft {
+    /// A trajectory of a step or more, as it may be filed. `None` if no step is found
+    /// that goes.
+    pub fn record(&self, shape: &Shape, dynamics: Dynamics, rng: &mut Rng) -> Option<RecordDraft> {
+        let mut drawn = (0..RECORD_TRIES).map(|_| self.trajectory(shape, 1, dynamics, rng));
+        drawn.find(|record| !record.steps.is_empty())
+    }
+
+    /// From `least` steps on, or fewer if no other goes.
+    pub fn trajectory(
+        &self,
+        shape: &Shape,
+        least: usize,
+        dynamics: Dynamics,
+        rng: &mut Rng,
+    ) -> RecordDraft {
         let objects = self.objects(shape, rng);
         let mut state = self.state(&objects, shape.facts, rng);
-        let wanted = rng.range(0, shape.steps);
+        let wanted = rng.range(least, shape.steps);
         let mut record = RecordDraft { objects, ..RecordDraft::default() };
         record.states.push(state.iter().copied().collect());
         while record.steps.len() < wanted {

@@ -17,7 +17,7 @@ pub struct BookStream {
 }
 
 /// The rows of a book's form, in the order of the table.
-const FORM: [u32; 11] = [1, 2, 3, 21, 4, 5, 6, 7, 8, 9, 10];
+const FORM: [u32; 12] = [1, 2, 3, 21, 4, 5, 6, 24, 7, 8, 9, 10];
 
 /// Kinds of random damage, whose answer only an implementation can tell.
 const RANDOM: [&str; 8] = [

@@ -22,6 +22,7 @@ pub mod hall;
 pub mod kinds;
 pub mod learning;
 pub mod mixed;
+pub mod no_steps;
 pub mod order;
 pub mod order_faults;
 pub mod parent_faults;

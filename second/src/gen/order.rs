@@ -30,7 +30,7 @@ pub fn for_world(world: &World, shape: &Shape, rng: &mut Rng) -> OrderDraft {
         55..=84 => None,
         _ => Some(made_up(world, shape, rng)),
     }
-    .unwrap_or_else(|| world.record(shape, Dynamics::Follows, rng));
+    .unwrap_or_else(|| world.trajectory(shape, 0, Dynamics::Follows, rng));
     if rng.chance(50) {
         let mut numbers: Vec<u8> = (1..=record.objects.len() as u8).collect();
         rng.shuffle(&mut numbers);

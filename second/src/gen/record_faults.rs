@@ -1,7 +1,9 @@
-//! Faults in records and behind them: rows 6 to 10.
+//! Faults in records and behind them: rows 6 to 10. Those of row 24 stand in
+//! `no_steps.rs`.
 
 use super::aim::{Aim, Hit};
 use super::draft::{put_number, BookDraft, Fact, RecordDraft, RecordLayout};
+use super::no_steps;
 use super::rng::Rng;
 use super::spoil::{over, Scene, FACT_FAULTS, STEP_FAULTS, TWICE_FAULTS};
 use crate::answer::Refusal;
@@ -10,6 +12,7 @@ use crate::calls::Form;
 /// For drafts of this form.
 pub fn aims(form: Form) -> Vec<Aim<BookDraft>> {
     let mut aims = head_and_tail();
+    aims.extend(no_steps::aims());
     aims.extend(objects());
     aims.extend(states(form));
     aims.extend(steps());
@@ -17,14 +20,14 @@ pub fn aims(form: Form) -> Vec<Aim<BookDraft>> {
 }
 
 /// A record drawn from a draft, with the whole book's bytes to be changed.
-struct Site<'a> {
-    record: &'a RecordDraft,
-    layout: RecordLayout,
+pub(super) struct Site<'a> {
+    pub(super) record: &'a RecordDraft,
+    pub(super) layout: RecordLayout,
     last: bool,
-    bytes: Vec<u8>,
+    pub(super) bytes: Vec<u8>,
 }
 
-fn site<'a>(draft: &'a BookDraft, rng: &mut Rng) -> Option<Site<'a>> {
+pub(super) fn site<'a>(draft: &'a BookDraft, rng: &mut Rng) -> Option<Site<'a>> {
     let index = (!draft.records.is_empty()).then(|| rng.below(draft.records.len()))?;
     Some(Site {
         record: &draft.records[index],
@@ -35,18 +38,18 @@ fn site<'a>(draft: &'a BookDraft, rng: &mut Rng) -> Option<Site<'a>> {
 }
 
 impl Site<'_> {
-    fn hit(self, place: usize) -> Option<Hit> {
+    pub(super) fn hit(self, place: usize) -> Option<Hit> {
         Some(Hit { bytes: self.bytes, place })
     }
 
     /// Lets the record end at `end`, by its head alone; what follows in the
     /// book is reached only after the cut has been met.
-    fn end_record(&mut self, end: usize) {
+    pub(super) fn end_record(&mut self, end: usize) {
         put_number(&mut self.bytes, self.layout.at + 2, end - self.layout.at);
     }
 }
 
-fn renew_end(bytes: &mut [u8]) {
+pub(super) fn renew_end(bytes: &mut [u8]) {
     let end = bytes.len();
     put_number(bytes, 14, end);
 }

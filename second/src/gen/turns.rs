@@ -183,7 +183,11 @@ impl Turns {
             },
         };
         if rng.chance(30) {
-            case.book.records.push(case.record.clone());
+            // In the record before, the same holds and nothing turns.
+            let mut before = case.record.clone();
+            before.steps.push(STEP);
+            before.states.push(Vec::new());
+            case.book.records.push(before);
         }
         if rng.chance(50) {
             let some = rng.below(case.record.states[0].len() + 1);

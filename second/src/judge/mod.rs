@@ -79,8 +79,8 @@ struct Plan<const WORDS: usize> {
 /// The judge's verdict on a book and each start of an order, both of good form.
 ///
 /// # Panics
-/// If a move has over 8 lifted atoms, or if the end states of a passing plan
-/// differ between models.
+/// If a record has no steps, if a move has over 8 lifted atoms, or if the end states
+/// of a passing plan differ between models.
 #[must_use]
 pub fn verdicts(book: &[u8], form: Form, order: &[u8]) -> Vec<Verdict> {
     judge(book, form, order).into_iter().map(|judgement| judgement.verdict).collect()

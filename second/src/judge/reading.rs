@@ -73,6 +73,7 @@ pub(super) fn read_book<const WORDS: usize>(
     let mut transitions = Vec::new();
     for _ in 0..records {
         let head = reader.take(4);
+        assert!(head[1] > 0, "a book with a record of no steps is not of good form");
         reader.take(usize::from(head[0]));
         let mut before: State<WORDS> = reader.state();
         for _ in 0..head[1] {

@@ -4,7 +4,9 @@
 //! The old book is the small hall, the record its own once more unless a name
 //! says otherwise. Row 13 comes last, and a refusal writes nothing.
 
-use super::hall::{changed, empty_end, filed, small_hall, unbound, unrecorded, with, HEAD, STEP};
+use super::hall::{
+    changed, empty_end, filed, small_hall, still, story, unbound, unrecorded, with, HEAD, STEP,
+};
 use super::Vector;
 use crate::answer::{Answer, Refusal};
 use crate::calls::Job::{Add, LookOver};
@@ -26,13 +28,8 @@ fn add(name: impl Into<String>, book: Vec<u8>, record: Vec<u8>, answer: Answer) 
     Vector::new(name, &[Add], book, answer).record(record).output(length)
 }
 
-/// A record of no objects, no steps and an empty state.
-fn bare() -> RecordDraft {
-    RecordDraft { states: vec![Vec::new()], ..RecordDraft::default() }
-}
-
 fn sixty_four() -> BookDraft {
-    with(vec![bare(); 64])
+    with(vec![still(); 64])
 }
 
 /// Each row that the record or the new book can meet, with an output one byte
@@ -46,10 +43,11 @@ fn output_short() -> Vec<Vector> {
     tail.push(0);
     let mut behind = filed().bytes();
     behind.push(0);
-    let full = fullbook::of_length(BOOK_LIMIT - 5, &mut Rng::new(5));
+    let more = story(&[false; 2], &[1]).bytes();
+    let full = fullbook::of_length(BOOK_LIMIT + 1 - more.len(), &mut Rng::new(5));
     let good = || filed().bytes();
     let cases = [
-        ("1", full, bare().bytes(), Refusal::Length.at(0)),
+        ("1", full, more, Refusal::Length.at(0)),
         ("2", sixty_four().bytes(), good(), Refusal::HeaderCounts.at(0)),
         ("6 at no byte", hall(), Vec::new(), Refusal::Record.at(end)),
         ("6 at a cut head", hall(), vec![0, 0, 0], Refusal::Record.at(end)),
@@ -157,9 +155,9 @@ fn succeeds() -> Vec<Vector> {
         add(
             "added: the first record",
             unrecorded().bytes(),
-            bare().bytes(),
-            Answer::success(HEAD + 6),
+            still().bytes(),
+            Answer::success(HEAD + 16),
         )
-        .after(with([bare()]).bytes()),
+        .after(with([still()]).bytes()),
     ]
 }

@@ -38,7 +38,7 @@ fn name(answer: u32, part: &str, label: Label) -> String {
     format!("{answer}: {part}, {label}")
 }
 
-/// Rows 1 to 10: each of the four calls meets them.
+/// Rows 1 to 10, 21 and 24: each of the four calls meets them.
 pub fn books() -> Vec<Vector> {
     let aims = front_faults::aims().into_iter().chain(record_faults::aims(Form::Full));
     aims.flat_map(|aim| {
@@ -51,7 +51,7 @@ pub fn books() -> Vec<Vector> {
     .collect()
 }
 
-/// Rows 6 to 10 in a short book: each call that reads one meets them.
+/// Rows 6 to 10 and 24 in a short book: each call that reads one meets them.
 pub fn short_books() -> Vec<Vector> {
     let of_aim = |aim: Aim<BookDraft>| {
         let name = name(aim.refusal as u32, "short book", aim.label);

@@ -2,7 +2,7 @@
 //! all of the book's form.
 
 use super::converting::{converted, refused};
-use super::hall::{end_sheet, sheet};
+use super::hall::{end_sheet, sheet, story};
 use super::Vector;
 use crate::answer::{Answer, Refusal};
 use crate::calls::Form;
@@ -42,28 +42,27 @@ pub fn of_length(form: Form, length: usize) -> BookDraft {
         steps: vec![[1, 0, 0, 0, 0]; steps],
     };
     let mut draft = front(form);
-    let (bare, step) = (record(0).length(), 7 + 3 * list.len());
-    // What is left of 6 bytes or more is for records of objects alone.
-    while length - draft.length() >= bare + 6 {
-        let steps = (length - draft.length() - bare - 6) / step;
+    let (front, step) = (record(0).length(), 7 + 3 * list.len());
+    // What is left of 13 bytes or more is for records of a step and objects alone.
+    while length - draft.length() >= front + step + 13 {
+        let steps = (length - draft.length() - front - 13) / step;
         draft.records.push(record(steps.min(64)));
     }
     while length > draft.length() {
         let objects = match length - draft.length() {
-            rest @ ..23 => rest - 6,
-            // 6 bytes are left.
-            rest @ 23..28 => rest - 12,
+            rest @ ..30 => rest - 13,
+            // 13 bytes are left.
+            rest @ 30..42 => rest - 26,
             _ => OBJECT_LIMIT,
         };
-        let states = vec![Vec::new()];
-        draft.records.push(RecordDraft { objects: vec![1; objects], states, steps: Vec::new() });
+        draft.records.push(RecordDraft { objects: vec![1; objects], ..story(&[false; 2], &[1]) });
     }
     assert_eq!(draft.length(), length);
     draft
 }
 
 /// A book of this form whose twin has this length.
-fn to_length(form: Form, length: usize) -> BookDraft {
+pub fn to_length(form: Form, length: usize) -> BookDraft {
     of_length(form.other(), length).twin()
 }
 
@@ -123,9 +122,9 @@ fn looked_over(form: Form) -> Vec<Vector> {
 /// move 2 has no step.
 fn long_twin() -> Vec<Vector> {
     let book = to_length(Form::Short, 65_000);
-    let bare = RecordDraft { states: vec![Vec::new()], ..RecordDraft::default() };
+    let more = story(&[false; 2], &[1]);
     let mut new = book.clone();
-    new.records.push(bare.clone());
+    new.records.push(more.clone());
     let order = OrderDraft {
         starts: vec![Vec::new()],
         steps: vec![[1, 0, 0, 0, 0]],
@@ -145,7 +144,7 @@ fn long_twin() -> Vec<Vector> {
             .output(END_SHEET_LENGTH)
             .after(end_sheet(&[])),
         case(Add, Answer::success(new.length()))
-            .record(bare.bytes())
+            .record(more.bytes())
             .output(new.length())
             .after(new.bytes()),
     ]

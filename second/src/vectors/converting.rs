@@ -1,7 +1,7 @@
 //! Converting, by hand: a book's form before the output, what is left to learning,
 //! and what a converted book keeps. Its length, and 23, are in `converted_lengths`.
 
-use super::hall::{filed, small_hall, with, with_parents};
+use super::hall::{filed, small_hall, still, with, with_parents};
 use super::lent::{impossible, malformed};
 use super::short_hall::{short_hall, short_with, turned};
 use super::Vector;
@@ -40,7 +40,7 @@ pub fn refused(name: &str, draft: &BookDraft, lent: usize, answer: Answer) -> Ve
         .output(lent)
 }
 
-/// Rows 1 to 10 and 21, with an output that is short and one that is not.
+/// Rows 1 to 10, 21 and 24, with an output that is short and one that is not.
 fn of_bad_form() -> Vec<Vector> {
     let mut vectors = Vec::new();
     for form in Form::BOTH {
@@ -76,9 +76,7 @@ fn left_to_learning() -> Vec<Vector> {
 /// The header but for its end, and all that is no state after a step, stay as they
 /// are; each record begins anew.
 fn kept() -> Vec<Vector> {
-    let bare = RecordDraft { states: vec![Vec::new()], ..RecordDraft::default() };
-    let idle =
-        RecordDraft { states: vec![filed().states[0].clone()], steps: Vec::new(), ..filed() };
+    let idle = RecordDraft { states: vec![filed().states[0].clone(); 2], ..filed() };
     let there_and_back = RecordDraft {
         states: filed().states.into_iter().cycle().take(6).collect(),
         steps: [[1, 1, 2, 3, 0], [1, 1, 3, 2, 0]].repeat(3)[..5].to_vec(),
@@ -90,10 +88,10 @@ fn kept() -> Vec<Vector> {
         ("no bytes but the header", BookDraft::default()),
         ("no record", with([])),
         ("parents", with_parents(&[0, 0])),
-        ("records without steps", with([bare.clone(), idle.clone(), bare.clone()])),
+        ("records in which nothing changes", with([still(), idle.clone(), still()])),
         ("there and back", with([there_and_back.clone()])),
         ("nothing turns", with([stays.clone()])),
-        ("several records", with([filed(), bare, there_and_back, idle, stays, filed()])),
+        ("several records", with([filed(), still(), there_and_back, idle, stays, filed()])),
         ("length over 255", with(vec![filed(); 9])),
     ];
     let of_both = |(name, full): (&str, BookDraft)| {

@@ -43,9 +43,9 @@ fn objects(hall: &[u8]) -> Vec<Vector> {
     }
     // A fact of no places, with an object in the one or the other.
     for fact in [1, 32, 128].into_iter().flat_map(|object| [[1, object, 0], [1, 0, object]]) {
-        let mut record = story(&[true], &[]);
+        let mut record = story(&[true, false], &[1]);
         record.states[0] = vec![fact];
-        let book = one_fact(0, [record]);
+        let book = one_fact(1, [record]);
         let answer = Refusal::State.at(book.layout().records[0].states[0] + 2);
         let name = format!("8: a fact of no places with objects {} {}", fact[1], fact[2]);
         vectors.push(Vector::new(name, &Job::OF_BOTH_FORMS, book.bytes(), answer));

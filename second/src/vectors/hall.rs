@@ -69,6 +69,16 @@ pub fn empty_end() -> RecordDraft {
     record
 }
 
+/// The filed roll with no fact before it or after it, which is the same in both forms.
+pub fn still() -> RecordDraft {
+    RecordDraft { states: vec![Vec::new(); 2], ..filed() }
+}
+
+/// The filed record as it is handed in if the form is left empty.
+pub fn without_steps() -> RecordDraft {
+    RecordDraft { states: vec![filed().states[0].clone()], steps: Vec::new(), ..filed() }
+}
+
 /// The marked cases' hall has bank 1 and spots 2, 3, 4.
 pub fn order(start: &[Fact], goal: &[(u8, Fact)], steps: &[Step]) -> OrderDraft {
     OrderDraft {

@@ -21,6 +21,8 @@ mod hall;
 mod largest;
 mod lent;
 mod many;
+mod no_steps;
+mod no_steps_calls;
 mod offsets;
 mod paper;
 mod parents;
@@ -106,6 +108,8 @@ pub fn all() -> Vec<Vector> {
     vectors.extend(converting::all());
     vectors.extend(converted_lengths::all());
     vectors.extend(aimed::short_books());
+    vectors.extend(no_steps::all());
+    vectors.extend(no_steps_calls::all());
     vectors
 }
 

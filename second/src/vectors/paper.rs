@@ -114,10 +114,11 @@ pub fn decisions() -> Vec<Vector> {
     let both_places = BookDraft {
         kinds: 1,
         relations: vec![[2, 1, 1, 0]],
+        moves: vec![[0; 6]],
         records: vec![RecordDraft {
             objects: vec![1],
-            states: vec![vec![[1, 1, 1]]],
-            steps: Vec::new(),
+            states: vec![vec![[1, 1, 1]]; 2],
+            steps: vec![[1, 0, 0, 0, 0]],
         }],
         ..BookDraft::default()
     };
@@ -131,7 +132,7 @@ pub fn decisions() -> Vec<Vector> {
             "D5 a fact of one object in both places",
             &[LookOver],
             both_places.bytes(),
-            Answer::success(0),
+            Answer::success(1),
         ),
         check(
             "D6 a goal fact with 1 and with 0",
@@ -173,7 +174,7 @@ pub fn limits() -> Vec<Vector> {
     );
 
     // A new length of 60,000 and of 60,001.
-    let record = RecordDraft { states: vec![Vec::new()], ..RecordDraft::default() };
+    let record = story(&[false; 2], &[1]);
     for length in [60_000, 60_001] {
         let book = fullbook::of_length(length - record.length(), &mut Rng::new(5));
         let add = |answer| {

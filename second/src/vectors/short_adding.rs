@@ -2,7 +2,7 @@
 //! step stands 20 bytes behind its head.
 
 use super::converted_lengths::of_length;
-use super::hall::{changed, filed, small_hall, unrecorded, HEAD, STEP};
+use super::hall::{changed, filed, small_hall, still, story, unrecorded, HEAD, STEP};
 use super::short_hall::{short_hall, short_with, turned};
 use super::Vector;
 use crate::answer::{Answer, Refusal};
@@ -87,13 +87,13 @@ fn of_the_record() -> Vec<Vector> {
 
 /// The old book first, then the new length, the record count and the output.
 fn of_the_books() -> Vec<Vector> {
-    let bare = RecordDraft { states: vec![Vec::new()], ..RecordDraft::default() };
-    let many = short_with(vec![bare.clone(); 64]).bytes();
-    let long = of_length(Form::Short, BOOK_LIMIT - 5).bytes();
+    let many = short_with(vec![still(); 64]).bytes();
+    let more = story(&[false; 2], &[1]).bytes();
+    let long = of_length(Form::Short, BOOK_LIMIT + 1 - more.len()).bytes();
     let list = STEP + 5;
     let wrong = changed(short_hall().bytes(), &[(list + 7, &[2])]);
     vec![
-        add("1 of the new length", long, bare.bytes(), Refusal::Length.at(0)),
+        add("1 of the new length", long, more, Refusal::Length.at(0)),
         add("2 of the new count", many, turned().bytes(), Refusal::HeaderCounts.at(0)),
         add("8 of the old book", wrong, vec![17], Refusal::State.at(list + 5)),
         add("13", short_hall().bytes(), turned().bytes(), Refusal::Output.at(0)).output(97),

@@ -68,6 +68,12 @@ fn at_count(name: &str, records: impl IntoIterator<Item = RecordDraft>) -> Vecto
     refused(name, book.bytes(), *place.expect("a record has a state"))
 }
 
+/// 8 at the count of the last record's first state.
+fn at_first<const N: usize>(name: &str, records: [RecordDraft; N]) -> Vector {
+    let book = book(records);
+    refused(name, book.bytes(), book.layout().records[N - 1].states[0])
+}
+
 /// 8 at the last fact.
 fn at_last_fact(name: &str, record: RecordDraft) -> Vector {
     let book = book([record]).bytes();
@@ -183,11 +189,11 @@ fn carried() -> Vec<Vector> {
         good("256 again after one vanished", [record(&[&one, last, first, first, last])]),
         good("256 in each of two records", [record(&[&one, &[]]), record(&[&[], &two])]),
         good("256 at the end of one record", [record(&[&[], &one]), record(&[&two, &[]])]),
-        at_count("257 in the second record", [record(&[&one]), record(&[&two, &one[7..8]])]),
+        at_count("257 in the second record", [record(&[&one, &[]]), record(&[&two, &one[7..8]])]),
         // If a record went on with what the last one left, 256 would be left here.
         at_count(
             "257 from none in the second record",
-            [record(&[&one]), record(&[&[], &one, first])],
+            [record(&[&one, &[]]), record(&[&[], &one, first])],
         ),
     ]
 }
@@ -197,9 +203,11 @@ fn first_states() -> Vec<Vector> {
     let (one, two) = (of_relation(1), of_relation(2));
     let more = [&one[..], &two[..1]].concat();
     vec![
-        good("first state of 256", [record(&[&one])]),
-        at_count("first state of 257", [record(&[&more])]),
-        at_count("second record's first state of 257", [record(&[&one, &one]), record(&[&more])]),
+        good("first state of 256", [record(&[&one, &[]])]),
+        at_first("first state of 257", [record(&[&more, &more])]),
+        at_first("second record's first state of 257", {
+            [record(&[&one, &one]), record(&[&more, &more])]
+        }),
     ]
 }
 
