@@ -41,12 +41,12 @@ use Rattle.observed.specs.Observed.{bound, Observed, observedSet, observe, obse
 use Rattle.observedright.proofs.Turned.{held-found, turn-marks, some-unbound}
 use Rattle.states.proofs.Looking.{whole-parts, good-whole}
 use Rattle.records.specs.declared.Scope.{Scope}
-use Rattle.records.specs.Readable.{stepAlone, stepListed}
+use Rattle.records.specs.Readable.{schemaIn, typedIn, stepAlone, stepListed}
 use Rattle.records.proofs.Parts.{alone-behind}
 use Rattle.marks.specs.Marks.{Suited, RightForFew}
 use Rattle.notes.specs.declared.Noted.{Noted}
 use Rattle.notes.specs.Notes.{observedStep, IsObserved, Turnable, observedTurned, TurnObserved}
-use Rattle.observing.specs.Observing.{schemaIn, objectsIn, Observable, Ready, Whole, Done}
+use Rattle.observing.specs.Observing.{Observable, Ready, Whole, Done}
 
 -- the bound facts of a move are of relations that the book has
 atoms-end : (sch : Schema) (a n : ℕ) → atomsEnd (sch .relations) ≤ n → sch .relations ≤ 16 → testBit (atomSet sch a) n ≡ false
@@ -71,20 +71,20 @@ module _ (s : List ℕ) (c : Scope) (table : List ℕ) (obs : Observable s c tab
   unfolding schema
   known = obs .known
 
-  pub few : objectsIn s c .count ≤ 16
+  pub few : typedIn s c .count ≤ 16
   unfolding typedObjects
   few = obs .few
 
   -- the table serves lists that turn
   pub right-few : RightForFew table
-  right-few = record { sch = schemaIn s c; ob = objectsIn s c; right = obs .right; few = few; known = known }
+  right-few = record { sch = schemaIn s c; ob = typedIn s c; right = obs .right; few = few; known = known }
 
   -- right facts suit by the table
-  pub right-suited : (fs : List Fact) → ((f : Fact) → Mem f fs → factBad (schemaIn s c) (objectsIn s c) f ≡ false) → Suited table fs
+  pub right-suited : (fs : List Fact) → ((f : Fact) → Mem f fs → factBad (schemaIn s c) (typedIn s c) f ≡ false) → Suited table fs
   unfolding RightByPlace
   right-suited fs right f m =
       let good = right f m in
-      let low = range-out (schemaIn s c .relations) (f .relation .0) (fact-parts (schemaIn s c) (objectsIn s c) f good .0) .1 in
+      let low = range-out (schemaIn s c .relations) (f .relation .0) (fact-parts (schemaIn s c) (typedIn s c) f good .0) .1 in
       go (suits table f) (obs .right f (omega (arith, low, known)) ∙ good)
     where
       go : (b : Bool) → not b ≡ false → b ≡ true
@@ -92,30 +92,30 @@ module _ (s : List ℕ) (c : Scope) (table : List ℕ) (obs : Observable s c tab
       go false e = clash true refl e
 
   -- a step and a list that were found good
-  pub listed-whole : (at next : ℕ) → stepListed (c .short) (schemaIn s c) (objectsIn s c) s (c .end) at ≡ Good next → Whole s c at
+  pub listed-whole : (at next : ℕ) → stepListed (c .short) (schemaIn s c) (typedIn s c) s (c .end) at ≡ Good next → Whole s c at
   unfolding stepListed
   listed-whole at next e =
-      let (listed, alone, good) = parted (stepAlone (schemaIn s c) (objectsIn s c) s (c .end) at) next _ e in
-      let place = alone-behind (schemaIn s c) (objectsIn s c) s (c .end) at listed alone .3 in
+      let (listed, alone, good) = parted (stepAlone (schemaIn s c) (typedIn s c) s (c .end) at) next _ e in
+      let place = alone-behind (schemaIn s c) (typedIn s c) s (c .end) at listed alone .3 in
       record {
         alone = alone ∙ ap Good place;
-        list = good-whole (mostListed (c .short)) 8 (schemaIn s c) (objectsIn s c) s (c .end) (at + stepSize) next (rw place at good);
+        list = good-whole (mostListed (c .short)) 8 (schemaIn s c) (typedIn s c) s (c .end) (at + stepSize) next (rw place at good);
       }
 
   module _ (at : ℕ) (whole : Whole s c at) where
     -- ---- what the form of the step gives
     behind : at + stepSize ≤ c .end
-    behind = alone-behind (schemaIn s c) (objectsIn s c) s (c .end) at (at + stepSize) (whole .alone) .0
+    behind = alone-behind (schemaIn s c) (typedIn s c) s (c .end) at (at + stepSize) (whole .alone) .0
 
-    pub right-step : RightStep (schemaIn s c) (objectsIn s c) (stepAt s at)
+    pub right-step : RightStep (schemaIn s c) (typedIn s c) (stepAt s at)
     right-step =
-        let (fits, suits, different, place) = alone-behind (schemaIn s c) (objectsIn s c) s (c .end) at (at + stepSize) (whole .alone) in
+        let (fits, suits, different, place) = alone-behind (schemaIn s c) (typedIn s c) s (c .end) at (at + stepSize) (whole .alone) in
         record { typed = obs .typed; suits = suits; different = different }
 
     pub step-move : (1 ≤ stepAt s at .action .0) × (stepAt s at .action .0 ≤ 32)
     unfolding schema
     step-move =
-        let w = move-there (schemaIn s c) (objectsIn s c) (stepAt s at) (right-step .suits) in
+        let w = move-there (schemaIn s c) (typedIn s c) (stepAt s at) (right-step .suits) in
         (w .0, omega (arith, w .1, obs .moves))
 
     pub step-within : (at ≤ maxLength) × (listEnd s (at + stepSize) ≤ length s)
@@ -125,7 +125,7 @@ module _ (s : List ℕ) (c : Scope) (table : List ℕ) (obs : Observable s c tab
     bounded : Bounded (stepAt s at .binding)
     unfolding argumentBad
     bounded p low high =
-        omega (arith, object-most (schemaIn s c) (objectsIn s c) _ (objectOf (stepAt s at .binding) p) _ (argument-right (schemaIn s c) (objectsIn s c) (stepAt s at) right-step (p .0) low high), few)
+        omega (arith, object-most (schemaIn s c) (typedIn s c) _ (objectOf (stepAt s at .binding) p) _ (argument-right (schemaIn s c) (typedIn s c) (stepAt s at) right-step (p .0) low high), few)
 
     module _ (pre : ℕ) (m : List ℕ) (held : ℕ) (masks : List ℕ) (ready : Ready s c pre m held masks) where
       ended : (n : ℕ) → atomsEnd (c .h .relations .count) ≤ n → testBit (observedSet masks (stepAt s at .action .0) bound) n ≡ false
@@ -146,7 +146,7 @@ module _ (s : List ℕ) (c : Scope) (table : List ℕ) (obs : Observable s c tab
           }
 
       pub ready-count : c .short ≡ true → held ≡ cardinality m
-      ready-count = carries-count (schemaIn s c) (objectsIn s c) few known (c .short) (ready .before) m held (ready .right .suits) (ready .right .increasing) (ready .carries)
+      ready-count = carries-count (schemaIn s c) (typedIn s c) few known (c .short) (ready .before) m held (ready .right .suits) (ready .right .increasing) (ready .carries)
 
       pub ready-suited : c .short ≡ false → Suited table (listAt s pre)
       ready-suited e = rw (ready .listed e .0) (right-suited (ready .before) (ready .right .suits))
@@ -162,24 +162,24 @@ module _ (s : List ℕ) (c : Scope) (table : List ℕ) (obs : Observable s c tab
           }
 
       -- ---- of a short one, whose list is good
-      module _ (e : c .short ≡ true) (next : ℕ) (good : list 8 (mostListed (c .short)) (schemaIn s c) (objectsIn s c) s (c .end) (at + stepSize) ≡ Good next) where
+      module _ (e : c .short ≡ true) (next : ℕ) (good : list 8 (mostListed (c .short)) (schemaIn s c) (typedIn s c) s (c .end) (at + stepSize) ≡ Good next) where
         abbrev own : List ℕ
         own = atomSet (schemaIn s c) (stepAt s at .action .0)
 
         abbrev ts : List Fact
         ts = listAt s (at + stepSize)
 
-        suit : (f : Fact) → Mem f ts → factBad (schemaIn s c) (objectsIn s c) f ≡ false
-        suit = list-suits (mostListed (c .short)) 8 (schemaIn s c) (objectsIn s c) s (c .end) (at + stepSize) next good
+        suit : (f : Fact) → Mem f ts → factBad (schemaIn s c) (typedIn s c) f ≡ false
+        suit = list-suits (mostListed (c .short)) 8 (schemaIn s c) (typedIn s c) s (c .end) (at + stepSize) next good
 
         order : Increasing noFact ts
-        order = list-increasing (mostListed (c .short)) 8 (schemaIn s c) (objectsIn s c) s (c .end) (at + stepSize) next good
+        order = list-increasing (mostListed (c .short)) 8 (schemaIn s c) (typedIn s c) s (c .end) (at + stepSize) next good
 
         found : heldAtoms (schemaIn s c) (stepAt s at .binding) own m ≡ atomsIn own (stepAt s at .binding) (ready .before)
         unfolding heldAtoms
         found =
             ap (λ (x : List ℕ). maskOf 32 (λ n. testBit own n && testBit x (ground (schemaIn s c) (stepAt s at .binding) n))) (ready .carries .mask e)
-            ∙ held-found (schemaIn s c) known (objectsIn s c) few (stepAt s at) right-step (ready .before) (ready .right .suits)
+            ∙ held-found (schemaIn s c) known (typedIn s c) few (stepAt s at) right-step (ready .before) (ready .right .suits)
 
         same : (named : ℕ) → observedTurned (schemaIn s c) (stepAt s at) own m ts at masks named ≡ observeBy own (recordedStep (c .short) s (ready .before) at) (record { masks = masks; named = named })
         unfolding observedTurned observeBy recordedStep
@@ -188,7 +188,7 @@ module _ (s : List ℕ) (c : Scope) (table : List ℕ) (obs : Observable s c tab
             rw (
               post,
               found,
-              turn-marks (schemaIn s c) known (objectsIn s c) few (stepAt s at) right-step (ready .before) ts (ready .right .suits) (ready .right .increasing) suit order,
+              turn-marks (schemaIn s c) known (typedIn s c) few (stepAt s at) right-step (ready .before) ts (ready .right .suits) (ready .right .increasing) suit order,
               some-unbound own (stepAt s at .binding) (ready .before) ts (ready .right .increasing) order,
             )
 

@@ -25,12 +25,12 @@ use Rattle.tables.specs.Tables.{RightByPlace}
 use Rattle.records.specs.declared.Head.{Head}
 use Rattle.records.specs.declared.Scope.{Scope}
 use Rattle.records.specs.Head.{headOf}
-use Rattle.records.specs.Readable.{scopeOf}
+use Rattle.records.specs.Readable.{schemaIn, scopeOf}
 use Rattle.observed.specs.Observed.{Observed, observeAll}
 use Rattle.observed.proofs.Records.{observed-record}
 use Rattle.notes.specs.Notes.{IsObserved}
 use Rattle.observing.specs.declared.Walked.{Walked}
-use Rattle.observing.specs.Observing.{schemaIn, Begun, Observable, Observes, RecordObserved}
+use Rattle.observing.specs.Observing.{Begun, Observable, Observes, RecordObserved}
 
 -- ---- a refusal says nothing of what is observed
 

@@ -20,13 +20,13 @@ use Rattle.turning.specs.Turning.{Carried}
 use Rattle.observed.specs.Observed.{bound, Observed, observedSet, observe, observeBy, observeAll}
 use Rattle.observed.proofs.Noted.{length-noted, noted-bound}
 use Rattle.records.specs.declared.Scope.{Scope}
-use Rattle.records.specs.Readable.{Readable, stepListed}
+use Rattle.records.specs.Readable.{schemaIn, typedIn, Readable, stepListed}
 use Rattle.records.proofs.Parts.{listed-good}
 use Rattle.records.proofs.Going.{Going, going-first, going-on}
 use Rattle.notes.specs.declared.Noted.{Noted}
 use Rattle.notes.specs.Notes.{IsObserved, observedStep}
 use Rattle.observing.proofs.Ready.{after-full, listed-whole, step-move}
-use Rattle.observing.specs.Observing.{schemaIn, objectsIn, Begun, Observable, Ready, Done}
+use Rattle.observing.specs.Observing.{Begun, Observable, Ready, Done}
 
 abbrev pub observedAs : List ℕ → ℕ → Observed
 observedAs masks named = record { masks = masks; named = named }
@@ -45,7 +45,7 @@ pub record Observing (s : List ℕ) (c : Scope) (first from : ℕ) (m : List ℕ
 
 module _ (s : List ℕ) (c : Scope) (ks table : List ℕ) (readable : Readable s c ks table) where
   -- ---- the first state
-  pub observing-first : (first from : ℕ) → first ≤ nearCeiling → state 8 (schemaIn s c) (objectsIn s c) s (c .end) first ≡ Good from
+  pub observing-first : (first from : ℕ) → first ≤ nearCeiling → state 8 (schemaIn s c) (typedIn s c) s (c .end) first ≡ Good from
       → (m m′ : List ℕ) (held : ℕ)
       → m ≡ empty stateSize
       → length m′ ≡ stateSize
@@ -68,7 +68,7 @@ module _ (s : List ℕ) (c : Scope) (ks table : List ℕ) (readable : Readable s
     observing-ready =
         record { before = obs .before; right = obs .going .right; listed = obs .listed; carries = obs .going .carries; long = obs .going .long; begun = obs .begun }
 
-    module _ (observable : Observable s c table) (some : 0 < left) (a : Answer) (told : a ≡ stepListed (c .short) (schemaIn s c) (objectsIn s c) s (c .end) at) (next : ℕ) (good : a ≡ Good next) where
+    module _ (observable : Observable s c table) (some : 0 < left) (a : Answer) (told : a ≡ stepListed (c .short) (schemaIn s c) (typedIn s c) s (c .end) at) (next : ℕ) (good : a ≡ Good next) where
       -- what is observed keeps its size and the bound facts of each move
       begun-on : (masks′ : List ℕ) (r : ℕ) → IsObserved (observedStep (c .short) s (obs .before) at masks named) masks′ r → Begun (schemaIn s c) masks′
       unfolding observedStep observe observeBy recordedStep
@@ -81,7 +81,7 @@ module _ (s : List ℕ) (c : Scope) (ks table : List ℕ) (readable : Readable s
 
       ends : (next ≡ listEnd s (at + stepSize)) × (listEnd s (at + stepSize) ≤ c .end) × (at + stepSize ≤ c .end)
       ends =
-          let (fits, behind) = listed-good (c .short) (schemaIn s c) (objectsIn s c) s (c .end) at next (sym told ∙ good) in
+          let (fits, behind) = listed-good (c .short) (schemaIn s c) (typedIn s c) s (c .end) at next (sym told ∙ good) in
           let (place, within) = list-ends (mostListed (c .short)) 8 _ _ s (c .end) (at + stepSize) next behind in
           (place, within, fits)
 

@@ -8,7 +8,7 @@ use Rattle.answer.specs.declared.Answer.{Answer}
 use Rattle.answer.specs.declared.Answer.the-variants.{Good}
 use Rattle.terms.specs.declared.Sections.{Sections}
 use Rattle.terms.specs.declared.Fact.{Fact}
-use Rattle.terms.specs.Schema.{Schema, TypedObjects, schema, typedObjects}
+use Rattle.terms.specs.Schema.{Schema, schema}
 use Rattle.terms.specs.Typing.{RightObjects}
 use Rattle.limits.specs.Limits.{maxLength, maxObjects, maxRelations, maxMoves, stepSize, stateSize, observedSize}
 use Rattle.format.specs.Lists.{listAt, listEnd}
@@ -18,7 +18,7 @@ use Rattle.format.specs.Records.{recordAt}
 use Rattle.tables.specs.Tables.{RightByPlace}
 use Rattle.states.specs.Looked.{wholeList}
 use Rattle.records.specs.declared.Scope.{Scope}
-use Rattle.records.specs.Readable.{stepAlone}
+use Rattle.records.specs.Readable.{schemaIn, typedIn, stepAlone}
 use Rattle.atoms.specs.Atoms.{atomSet}
 use Rattle.wellformed.specs.Right.{RightState}
 use Rattle.turning.specs.Turning.{Carried, Carries}
@@ -29,12 +29,6 @@ use Rattle.observing.specs.declared.Walked.{Walked}
 
 -- ---- one step
 
-abbrev pub schemaIn : List ℕ → Scope → Schema
-schemaIn s c = schema (c .h) s
-
-abbrev pub objectsIn : List ℕ → Scope → TypedObjects
-objectsIn s c = typedObjects (c .objects) s
-
 -- what is observed has its size, and the bound facts of each move among its sets
 pub record Begun (sch : Schema) (masks : List ℕ) : Type 0 where
   pub sized : length masks ≡ observedSize
@@ -42,18 +36,18 @@ pub record Begun (sch : Schema) (masks : List ℕ) : Type 0 where
 
 -- a record that ends within the book, no more of anything than there may be, its objects of the book's kinds, and the table by relation right for them
 pub record Observable (s : List ℕ) (c : Scope) (table : List ℕ) : Type 0 where
-  pub typed : RightObjects (schemaIn s c) (objectsIn s c)
+  pub typed : RightObjects (schemaIn s c) (typedIn s c)
   pub few : c .objects .count ≤ maxObjects
   pub known : c .h .relations .count ≤ maxRelations
   pub moves : c .h .moves .count ≤ maxMoves
   pub within : c .end ≤ length s
   pub near : c .end ≤ maxLength
-  pub right : RightByPlace (schemaIn s c) (objectsIn s c) table
+  pub right : RightByPlace (schemaIn s c) (typedIn s c) table
 
 -- what stands for the facts before a step: in a full book the list at an offset, in a short one the state that is carried
 pub record Ready (s : List ℕ) (c : Scope) (pre : ℕ) (m : List ℕ) (held : ℕ) (masks : List ℕ) : Type 0 where
   pub before : List Fact
-  pub right : RightState (schemaIn s c) (objectsIn s c) before
+  pub right : RightState (schemaIn s c) (typedIn s c) before
   pub listed : c .short ≡ false → (listAt s pre ≡ before) × (pre ≤ maxLength) × (listEnd s pre ≤ length s)
   pub carries : Carries (c .short) before m held
   pub long : length m ≡ stateSize
@@ -61,7 +55,7 @@ pub record Ready (s : List ℕ) (c : Scope) (pre : ℕ) (m : List ℕ) (held : �
 
 -- a right step at an offset, and a whole list behind it
 pub record Whole (s : List ℕ) (c : Scope) (at : ℕ) : Type 0 where
-  pub alone : stepAlone (schemaIn s c) (objectsIn s c) s (c .end) at ≡ Good (at + stepSize)
+  pub alone : stepAlone (schemaIn s c) (typedIn s c) s (c .end) at ≡ Good (at + stepSize)
   pub list : wholeList (mostListed (c .short)) s (c .end) (at + stepSize) ≡ true
 
 -- the step observed: what is observed, and what is carried on

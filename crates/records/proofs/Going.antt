@@ -12,7 +12,7 @@ use Rattle.answer.specs.declared.Answer.{Answer}
 use Rattle.answer.specs.declared.Answer.the-variants.{Good, Refused}
 use Rattle.mask.specs.Sets.{empty, cardinality}
 use Rattle.terms.specs.declared.Fact.{Fact}
-use Rattle.terms.specs.Schema.{Schema, TypedObjects, schema, typedObjects}
+use Rattle.terms.specs.Schema.{schema, typedObjects}
 use Rattle.format.specs.Lists.{listAt}
 use Rattle.format.specs.Form.{mostListed, stateAfter}
 use Rattle.format.specs.States.{list, state}
@@ -24,48 +24,42 @@ use Rattle.wellformed.proofs.Sorted.{mem-none}
 use Rattle.turning.specs.Turning.{Turnable, Carried, Carries}
 use Rattle.turning.proofs.Carrying.{carries-none, carries-count, carried-on, carried-many, after-none, list-turnable}
 use Rattle.records.specs.declared.Scope.{Scope}
-use Rattle.records.specs.Readable.{Readable, stepListed}
+use Rattle.records.specs.Readable.{schemaIn, typedIn, Readable, stepListed}
 use Rattle.records.proofs.Parts.{listed-good, steps-none, steps-refused, steps-many, steps-on}
-
-abbrev schemaIn : List ℕ → Scope → Schema
-schemaIn s c = schema (c .h) s
-
-abbrev objectsIn : List ℕ → Scope → TypedObjects
-objectsIn s c = typedObjects (c .objects) s
 
 -- the steps that are left, from the facts that hold before them, answer as all of them do; the state of these facts is carried
 pub record Going (s : List ℕ) (c : Scope) (first from : ℕ) (before : List Fact) (m : List ℕ) (count left at : ℕ) : Type 0 where
   pub near : at ≤ maxLength
   pub long : length m ≡ stateSize
-  pub right : RightState (schemaIn s c) (objectsIn s c) before
+  pub right : RightState (schemaIn s c) (typedIn s c) before
   pub carries : Carries (c .short) before m count
-  pub rest : steps (c .short) (schemaIn s c) (objectsIn s c) s (c .end) left before at ≡ steps (c .short) (schemaIn s c) (objectsIn s c) s (c .end) (c .steps) (listAt s first) from
+  pub rest : steps (c .short) (schemaIn s c) (typedIn s c) s (c .end) left before at ≡ steps (c .short) (schemaIn s c) (typedIn s c) s (c .end) (c .steps) (listAt s first) from
 
 module _ (s : List ℕ) (c : Scope) (ks t : List ℕ) (readable : Readable s c ks t) where
   known : schemaIn s c .relations ≤ 16
   unfolding schema
   known = readable .known
 
-  few : objectsIn s c .count ≤ 16
+  few : typedIn s c .count ≤ 16
   unfolding typedObjects
   few = readable .few
 
   -- ---- the first state
 
-  module _ (first from : ℕ) (near : first ≤ nearCeiling) (good : state 8 (schemaIn s c) (objectsIn s c) s (c .end) first ≡ Good from) where
+  module _ (first from : ℕ) (near : first ≤ nearCeiling) (good : state 8 (schemaIn s c) (typedIn s c) s (c .end) first ≡ Good from) where
     pub first-turnable : Turnable s first
-    first-turnable = list-turnable maxFacts 8 (schemaIn s c) (objectsIn s c) few known s (c .end) first from good (readable .within) near
+    first-turnable = list-turnable maxFacts 8 (schemaIn s c) (typedIn s c) few known s (c .end) first from good (readable .within) near
 
     pub going-first : (m m′ : List ℕ) (count : ℕ) → m ≡ empty stateSize → length m′ ≡ stateSize → Carried (c .short) s first m m′ count → Going s c first from (listAt s first) m′ count (c .steps) from
     going-first m m′ count e long carried =
-        let order = list-increasing maxFacts 8 (schemaIn s c) (objectsIn s c) s (c .end) first from good in
+        let order = list-increasing maxFacts 8 (schemaIn s c) (typedIn s c) s (c .end) first from good in
         record {
-          near = omega (arith, list-within maxFacts 8 (schemaIn s c) (objectsIn s c) s (c .end) first from good, readable .near);
+          near = omega (arith, list-within maxFacts 8 (schemaIn s c) (typedIn s c) s (c .end) first from good, readable .near);
           long = long;
-          right = state-right 8 (schemaIn s c) (objectsIn s c) s (c .end) first from good;
+          right = state-right 8 (schemaIn s c) (typedIn s c) s (c .end) first from good;
           carries = subst (λ (fs : List Fact). Carries (c .short) fs m′ count) (after-none (c .short) s first order)
-              (carried-on (schemaIn s c) (objectsIn s c) few known (c .short) [] (empty stateSize) 0 (λ f m. absurd (mem-none m)) tt (carries-none (c .short)) s first
-              (list-suits maxFacts 8 (schemaIn s c) (objectsIn s c) s (c .end) first from good) order m′ count (rw e at carried));
+              (carried-on (schemaIn s c) (typedIn s c) few known (c .short) [] (empty stateSize) 0 (λ f m. absurd (mem-none m)) tt (carries-none (c .short)) s first
+              (list-suits maxFacts 8 (schemaIn s c) (typedIn s c) s (c .end) first from good) order m′ count (rw e at carried));
           rest = refl;
         }
 
@@ -73,29 +67,29 @@ module _ (s : List ℕ) (c : Scope) (ks t : List ℕ) (readable : Readable s c k
 
   module _ (first from : ℕ) (before : List Fact) (m : List ℕ) (count left at : ℕ) (going : Going s c first from before m count left at) where
     pub going-count : c .short ≡ true → count ≡ cardinality m
-    going-count = carries-count (schemaIn s c) (objectsIn s c) few known (c .short) before m count (going .right .suits) (going .right .increasing) (going .carries)
+    going-count = carries-count (schemaIn s c) (typedIn s c) few known (c .short) before m count (going .right .suits) (going .right .increasing) (going .carries)
 
-    module _ (some : 0 < left) (a : Answer) (listed : a ≡ stepListed (c .short) (schemaIn s c) (objectsIn s c) s (c .end) at) where
-      pub going-refused : (k p : ℕ) → a ≡ Refused k p → Refused k p ≡ steps (c .short) (schemaIn s c) (objectsIn s c) s (c .end) (c .steps) (listAt s first) from
-      going-refused k p e = steps-refused (c .short) (schemaIn s c) (objectsIn s c) s (c .end) _ left at before (going .rest) some a listed k p e
+    module _ (some : 0 < left) (a : Answer) (listed : a ≡ stepListed (c .short) (schemaIn s c) (typedIn s c) s (c .end) at) where
+      pub going-refused : (k p : ℕ) → a ≡ Refused k p → Refused k p ≡ steps (c .short) (schemaIn s c) (typedIn s c) s (c .end) (c .steps) (listAt s first) from
+      going-refused k p e = steps-refused (c .short) (schemaIn s c) (typedIn s c) s (c .end) _ left at before (going .rest) some a listed k p e
 
       module _ (next : ℕ) (good : a ≡ Good next) where
-        behind : (at + stepSize ≤ c .end) × (list 8 (mostListed (c .short)) (schemaIn s c) (objectsIn s c) s (c .end) (at + stepSize) ≡ Good next)
-        behind = listed-good (c .short) (schemaIn s c) (objectsIn s c) s (c .end) at next (sym listed ∙ good)
+        behind : (at + stepSize ≤ c .end) × (list 8 (mostListed (c .short)) (schemaIn s c) (typedIn s c) s (c .end) (at + stepSize) ≡ Good next)
+        behind = listed-good (c .short) (schemaIn s c) (typedIn s c) s (c .end) at next (sym listed ∙ good)
 
         pub going-turnable : Turnable s (at + stepSize)
         going-turnable =
-            list-turnable (mostListed (c .short)) 8 (schemaIn s c) (objectsIn s c) few known s (c .end) (at + stepSize) next (behind .1) (readable .within) (omega (arith, behind .0, readable .near))
+            list-turnable (mostListed (c .short)) 8 (schemaIn s c) (typedIn s c) few known s (c .end) (at + stepSize) next (behind .1) (readable .within) (omega (arith, behind .0, readable .near))
 
         module _ (m′ : List ℕ) (count′ : ℕ) (carried : Carried (c .short) s (at + stepSize) m m′ count′) where
           many : ltb maxFacts count′ ≡ ltb maxFacts (length (stateAfter (c .short) s before (at + stepSize)))
           many =
-              carried-many (schemaIn s c) (objectsIn s c) few known (c .short) before m count (going .right .suits) (going .right .increasing) (going .carries) s (at + stepSize)
+              carried-many (schemaIn s c) (typedIn s c) few known (c .short) before m count (going .right .suits) (going .right .increasing) (going .carries) s (at + stepSize)
               (list-suits (mostListed (c .short)) 8 _ _ s (c .end) _ next (behind .1)) (list-increasing (mostListed (c .short)) 8 _ _ s (c .end) _ next (behind .1)) m′ count′ carried
               (list-few (mostListed (c .short)) 8 _ _ s (c .end) _ next (behind .1))
 
-          pub going-many : maxFacts < count′ → Refused 8 (at + stepSize) ≡ steps (c .short) (schemaIn s c) (objectsIn s c) s (c .end) (c .steps) (listAt s first) from
-          going-many l = steps-many (c .short) (schemaIn s c) (objectsIn s c) s (c .end) _ left at before (going .rest) some a listed next good _ many (lt-ltb _ _ l)
+          pub going-many : maxFacts < count′ → Refused 8 (at + stepSize) ≡ steps (c .short) (schemaIn s c) (typedIn s c) s (c .end) (c .steps) (listAt s first) from
+          going-many l = steps-many (c .short) (schemaIn s c) (typedIn s c) s (c .end) _ left at before (going .rest) some a listed next good _ many (lt-ltb _ _ l)
 
           pub going-on : length m′ ≡ stateSize → count′ ≤ maxFacts → Going s c first from (stateAfter (c .short) s before (at + stepSize)) m′ count′ (left - 1) next
           going-on long l =
@@ -104,10 +98,10 @@ module _ (s : List ℕ) (c : Scope) (ks t : List ℕ) (readable : Readable s c k
                 near = omega (arith, list-within (mostListed (c .short)) 8 _ _ s (c .end) _ next (behind .1), readable .near);
                 long = long;
                 right = next-right (c .short) _ _ s (c .end) before (at + stepSize) next (going .right) (next-in (c .short) _ _ s (c .end) before (at + stepSize) next (behind .1) size);
-                carries = carried-on (schemaIn s c) (objectsIn s c) few known (c .short) before m count (going .right .suits) (going .right .increasing) (going .carries) s (at + stepSize)
+                carries = carried-on (schemaIn s c) (typedIn s c) few known (c .short) before m count (going .right .suits) (going .right .increasing) (going .carries) s (at + stepSize)
                     (list-suits (mostListed (c .short)) 8 _ _ s (c .end) _ next (behind .1)) (list-increasing (mostListed (c .short)) 8 _ _ s (c .end) _ next (behind .1)) m′ count′ carried;
-                rest = steps-on (c .short) (schemaIn s c) (objectsIn s c) s (c .end) _ left at before (going .rest) some a listed next good _ many (le-ltb _ _ l);
+                rest = steps-on (c .short) (schemaIn s c) (typedIn s c) s (c .end) _ left at before (going .rest) some a listed next good _ many (le-ltb _ _ l);
               }
 
-    pub going-none : left ≡ 0 → Good at ≡ steps (c .short) (schemaIn s c) (objectsIn s c) s (c .end) (c .steps) (listAt s first) from
-    going-none e = steps-none (c .short) (schemaIn s c) (objectsIn s c) s (c .end) _ left at before (going .rest) e
+    pub going-none : left ≡ 0 → Good at ≡ steps (c .short) (schemaIn s c) (typedIn s c) s (c .end) (c .steps) (listAt s first) from
+    going-none e = steps-none (c .short) (schemaIn s c) (typedIn s c) s (c .end) _ left at before (going .rest) e

@@ -21,6 +21,13 @@ unfoldable pub scopeOf : Form → Sections → Head → ℕ → ℕ → Scope
 scopeOf form h head at end =
     record { short = form; h = h; objects = record { count = head .objects; at = at + headSize }; steps = head .steps; end = end }
 
+-- the schema and the typed objects that it is read by
+abbrev pub schemaIn : List ℕ → Scope → Schema
+schemaIn s c = schema (c .h) s
+
+abbrev pub typedIn : List ℕ → Scope → TypedObjects
+typedIn s c = typedObjects (c .objects) s
+
 -- the record ends within the book, at an offset that can be added to; relations and objects are no more than there may be; and the tables are right
 -- for its objects
 pub record Readable (s : List ℕ) (c : Scope) (ks t : List ℕ) : Type 0 where
@@ -28,8 +35,8 @@ pub record Readable (s : List ℕ) (c : Scope) (ks t : List ℕ) : Type 0 where
   pub near : c .end ≤ maxLength
   pub known : c .h .relations .count ≤ maxRelations
   pub few : c .objects .count ≤ maxObjects
-  pub kinds : RightByKind (schema (c .h) s) (typedObjects (c .objects) s) ks
-  pub table : RightByPlace (schema (c .h) s) (typedObjects (c .objects) s) t
+  pub kinds : RightByKind (schemaIn s c) (typedIn s c) ks
+  pub table : RightByPlace (schemaIn s c) (typedIn s c) t
 
 -- rows 9 and 10 of a step: where the list behind it starts
 unfoldable pub stepAlone : Schema → TypedObjects → List ℕ → ℕ → ℕ → Answer
