@@ -24,9 +24,10 @@ use Rattle.states.specs.Cursor.{factOf, misplaced}
 use Rattle.states.specs.Looked.{Looked}
 use Rattle.states.proofs.Cursors.{misplaced-by}
 use Rattle.states.proofs.Looking.{looked-first, looked-next, looked-bad}
-use Rattle.marks.specs.declared.Cursor.{Cursor}
-use Rattle.marks.specs.Marks.{rest, next, Ahead, Comes, plain, RightForFew, Suited, ListAhead, Looks}
-use Rattle.marks.proofs.Facts.{of-state-by, comes-by}
+use Rattle.factlist.specs.declared.ListCursor.{ListCursor}
+use Rattle.factlist.specs.Rest.{rest, next, Ahead, Comes}
+use Rattle.marks.specs.Marks.{plain, RightForFew, Suited, ListAhead, Looks}
+use Rattle.factlist.proofs.Rest.{of-list-by, comes-by}
 
 -- the cursor c′ is past the fact at c
 abbrev pub Moves : List ℕ → FactCursor → FactCursor → Type 0
@@ -59,7 +60,7 @@ pub listed-by : (s : List ℕ) (at n : ℕ) (c : FactCursor) → n ≡ two s at 
     → ListAhead s at c
 unfolding plain listEnd
 listed-by s at n c e h k l g =
-    let (facts, ahead) = of-state-by s at n e h k l in
+    let (facts, ahead) = of-list-by s at n e h k l in
     let p : plain c ≡ record { at = at + 2; left = n } = λ i. record { at = g .0 i; left = g .1 i } in
     record {
       facts = ap (rest s) p ∙ facts;
@@ -90,7 +91,7 @@ module _ (s table : List ℕ) (c : FactCursor) where
   suited-told f b l p q r sch ob right = misplaced-by sch ob s table right c f true b l p (sym q) r
 
   -- so is a fact that comes next before the step too, where all that come there suit
-  pub same-told : (d : Cursor) (f g : Fact) (same b : Bool)
+  pub same-told : (d : ListCursor) (f g : Fact) (same b : Bool)
       → Comes s d f
       → Suited table (rest s d)
       → same ≡ sameFact f g

@@ -15,13 +15,15 @@ use Rattle.format.specs.Lists.{listAt}
 use Rattle.observed.specs.Inverse.{marks, atomsIn, sameFact, sameFacts, unbound, unboundChanged}
 use Rattle.observed.proofs.Facts.{same-fact}
 use Rattle.states.specs.declared.FactCursor.{FactCursor}
-use Rattle.marks.specs.declared.Cursor.{Cursor}
+use Rattle.factlist.specs.declared.ListCursor.{ListCursor}
 use Rattle.marks.specs.declared.Walk.{Walk}
 use Rattle.lifting.specs.Pairs.{pairOf}
-use Rattle.marks.specs.Marks.{rest, Ahead, Comes, plain, says, Turned, ListAhead, StepMarked}
+use Rattle.factlist.specs.Rest.{rest, Ahead, Comes}
+use Rattle.marks.specs.Marks.{plain, says, Turned, ListAhead, StepMarked}
 use Rattle.lifting.proofs.Pairs.{place-bound, place-unbound, pair-test}
 use Rattle.marks.proofs.Unbound.{none-after, both-more, before-more, changed-more}
-use Rattle.marks.proofs.Facts.{rest-none, Passes, passed-by}
+use Rattle.factlist.proofs.Rest.{rest-none}
+use Rattle.marks.proofs.Facts.{Passes, passed-by}
 use Rattle.marks.proofs.Looks.{suited-next}
 
 -- neither of two counts is 0
@@ -34,7 +36,7 @@ module _ (s atoms : List ℕ) (b : Binding) where
   -- ---- one turn: f comes next before
   module _ (w : Walk) (f : Fact) (m n : List ℕ) (now-f : Comes s (w .pre) f) where
     -- a bound fact that does not come next after
-    pub turned-before : Ahead s (plain (w .post)) → (x : ℕ) → x ≡ pairOf atoms b f → x < 16 → (p : Cursor) (m′ : List ℕ) → Passes f x (w .pre) m p m′
+    pub turned-before : Ahead s (plain (w .post)) → (x : ℕ) → x ≡ pairOf atoms b f → x < 16 → (p : ListCursor) (m′ : List ℕ) → Passes f x (w .pre) m p m′
         → Turned s atoms b w m n (record { pre = p; post = w .post; changed = w .changed; bad = false }) m′ n
     unfolding says
     turned-before a x is u p m′ d =
@@ -52,7 +54,7 @@ module _ (s atoms : List ℕ) (b : Binding) where
     -- g comes next after
     module _ (g : Fact) (now-g : Comes s (plain (w .post)) g) (t : Bool) (is-t : t ≡ sameFact f g) where
       pub turned-both : (x : ℕ) → x ≡ pairOf atoms b f → t ≡ true
-          → (p : Cursor) (q : FactCursor) (m′ n′ : List ℕ)
+          → (p : ListCursor) (q : FactCursor) (m′ n′ : List ℕ)
           → Passes f x (w .pre) m p m′
           → Passes f x (plain (w .post)) n (plain q) n′
           → Turned s atoms b w m n (record { pre = p; post = q; changed = w .changed; bad = false }) m′ n′
@@ -101,7 +103,7 @@ module _ (s atoms : List ℕ) (b : Binding) where
   -- ---- all turns
 
   -- at the end of one state, what is left of the other decides
-  end-says : (p q : Cursor) → (ltb 0 (p .left) && ltb 0 (q .left)) ≡ false
+  end-says : (p q : ListCursor) → (ltb 0 (p .left) && ltb 0 (q .left)) ≡ false
       → (unboundChanged atoms b [] (rest s p) || unboundChanged atoms b [] (rest s q)) ≡ unboundChanged atoms b (rest s p) (rest s q)
   unfolding unboundChanged unbound sameFacts
   end-says p q u = go (ltb 0 (p .left)) (ltb 0 (q .left)) refl refl u
@@ -124,7 +126,7 @@ module _ (s atoms : List ℕ) (b : Binding) where
     pub after : marks atoms b n (rest s (plain (w .post))) ≡ atomsIn atoms b post
     pub same : says s atoms b w ≡ unboundChanged atoms b pre post
 
-  pub stands-first : (pre : List Fact) (post : ℕ) (p : Cursor) (q : FactCursor) (m n : List ℕ)
+  pub stands-first : (pre : List Fact) (post : ℕ) (p : ListCursor) (q : FactCursor) (m n : List ℕ)
       → (rest s p ≡ pre) × Ahead s p
       → ListAhead s post q
       → m ≡ empty 32

@@ -1,56 +1,35 @@
 -- A step's bound facts and row 11, in the parts that the functions compute: a table of a binding, the facts of a state that are yet to come,
 -- and two states walked together, the second looked over on the way. `StepMarked`, `StepTurned`, `Suited` and `RightForFew` are for callers.
 -- Uses the definitions of observed, format and states.
-use Prim.Native.Nat.{ℕ, _+_, _-_, _*_, _<_, _≤_}
+use Prim.Native.Nat.{ℕ, _+_, _-_, _<_, _≤_}
 use mathlib.Core.Path.{_≡_}
 use mathlib.Core.Bool.{Bool, true, false, _||_}
-use mathlib.Core.List.{List, [], _∷_}
-use lib.ListN.{length}
+use mathlib.Core.List.{List, []}
 use Rattle.terms.specs.declared.Binding.{Binding}
 use Rattle.terms.specs.declared.Fact.{Fact}
 use Rattle.terms.specs.Schema.{Schema, TypedObjects}
 use Rattle.terms.specs.Facts.{noFact}
 use Rattle.terms.specs.Told.{suits}
 use Rattle.answer.specs.declared.Answer.the-variants.{Good, Refused}
-use Rattle.limits.specs.Limits.{countSize, factSize, maxObjects, maxRelations, farCeiling}
+use Rattle.limits.specs.Limits.{countSize, maxObjects, maxRelations}
 use Rattle.input.specs.Bytes.{two}
-use Rattle.format.specs.Lists.{factsAt, listAt, listEnd}
+use Rattle.format.specs.Lists.{listAt, listEnd}
 use Rattle.format.specs.States.{facts}
 use Rattle.model.specs.Quantify.{Mem}
 use Rattle.tables.specs.Tables.{RightByPlace, ForRightByPlace}
+use Rattle.factlist.specs.declared.ListCursor.{ListCursor}
+use Rattle.factlist.specs.Rest.{rest, Ahead}
 use Rattle.states.specs.declared.FactCursor.{FactCursor}
 use Rattle.states.specs.Looked.{Looked}
 use Rattle.observed.specs.Inverse.{marks, atomsIn, unboundChanged, turnMarks, someUnbound}
 use Rattle.turning.specs.Turning.{flipped}
-use Rattle.marks.specs.declared.Cursor.{Cursor}
 use Rattle.marks.specs.declared.Walk.{Walk}
 use Rattle.marks.specs.declared.Sight.{Sight}
-
--- ---- the facts of a state
-
--- the facts that are yet to come
-unfoldable pub rest : List ℕ → Cursor → List Fact
-rest s c = factsAt s (c .left) (c .at)
-
--- they lie within the bytes
-pub record Ahead (s : List ℕ) (c : Cursor) : Type 0 where
-  pub within : c .at + factSize * c .left ≤ length s
-  pub near : c .at + factSize * c .left ≤ farCeiling
-
--- after the next fact
-unfoldable pub next : Cursor → Cursor
-next c = record { at = c .at + factSize; left = c .left - 1 }
-
--- the fact f comes next
-pub record Comes (s : List ℕ) (c : Cursor) (f : Fact) : Type 0 where
-  pub first : rest s c ≡ f ∷ rest s (next c)
-  pub ahead : Ahead s (next c)
-  pub less : next c .left < c .left
 
 -- ---- the facts of a state that are looked over on the way
 
 -- the facts at a cursor that looks over
-unfoldable pub plain : FactCursor → Cursor
+unfoldable pub plain : FactCursor → ListCursor
 plain c = record { at = c .at; left = c .left }
 
 -- the table of a record is right for typed objects and a schema, no more of objects and relations than there may be

@@ -1,6 +1,6 @@
 // Which bound facts (lifted atoms) of a step hold before and after it, and row 11: whether any other fact changed. By the lists of both states, or
 // in a short book by the list of the facts that turn. The list after the step is looked over as it is read, row 8.
-// Uses lifting for the bound fact that a fact is, states for a list that is looked over, turning for a state in which facts turn, terms, answer, input,
+// Uses lifting for the bound fact that a fact is, factlist for a list's facts, states for a list that is looked over, turning for a state in which facts turn, terms, answer, input,
 // limits; the contracts cite observed and format, and specs/Marks.antt for the parts.
 ghost use Prim.Native.Nat.{ℕ, _+_, _≤_, _<_};
 ghost use mathlib.Core.Path.{_≡_};
@@ -15,62 +15,27 @@ ghost use Rattle.answer.specs.declared.Answer.the-variants.{Good};
 ghost use Rattle.states.specs.Looked.{ListLooked};
 ghost use Rattle.observed.specs.Inverse.{marks, sameFact, unboundChanged};
 ghost use Rattle.lifting.specs.Pairs.{noDigits, Inverts, markedAs};
-ghost use Rattle.marks.specs.Marks.{rest, next, Ahead, Comes};
+ghost use Rattle.factlist.specs.Rest.{rest, next, Ahead};
 ghost use Rattle.marks.specs.Marks.{plain, RightForFew, Suited, ListAhead, Looks, RestSeen, Turned, StepMarked, StepTurned};
 use answer::Answer;
+use factlist::ListCursor;
 use states::FactCursor;
 use terms::Binding;
 use terms::Fact;
 
 // ---- the facts of a state
 
-// The facts of a state that are yet to come: how many, from which offset.
-struct Cursor {
-    at: usize,
-    left: u16,
-}
-
-impl Cursor {
-    fn of_list(s: &[u8], at: usize) -> Cursor
-        requires { ⌜ (at ≤ nearCeiling) × (listEnd (now s) at ≤ length (now s)) ⌝ }
-        ensures { λ r. ⌜ (rest (now (s .entry)) r ≡ listAt (now (s .entry)) at) × Ahead (now (s .entry)) r ⌝ }
-    {
-        Cursor {
-            at: at + limits::COUNT_SIZE,
-            left: input::two_at(s, at),
-        }
-    }
-
-    fn fact(self, s: &[u8]) -> Fact
-        requires { ⌜ (0 < self .left) × Ahead (now s) self ⌝ }
-        ensures { λ r. ⌜ Comes (now (s .entry)) self r ⌝ }
-    {
-        Fact::read(s, self.at)
-    }
-
-    // Past the next fact.
-    fn on(self) -> Cursor
-        requires { ⌜ (0 < self .left) × (self .at ≤ farCeiling) ⌝ }
-        ensures { λ r. ⌜ r ≡ next self ⌝ }
-    {
-        Cursor {
-            at: self.at + limits::FACT_SIZE,
-            left: self.left - 1,
-        }
-    }
-
-    // Past the next fact `f`, which is marked.
-    fn pass(self, m: &mut [u8], f: Fact, pair: usize) -> Cursor
-        requires { ⌜ (0 < self .left) × (self .at ≤ farCeiling) ⌝ }
-        ensures { λ r. ⌜ (now (m .exit) ≡ markedAs (now (m .entry)) f pair) × (r ≡ next self) ⌝ }
-    {
-        lifting::mark(m, f, pair);
-        self.on()
-    }
+// Past the next fact `f` of a list, which is marked.
+fn pass(c: ListCursor, m: &mut [u8], f: Fact, pair: usize) -> ListCursor
+    requires { ⌜ (0 < c .left) × (c .at ≤ farCeiling) ⌝ }
+    ensures { λ r. ⌜ (now (m .exit) ≡ markedAs (now (m .entry)) f pair) × (r ≡ next c) ⌝ }
+{
+    lifting::mark(m, f, pair);
+    c.on()
 }
 
 // Marks the facts to come, and says whether any is no bound fact: row 11 of them and no facts.
-fn mark_rest(m: &mut [u8], s: &[u8], t: &[u8], atoms: &[u8], b: Binding, from: Cursor) -> bool
+fn mark_rest(m: &mut [u8], s: &[u8], t: &[u8], atoms: &[u8], b: Binding, from: ListCursor) -> bool
     requires { ⌜ Inverts b (now t) × Ahead (now s) from ⌝ }
     ensures { λ r. ⌜ (now (m .exit) ≡ marks (now (atoms .entry)) b (now (m .entry)) (rest (now (s .entry)) from)) × (r ≡ unboundChanged (now (atoms .entry)) b [] (rest (now (s .entry)) from)) ⌝ }
 {
@@ -79,7 +44,7 @@ fn mark_rest(m: &mut [u8], s: &[u8], t: &[u8], atoms: &[u8], b: Binding, from: C
     while 0 < c.left {
         let f = c.fact(s);
         let x = lifting::pair(t, atoms, b, f);
-        c = c.pass(m, f, x);
+        c = pass(c, m, f, x);
         changed = changed | (lifting::UNBOUND <= x);
     }
     changed
@@ -136,7 +101,7 @@ fn same_fact(f: Fact, g: Fact) -> bool
 // The facts to come of a step's two states, those after it yet to be looked over; whether a fact that is no bound fact was seen to change; and
 // whether the last fact read after the step is wrong or out of order.
 struct Walk {
-    pre: Cursor,
+    pre: ListCursor,
     post: FactCursor,
     changed: bool,
     bad: bool,
@@ -186,7 +151,7 @@ fn turn(
         let post = q.next(s);
         lifting::mark(after, f, x);
         return Walk {
-            pre: p.pass(before, f, x),
+            pre: pass(p, before, f, x),
             post,
             changed: w.changed,
             bad: false,
@@ -194,7 +159,7 @@ fn turn(
     }
     if x < lifting::UNBOUND {
         return Walk {
-            pre: p.pass(before, f, x),
+            pre: pass(p, before, f, x),
             post: q,
             changed: w.changed,
             bad: false,
@@ -246,7 +211,7 @@ pub fn mark_step(
 {
     lifting::invert(t, b);
     let mut w = Walk {
-        pre: Cursor::of_list(s, pre),
+        pre: ListCursor::of_list(s, pre),
         post: listed(s, post),
         changed: false,
         bad: false,

@@ -1,6 +1,5 @@
 -- Two lists of facts walked together: each way on of `turn`, and what its loop leaves.
 use Prim.Native.Nat.{ℕ, zero, suc, _+_, _-_, _<_, _≤_}
-use native.Mathlib.Numerals.{sub-one}
 use native.Mathlib.Omega.{arith}
 use mathlib.Core.Path.{_≡_, refl, sym, ap, ap₂, _∙_}
 use mathlib.Core.Logic.{_⊎_, inl, inr}
@@ -8,50 +7,29 @@ use mathlib.Core.Bool.{true, false, _&&_}
 use mathlib.Core.List.{List, [], _∷_, _++_, append-nil}
 use lib.Dec.{ltb}
 use borrow.Author.Tests.{ltb-true, lt-ltb}
-use lib.ListN.{length}
-use Rattle.input.specs.Bytes.{two}
 use Rattle.terms.specs.declared.Fact.{Fact}
 use Rattle.truth.specs.Bools.{clash, and-in, and-out}
-use Rattle.terms.specs.Facts.{factAt, precedes, noFact}
-use Rattle.limits.specs.Limits.{factSize, maxLength}
-use Rattle.format.specs.Lists.{factsAt, listAt, listEnd}
+use Rattle.terms.specs.Facts.{precedes, noFact}
+use Rattle.limits.specs.Limits.{nearCeiling}
+use Rattle.format.specs.Lists.{listAt, listEnd}
 use Rattle.format.specs.Toggled.{toggled}
 use Rattle.jobs.specs.Convert.{factsBytes}
 use Rattle.wellformed.specs.Right.{Increasing}
 use Rattle.wellformed.proofs.Sorted.{precedes-neither}
 use Rattle.wellformed.proofs.Toggled.{merge-before, merge-after, merge-both, toggled-none, toggled-nothing}
-use Rattle.rendering.specs.declared.Cursor.{Cursor}
+use Rattle.factlist.specs.declared.ListCursor.{ListCursor}
+use Rattle.factlist.specs.Rest.{rest, Ahead, next, Comes}
+use Rattle.factlist.proofs.Rest.{rest-none}
 use Rattle.rendering.specs.declared.Walk.{Walk}
 use Rattle.rendering.specs.Appended.{pastEnd, Appended, AllBut}
-use Rattle.rendering.specs.Merge.{rest, Ahead, next, Comes, toCome, left, Merging, Turned}
+use Rattle.rendering.specs.Merge.{toCome, left, Merging, Turned}
 use Rattle.rendering.specs.Good.{GoodList}
 use Rattle.rendering.proofs.Appended.{append-none, append-then, part-none, part-one, part-then, part-all}
 
--- ---- one list
-
-module _ (s : List ℕ) where
-  pub rest-none : (c : Cursor) → c .left ≡ 0 → rest s c ≡ []
-  unfolding rest factsAt
-  rest-none c e = rw e
-
-  facts-first : (n at : ℕ) → 0 < n → factsAt s n at ≡ factAt s at ∷ factsAt s (n - 1) (at + factSize)
-  unfolding factsAt
-  facts-first zero at h = absurd (omega arith)
-  facts-first (suc n) at h = rw sub-one
-
-  pub of-list-by : (at n : ℕ) → n ≡ two s at → listEnd s at ≤ length s → length s ≤ maxLength
-      → (rest s (record { at = at + 2; left = n }) ≡ listAt s at) × Ahead s (record { at = at + 2; left = n })
-  unfolding rest listAt listEnd
-  of-list-by at n e h k = (rw e, record { within = omega arith; near = k })
-
-  pub comes-by : (c : Cursor) (f : Fact) → 0 < c .left → Ahead s c → f ≡ factAt s (c .at) → Comes s c f
-  unfolding rest next
-  comes-by c f h w e =
-      record {
-        first = rw e (facts-first (c .left) (c .at) h);
-        ahead = record { within = omega (arith, w .within); near = w .near };
-        less = omega arith;
-      }
+-- a list of the book begins at an offset that can be added to
+pub list-near : {s : List ℕ} {at : ℕ} → GoodList s at → at ≤ nearCeiling
+unfolding listEnd
+list-near good = omega (arith, good .within, good .near)
 
 -- ---- a turn
 
@@ -67,7 +45,7 @@ module _ (state s : List ℕ) (v : Walk) (m : Merging state s v) (f g : Fact) (a
   later = (rw (b .first) at (m .order)) .1
 
   -- a fact that holds, and does not turn
-  pub turned-held : precedes f g ≡ true → (h : Cursor) → h ≡ next (v .held) → (r : ℕ) (old new : List ℕ)
+  pub turned-held : precedes f g ≡ true → (h : ListCursor) → h ≡ next (v .held) → (r : ℕ) (old new : List ℕ)
       → Appended (factsBytes (f ∷ [])) (v .at) old new r → Turned state s v old (record { held = h; turns = v .turns; at = r }) new
   turned-held e h d r old new p =
       let w : Walk = record { held = h; turns = v .turns; at = r } in
@@ -80,7 +58,7 @@ module _ (state s : List ℕ) (v : Walk) (m : Merging state s v) (f g : Fact) (a
       }
 
   -- one that turns, and did not hold
-  pub turned-turn : precedes g f ≡ true → (h : Cursor) → h ≡ next (v .turns) → (r : ℕ) (old new : List ℕ)
+  pub turned-turn : precedes g f ≡ true → (h : ListCursor) → h ≡ next (v .turns) → (r : ℕ) (old new : List ℕ)
       → Appended (factsBytes (g ∷ [])) (v .at) old new r → Turned state s v old (record { held = v .held; turns = h; at = r }) new
   turned-turn e h d r old new p =
       let w : Walk = record { held = v .held; turns = h; at = r } in
@@ -93,7 +71,7 @@ module _ (state s : List ℕ) (v : Walk) (m : Merging state s v) (f g : Fact) (a
       }
 
   -- one that held, and turns
-  pub turned-both : precedes f g ≡ false → precedes g f ≡ false → (h k : Cursor) → h ≡ next (v .held) → k ≡ next (v .turns) → v .at ≤ pastEnd → (old : List ℕ)
+  pub turned-both : precedes f g ≡ false → precedes g f ≡ false → (h k : ListCursor) → h ≡ next (v .held) → k ≡ next (v .turns) → v .at ≤ pastEnd → (old : List ℕ)
       → Turned state s v old (record { held = h; turns = k; at = v .at }) old
   turned-both e e′ h k d d′ n old =
       let w : Walk = record { held = h; turns = k; at = v .at } in
@@ -134,7 +112,7 @@ unfolding factsBytes
 only-held fs ts e = rw (e, toggled-nothing fs) (append-nil (factsBytes fs))
 
 module _ (state s : List ℕ) (at w : ℕ) (old : List ℕ) where
-  pub merged-first : (p q : Cursor) → (rest state p ≡ listAt state 0) × Ahead state p → (rest s q ≡ listAt s at) × Ahead s q → GoodList s at → w ≤ pastEnd
+  pub merged-first : (p q : ListCursor) → (rest state p ≡ listAt state 0) × Ahead state p → (rest s q ≡ listAt s at) × Ahead s q → GoodList s at → w ≤ pastEnd
       → Merged state s (factsBytes (toggled (listAt state 0) (listAt s at))) w old (record { held = p; turns = q; at = w }) old
   merged-first p q (e, a) (d, b) good h =
       record {

@@ -1,36 +1,13 @@
 -- Two lists of facts walked together: those yet to come of either, and of the list in which the facts of one turn that stand in the other.
-use Prim.Native.Nat.{ℕ, _+_, _-_, _*_, _<_, _≤_}
-use mathlib.Core.Path.{_≡_}
-use mathlib.Core.List.{List, _∷_}
-use lib.ListN.{length}
+use Prim.Native.Nat.{ℕ, _+_, _-_, _<_}
+use mathlib.Core.List.{List}
 use Rattle.terms.specs.declared.Fact.{Fact}
-use Rattle.limits.specs.Limits.{factSize, maxLength}
-use Rattle.format.specs.Lists.{factsAt}
 use Rattle.format.specs.Toggled.{toggled}
 use Rattle.jobs.specs.Convert.{factsBytes}
 use Rattle.wellformed.specs.Right.{Increasing}
-use Rattle.rendering.specs.declared.Cursor.{Cursor}
+use Rattle.factlist.specs.Rest.{rest, Ahead}
 use Rattle.rendering.specs.declared.Walk.{Walk}
 use Rattle.rendering.specs.Appended.{AllBut}
-
--- the facts of a list that are yet to come
-unfoldable pub rest : List ℕ → Cursor → List Fact
-rest s c = factsAt s (c .left) (c .at)
-
--- they lie within the bytes, no more of these than a book may have
-pub record Ahead (s : List ℕ) (c : Cursor) : Type 0 where
-  pub within : c .at + factSize * c .left ≤ length s
-  pub near : length s ≤ maxLength
-
--- after the next fact
-unfoldable pub next : Cursor → Cursor
-next c = record { at = c .at + factSize; left = c .left - 1 }
-
--- the fact f comes next
-pub record Comes (s : List ℕ) (c : Cursor) (f : Fact) : Type 0 where
-  pub first : rest s c ≡ f ∷ rest s (next c)
-  pub ahead : Ahead s (next c)
-  pub less : next c .left < c .left
 
 -- the facts to come of the state, of those that turn, and those that hold when they have turned
 abbrev pub toCome : List ℕ → List ℕ → Walk → List Fact

@@ -1,8 +1,9 @@
 // Converting a book of good form to the other form, full or short, in lent memory: one function for both directions. The list that is written
 // after a step has in both the facts that are in one alone of the state before it and the list that is read; only what holds next differs.
 // The new book is formed front to back; counts and lengths are copied first and renewed when they are known.
-// Uses answer, input, limits, output, terms, where a list ends from states, and the definitions of jobs and format.
+// Uses answer, input, limits, output, terms, factlist for a list's facts, where a list ends from states, and the definitions of jobs and format.
 use answer::Answer;
+use factlist::ListCursor;
 use terms::Fact;
 use terms::Sections;
 ghost use mathlib.Core.Path.{_≡_};
@@ -18,7 +19,8 @@ ghost use Rattle.format.specs.Form.{stateAfter};
 ghost use Rattle.format.specs.Decode.{recordedStepsAt};
 ghost use Rattle.jobs.specs.Convert.{factsBytes, listBytes, stepBytes, stepsBytes, recordBytes, recordsBytes};
 ghost use Rattle.rendering.specs.Appended.{pastEnd, Appended};
-ghost use Rattle.rendering.specs.Merge.{rest, Ahead, next, Comes, Merging, Turned};
+ghost use Rattle.factlist.specs.Rest.{rest, Ahead};
+ghost use Rattle.rendering.specs.Merge.{Merging, Turned};
 ghost use Rattle.rendering.specs.Held.{heldSize, Holds, Carried};
 ghost use Rattle.rendering.specs.Good.{GoodBook, GoodList, GoodNext, GoodSteps, GoodTrajectory, GoodRecord, GoodRecords};
 ghost use Rattle.rendering.specs.Formed.{trajectoryBytes, Formed};
@@ -58,48 +60,13 @@ fn append_fact(new: &mut [u8], w: usize, f: Fact) -> usize
 
 // ---- the facts of a list
 
-// The facts of a list that are yet to come: how many, from which offset.
-struct Cursor {
-    at: usize,
-    left: usize,
-}
-
-impl Cursor {
-    fn of_list(s: &[u8], at: usize) -> Cursor
-        requires { ⌜ (listEnd (now s) at ≤ length (now s)) × (length (now s) ≤ maxLength) ⌝ }
-        ensures { λ r. ⌜ (rest (now (s .entry)) r ≡ listAt (now (s .entry)) at) × Ahead (now (s .entry)) r ⌝ }
-    {
-        Cursor {
-            at: at + limits::COUNT_SIZE,
-            left: input::two_at(s, at) as usize,
-        }
-    }
-
-    fn fact(self, s: &[u8]) -> Fact
-        requires { ⌜ (0 < self .left) × Ahead (now s) self ⌝ }
-        ensures { λ r. ⌜ Comes (now (s .entry)) self r ⌝ }
-    {
-        Fact::read(s, self.at)
-    }
-
-    // Past the next fact.
-    fn passed(self) -> Cursor
-        requires { ⌜ (0 < self .left) × (self .at ≤ maxLength) ⌝ }
-        ensures { λ r. ⌜ r ≡ next self ⌝ }
-    {
-        Cursor {
-            at: self.at + limits::FACT_SIZE,
-            left: self.left - 1,
-        }
-    }
-}
-
-fn append_rest(new: &mut [u8], w: usize, s: &[u8], c: Cursor) -> usize
+// The facts of a list that are yet to come.
+fn append_rest(new: &mut [u8], w: usize, s: &[u8], c: ListCursor) -> usize
     requires { ⌜ (length (now new) ≡ maxLength) × (w ≤ pastEnd) × Ahead (now s) c ⌝ }
     ensures { λ r. ⌜ Appended (factsBytes (rest (now (s .entry)) c)) w (now (new .entry)) (now (new .exit)) r ⌝ }
 {
     let at = c.at;
-    let end = at + limits::FACT_SIZE * c.left;
+    let end = at + limits::FACT_SIZE * c.left as usize;
     append(new, w, &s[at..end])
 }
 
@@ -107,8 +74,8 @@ fn append_rest(new: &mut [u8], w: usize, s: &[u8], c: Cursor) -> usize
 
 // The facts to come of the state that holds and of the list of those that turn, and the offset reached in the new book.
 struct Walk {
-    held: Cursor,
-    turns: Cursor,
+    held: ListCursor,
+    turns: ListCursor,
     at: usize,
 }
 
@@ -124,7 +91,7 @@ fn turn(new: &mut [u8], state: &[u8], book: &[u8], v: Walk) -> Walk
     let g = q.fact(book);
     if g.follows(f, f.key()) {
         return Walk {
-            held: p.passed(),
+            held: p.on(),
             turns: q,
             at: append_fact(new, v.at, f),
         };
@@ -132,13 +99,13 @@ fn turn(new: &mut [u8], state: &[u8], book: &[u8], v: Walk) -> Walk
     if f.follows(g, g.key()) {
         return Walk {
             held: p,
-            turns: q.passed(),
+            turns: q.on(),
             at: append_fact(new, v.at, g),
         };
     }
     Walk {
-        held: p.passed(),
-        turns: q.passed(),
+        held: p.on(),
+        turns: q.on(),
         at: v.at,
     }
 }
@@ -149,8 +116,8 @@ fn append_turned(new: &mut [u8], w: usize, state: &[u8], book: &[u8], at: usize)
     ensures { λ r. ⌜ Appended (factsBytes (toggled (listAt (now (state .entry)) 0) (listAt (now (book .entry)) at))) w (now (new .entry)) (now (new .exit)) r ⌝ }
 {
     let mut v = Walk {
-        held: Cursor::of_list(state, 0),
-        turns: Cursor::of_list(book, at),
+        held: ListCursor::of_list(state, 0),
+        turns: ListCursor::of_list(book, at),
         at: w,
     };
     while (0 < v.held.left) & (0 < v.turns.left) {

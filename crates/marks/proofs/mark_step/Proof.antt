@@ -5,7 +5,8 @@ use borrow.Author.Needs.{needs}
 use Rattle.answer.specs.Laws.{good-refused}
 use Rattle.format.specs.Lists.{listAt}
 use Rattle.lifting.specs.Pairs.{Inverts}
-use Rattle.marks.specs.Marks.{rest, Suited, toCome}
+use Rattle.factlist.specs.Rest.{rest}
+use Rattle.marks.specs.Marks.{Suited, toCome}
 use Rattle.lifting.proofs.Pairs.{digits-long}
 use Rattle.marks.proofs.Looks.{Looking, looking-known}
 use Rattle.marks.proofs.Steps.{both-left, Stands, stands-first, stands-next, stands-end}

@@ -3,7 +3,7 @@ use Prim.Native.Nat.{_+_, _-_, _*_}
 use denote.Ref.{now}
 use native.Mathlib.Omega.{arith}
 use borrow.Author.Needs.{needs}
-use Rattle.rendering.specs.Merge.{rest}
+use Rattle.factlist.specs.Rest.{rest}
 use Rattle.rendering.proofs.Bytes.{facts-part}
 use Rattle.rendering.proofs.append_rest.Statement.{statement}
 use Rattle.rendering.proofs.append_rest.Tie as tie
@@ -19,4 +19,4 @@ returns c =
 pub append-rest-spec : {M : Type 1} → statement M
 append-rest-spec =
     tie.close
-    (tie.spec (λ c. search needs) (λ c. search needs) (λ c. search needs) (λ c. search needs) (λ c. search needs) (λ c κs. search needs) (λ c. search needs) returns)
+    (tie.spec (λ c. search needs) (λ c. search needs) (λ c. search needs) (λ c. search needs) (λ c. search needs) (λ c. search needs) (λ c κs. search needs) (λ c. search needs) returns)

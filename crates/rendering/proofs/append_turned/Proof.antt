@@ -8,7 +8,7 @@ use Rattle.format.specs.Toggled.{toggled}
 use Rattle.jobs.specs.Convert.{factsBytes}
 use Rattle.rendering.specs.Merge.{left}
 use Rattle.rendering.proofs.Held.{holds-end}
-use Rattle.rendering.proofs.Merge.{both-left, Merged, merged-first, merged-next, merged-end}
+use Rattle.rendering.proofs.Merge.{list-near, both-left, Merged, merged-first, merged-next, merged-end}
 use Rattle.rendering.proofs.append_turned.Statement.{statement}
 use Rattle.rendering.proofs.append_turned.Tie as tie
 
@@ -22,12 +22,12 @@ abbrev μ-loop : tie.MeasureT-loop
 of-list-requires : tie.Need-of-list-requires Inv-loop μ-loop
 of-list-requires c κs =
     let p = c .before .before .before .pre in
-    (holds-end (p .2), omega (arith, p .2 .long))
+    (omega arith, holds-end (p .2))
 
 of-list-requires-2 : tie.Need-of-list-requires-2 Inv-loop μ-loop
 of-list-requires-2 c κs =
     let p = c .before .before .before .before .pre in
-    (p .3 .within, p .3 .near)
+    (list-near (p .3), p .3 .within)
 
 loop-holds : tie.Need-loop-holds Inv-loop μ-loop
 loop-holds c =

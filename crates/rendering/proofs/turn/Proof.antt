@@ -11,10 +11,10 @@ returns c =
     let t = c .before .before .before .before .before in
     let g = t .before .before .before in
     let p = g .before .before .before .before .before .before .before in
-    turned-held _ _ _ (p .pre .1) _ _ (g .before .fact .ensures) (g .fact2 .ensures) (sym (t .before .follows .ensures) ∙ t .if1 .taken) _ (c .before .before .before .before .passed .ensures) _ _ _ (c .before .before .append-fact .ensures)
+    turned-held _ _ _ (p .pre .1) _ _ (g .before .fact .ensures) (g .fact2 .ensures) (sym (t .before .follows .ensures) ∙ t .if1 .taken) _ (c .before .before .before .before .on .ensures) _ _ _ (c .before .before .append-fact .ensures)
 
-passed-requires-2 : tie.Need-passed-requires-2
-passed-requires-2 c κs =
+on-requires-2 : tie.Need-on-requires-2
+on-requires-2 c κs =
     let p = c .before .before .before .before .before .before .before .before .before .before .before .before .before .pre in
     (p .3, omega (arith, p .1 .turns))
 
@@ -23,10 +23,10 @@ returns-2 c =
     let t = c .before .before .before .before .before in
     let g = t .before .before .before .before .before .before in
     let p = g .before .before .before .before .before .before .before in
-    turned-turn _ _ _ (p .pre .1) _ _ (g .before .fact .ensures) (g .fact2 .ensures) (sym (t .before .follows2 .ensures) ∙ t .if2 .taken) _ (c .before .before .before .before .passed2 .ensures) _ _ _ (c .before .before .append-fact2 .ensures)
+    turned-turn _ _ _ (p .pre .1) _ _ (g .before .fact .ensures) (g .fact2 .ensures) (sym (t .before .follows2 .ensures) ∙ t .if2 .taken) _ (c .before .before .before .before .on2 .ensures) _ _ _ (c .before .before .append-fact2 .ensures)
 
-passed-requires-4 : tie.Need-passed-requires-4
-passed-requires-4 c κs =
+on-requires-4 : tie.Need-on-requires-4
+on-requires-4 c κs =
     let p = c .before .before .before .before .before .before .before .before .before .before .before .before .before .before .pre in
     (p .3, omega (arith, p .1 .turns))
 
@@ -36,11 +36,11 @@ returns-3 c =
     let u = t .before .before .before in
     let g = u .before .before .before in
     let p = g .before .before .before .before .before .before .before in
-    turned-both _ _ _ (p .pre .1) _ _ (g .before .fact .ensures) (g .fact2 .ensures) (sym (u .before .follows .ensures) ∙ u .if1 .left) (sym (t .before .follows2 .ensures) ∙ t .if2 .left) _ _ (c .before .passed3 .ensures) (c .passed4 .ensures) (p .pre .4) _
+    turned-both _ _ _ (p .pre .1) _ _ (g .before .fact .ensures) (g .fact2 .ensures) (sym (u .before .follows .ensures) ∙ u .if1 .left) (sym (t .before .follows2 .ensures) ∙ t .if2 .left) _ _ (c .before .on3 .ensures) (c .on4 .ensures) (p .pre .4) _
 
 pub turn-spec : {M : Type 1} → statement M
 turn-spec =
     tie.close
     (tie.spec (λ c κs. search needs) (λ c κs. search needs) (λ c κs. search needs) (λ c κs. search needs) (λ c κs. search needs) (λ c κs. search needs)
-    (λ c. search needs) returns (λ c κs. search needs) (λ c κs. search needs) passed-requires-2 (λ c κs. search needs) (λ c. search needs) returns-2
-    (λ c κs. search needs) passed-requires-4 returns-3)
+    (λ c. search needs) returns (λ c κs. search needs) (λ c κs. search needs) on-requires-2 (λ c κs. search needs) (λ c. search needs) returns-2
+    (λ c κs. search needs) on-requires-4 returns-3)

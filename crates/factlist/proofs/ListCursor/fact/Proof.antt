@@ -1,8 +1,8 @@
--- `marks::Cursor::fact` meets its contract: the fact lies within.
+-- `factlist::ListCursor::fact` meets its contract: the fact lies within.
 use native.Mathlib.Omega.{arith}
-use Rattle.marks.proofs.Facts.{comes-by}
-use Rattle.marks.proofs.Cursor.fact.Statement.{statement}
-use Rattle.marks.proofs.Cursor.fact.Tie as tie
+use Rattle.factlist.proofs.Rest.{comes-by}
+use Rattle.factlist.proofs.ListCursor.fact.Statement.{statement}
+use Rattle.factlist.proofs.ListCursor.fact.Tie as tie
 
 returns : tie.Need-returns
 returns c =

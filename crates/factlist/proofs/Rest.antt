@@ -1,0 +1,38 @@
+-- What is yet to come of a list: nothing, all of it, the next fact.
+use Prim.Native.Nat.{ℕ, zero, suc, _+_, _-_, _<_, _≤_}
+use mathlib.Core.Path.{_≡_}
+use mathlib.Core.List.{List, [], _∷_}
+use native.Mathlib.Numerals.{sub-one}
+use native.Mathlib.Omega.{arith}
+use lib.ListN.{length}
+use Rattle.input.specs.Bytes.{two}
+use Rattle.terms.specs.declared.Fact.{Fact}
+use Rattle.terms.specs.Facts.{factAt}
+use Rattle.limits.specs.Limits.{factSize, nearCeiling}
+use Rattle.format.specs.Lists.{factsAt, listAt, listEnd}
+use Rattle.factlist.specs.declared.ListCursor.{ListCursor}
+use Rattle.factlist.specs.Rest.{rest, Ahead, next, Comes}
+
+module _ (s : List ℕ) where
+  pub rest-none : (c : ListCursor) → c .left ≡ 0 → rest s c ≡ []
+  unfolding rest factsAt
+  rest-none c e = rw e
+
+  facts-first : (n at : ℕ) → 0 < n → factsAt s n at ≡ factAt s at ∷ factsAt s (n - 1) (at + factSize)
+  unfolding factsAt
+  facts-first zero at h = absurd (omega arith)
+  facts-first (suc n) at h = rw sub-one
+
+  pub of-list-by : (at n : ℕ) → n ≡ two s at → n < 65536 → at ≤ nearCeiling → listEnd s at ≤ length s
+      → (rest s (record { at = at + 2; left = n }) ≡ listAt s at) × Ahead s (record { at = at + 2; left = n })
+  unfolding rest listAt listEnd
+  of-list-by at n e h k l = (rw e, record { within = omega (arith, e, l); near = omega arith })
+
+  pub comes-by : (c : ListCursor) (f : Fact) → 0 < c .left → Ahead s c → f ≡ factAt s (c .at) → Comes s c f
+  unfolding rest next
+  comes-by c f h w e =
+      record {
+        first = rw e (facts-first (c .left) (c .at) h);
+        ahead = record { within = omega (arith, w .within); near = omega (arith, w .near) };
+        less = omega arith;
+      }

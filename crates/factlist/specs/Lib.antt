@@ -1,0 +1,2 @@
+-- What a cursor over the facts of a list says.
+pub mod Rest
