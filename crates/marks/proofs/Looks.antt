@@ -1,5 +1,5 @@
 -- The facts of a list that are looked over as they are read: the cursor of states in the words of this crate, and what one fact says of the list.
--- For `listed`, `look_rest`, `turn`, `mark_step` and `mark_turned` of src/lib.rt. Uses the laws of states, Facts for what comes next.
+-- For `listed`, `look_rest`, `mark_next`, `mark_step` and `mark_turned` of src/lib.rt. Uses the laws of states, Facts for what comes next.
 use Prim.Native.Nat.{ℕ, _+_, _-_, _<_, _≤_}
 use mathlib.Core.Path.{_≡_, refl, sym, ap, _∙_}
 use mathlib.Core.Bool.{Bool, true, false, not}

@@ -1,4 +1,4 @@
--- The facts of a step's two states walked together: each turn leads on to the same sets and the same answer. For `turn` and `mark_step` of
+-- The facts of a step's two states walked together: each fact more leads on to the same sets and the same answer. For `mark_next` and `mark_step` of
 -- src/lib.rt. Uses Unbound for row 11, Facts and Looks for each state.
 use Prim.Native.Nat.{ℕ, _<_, _≤_}
 use mathlib.Core.Path.{_≡_, refl, sym, ap, ap₂, _∙_}
@@ -19,7 +19,7 @@ use Rattle.factlist.specs.declared.ListCursor.{ListCursor}
 use Rattle.marks.specs.declared.Walk.{Walk}
 use Rattle.lifting.specs.Pairs.{pairOf}
 use Rattle.factlist.specs.Rest.{rest, Ahead, Comes}
-use Rattle.marks.specs.Marks.{plain, says, Turned, ListAhead, StepMarked}
+use Rattle.marks.specs.Marks.{plain, says, NextMarked, ListAhead, StepMarked}
 use Rattle.lifting.proofs.Pairs.{place-bound, place-unbound, pair-test}
 use Rattle.marks.proofs.Unbound.{none-after, both-more, before-more, changed-more}
 use Rattle.factlist.proofs.Rest.{rest-none}
@@ -33,13 +33,13 @@ both-left m n e =
     (ltb-true 0 m (d .0), ltb-true 0 n (d .1))
 
 module _ (s atoms : List ℕ) (b : Binding) where
-  -- ---- one turn: f comes next before
+  -- ---- one fact more: f comes next before
   module _ (w : Walk) (f : Fact) (m n : List ℕ) (now-f : Comes s (w .pre) f) where
     -- a bound fact that does not come next after
-    pub turned-before : Ahead s (plain (w .post)) → (x : ℕ) → x ≡ pairOf atoms b f → x < 16 → (p : ListCursor) (m′ : List ℕ) → Passes f x (w .pre) m p m′
-        → Turned s atoms b w m n (record { pre = p; post = w .post; changed = w .changed; bad = false }) m′ n
+    pub marked-before : Ahead s (plain (w .post)) → (x : ℕ) → x ≡ pairOf atoms b f → x < 16 → (p : ListCursor) (m′ : List ℕ) → Passes f x (w .pre) m p m′
+        → NextMarked s atoms b w m n (record { pre = p; post = w .post; changed = w .changed; bad = false }) m′ n
     unfolding says
-    turned-before a x is u p m′ d =
+    marked-before a x is u p m′ d =
         let i = passed-by s atoms b is now-f d in
         record {
           ahead = i .ahead;
@@ -53,13 +53,13 @@ module _ (s atoms : List ℕ) (b : Binding) where
 
     -- g comes next after
     module _ (g : Fact) (now-g : Comes s (plain (w .post)) g) (t : Bool) (is-t : t ≡ sameFact f g) where
-      pub turned-both : (x : ℕ) → x ≡ pairOf atoms b f → t ≡ true
+      pub marked-both : (x : ℕ) → x ≡ pairOf atoms b f → t ≡ true
           → (p : ListCursor) (q : FactCursor) (m′ n′ : List ℕ)
           → Passes f x (w .pre) m p m′
           → Passes f x (plain (w .post)) n (plain q) n′
-          → Turned s atoms b w m n (record { pre = p; post = q; changed = w .changed; bad = false }) m′ n′
+          → NextMarked s atoms b w m n (record { pre = p; post = q; changed = w .changed; bad = false }) m′ n′
       unfolding says plain
-      turned-both x is u p q m′ n′ d e =
+      marked-both x is u p q m′ n′ d e =
           let h : f ≡ g = same-fact f g (sym is-t ∙ u) in
           let k : sameFact f f ≡ true = ap (sameFact f) h ∙ sym is-t ∙ u in
           let i = passed-by s atoms b is now-f d in
@@ -75,16 +75,16 @@ module _ (s atoms : List ℕ) (b : Binding) where
           }
 
       -- f is no bound fact and differs, so g is a bound fact or a change
-      pub turned-after : Ahead s (w .pre) → t ≡ false
+      pub marked-after : Ahead s (w .pre) → t ≡ false
           → (x y : ℕ)
           → x ≡ pairOf atoms b f
           → 16 ≤ x
           → y ≡ pairOf atoms b g
           → (q : FactCursor) (n′ : List ℕ)
           → Passes g y (plain (w .post)) n (plain q) n′
-          → Turned s atoms b w m n (record { pre = w .pre; post = q; changed = w .changed || leb 16 y; bad = false }) m n′
+          → NextMarked s atoms b w m n (record { pre = w .pre; post = q; changed = w .changed || leb 16 y; bad = false }) m n′
       unfolding says plain
-      turned-after a u x y is v is′ q n′ e =
+      marked-after a u x y is v is′ q n′ e =
           let j = passed-by s atoms b is′ now-g e in
           let h = place-unbound b f atoms x is v in
           record {
@@ -137,7 +137,7 @@ module _ (s atoms : List ℕ) (b : Binding) where
       record { ahead = d .1; aheadAfter = e .ahead; before = rw (i, d .0); after = rw (j, e .facts); same = rw (d .0, e .facts) }
 
   module _ {pre post : List Fact} {w : Walk} {m n : List ℕ} (i : Stands pre post w m n) where
-    pub stands-next : {v : Walk} {m′ n′ : List ℕ} → Turned s atoms b w m n v m′ n′ → Stands pre post v m′ n′
+    pub stands-next : {v : Walk} {m′ n′ : List ℕ} → NextMarked s atoms b w m n v m′ n′ → Stands pre post v m′ n′
     stands-next t =
         record {
           ahead = t .ahead;

@@ -24,7 +24,7 @@ use Rattle.states.specs.Looked.{Looked}
 use Rattle.observed.specs.Inverse.{marks, atomsIn, unboundChanged, turnMarks, someUnbound}
 use Rattle.turning.specs.Turning.{flipped}
 use Rattle.marks.specs.declared.Walk.{Walk}
-use Rattle.marks.specs.declared.Sight.{Sight}
+use Rattle.marks.specs.declared.MarkedList.{MarkedList}
 
 -- ---- the facts of a state that are looked over on the way
 
@@ -56,7 +56,7 @@ pub record Looks (s table : List ℕ) (c c′ : FactCursor) (bad : Bool) : Type 
   pub refused : bad ≡ true → (end n from : ℕ) → Looked 8 s table end n from c → ForRightByPlace table (λ sch ob. Refused 8 (c .at) ≡ facts 8 sch ob s end n noFact from)
 
 -- the facts from a cursor on, looked over and marked
-pub record RestSeen (s table atoms : List ℕ) (b : Binding) (c : FactCursor) (m m′ : List ℕ) (r : Sight) : Type 0 where
+pub record RestMarked (s table atoms : List ℕ) (b : Binding) (c : FactCursor) (m m′ : List ℕ) (r : MarkedList) : Type 0 where
   pub answers : (end n from : ℕ) → Looked 8 s table end n from c → ForRightByPlace table (λ sch ob. r .answer ≡ facts 8 sch ob s end n noFact from)
   pub marked : (k : ℕ) → r .answer ≡ Good k → (m′ ≡ marks atoms b m (rest s (plain c))) × (r .unbound ≡ unboundChanged atoms b [] (rest s (plain c)))
 
@@ -70,7 +70,7 @@ unfoldable pub says : List ℕ → List ℕ → Binding → Walk → Bool
 says s atoms b w = w .changed || unboundChanged atoms b (rest s (w .pre)) (rest s (plain (w .post)))
 
 -- From v with the sets m and n to w with m′ and n′: nearer to the end, and what is yet to come leads to the same.
-pub record Turned (s atoms : List ℕ) (b : Binding) (v : Walk) (m n : List ℕ) (w : Walk) (m′ n′ : List ℕ) : Type 0 where
+pub record NextMarked (s atoms : List ℕ) (b : Binding) (v : Walk) (m n : List ℕ) (w : Walk) (m′ n′ : List ℕ) : Type 0 where
   pub ahead : Ahead s (w .pre)
   pub aheadAfter : Ahead s (plain (w .post))
   pub suited : (table : List ℕ) → Suited table (rest s (v .pre)) → Suited table (rest s (w .pre))

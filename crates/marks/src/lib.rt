@@ -16,7 +16,7 @@ ghost use Rattle.states.specs.Looked.{ListLooked};
 ghost use Rattle.observed.specs.Inverse.{marks, sameFact, unboundChanged};
 ghost use Rattle.lifting.specs.Pairs.{noDigits, Inverts, markedAs};
 ghost use Rattle.factlist.specs.Rest.{rest, next, Ahead};
-ghost use Rattle.marks.specs.Marks.{plain, RightForFew, Suited, ListAhead, Looks, RestSeen, Turned, StepMarked, StepTurned};
+ghost use Rattle.marks.specs.Marks.{plain, RightForFew, Suited, ListAhead, Looks, RestMarked, NextMarked, StepMarked, StepTurned};
 use answer::Answer;
 use factlist::ListCursor;
 use states::FactCursor;
@@ -51,7 +51,7 @@ fn mark_rest(m: &mut [u8], s: &[u8], t: &[u8], atoms: &[u8], b: Binding, from: L
 }
 
 // A list read once: row 8 of it and, where it is good, whether a fact that is no bound fact of the step changed.
-pub struct Sight {
+pub struct MarkedList {
     pub answer: Answer,
     pub unbound: bool,
 }
@@ -65,15 +65,15 @@ fn look_rest(
     atoms: &[u8],
     b: Binding,
     from: FactCursor,
-) -> Sight
+) -> MarkedList
     requires { ⌜ Inverts b (now t) × Ahead (now s) (plain from) × (from .size ≡ factSize) × (from .key ≡ factKey (from .last)) ⌝ }
-    ensures { λ r. ⌜ RestSeen (now (s .entry)) (now (table .entry)) (now (atoms .entry)) b from (now (m .entry)) (now (m .exit)) r ⌝ }
+    ensures { λ r. ⌜ RestMarked (now (s .entry)) (now (table .entry)) (now (atoms .entry)) b from (now (m .entry)) (now (m .exit)) r ⌝ }
 {
     let mut c = from;
     let mut changed = false;
     while 0 < c.left {
         if c.bad(s, table) {
-            return Sight {
+            return MarkedList {
                 answer: Answer::Refused(8, c.at),
                 unbound: false,
             };
@@ -84,7 +84,7 @@ fn look_rest(
         lifting::mark(m, f, x);
         changed = changed | (lifting::UNBOUND <= x);
     }
-    Sight {
+    MarkedList {
         answer: Answer::Good(c.at),
         unbound: changed,
     }
@@ -124,7 +124,7 @@ fn wrong(w: Walk) -> Walk
 // One fact more of a state, or of both. Facts stand in order, so what is no bound fact stayed as it was if it comes in the same order in
 // both states: where the next ones differ and neither is a bound fact, a fact changed, whatever follows. A fact that comes next in both is
 // looked up once, and suits, as it did before the step.
-fn turn(
+fn mark_next(
     before: &mut [u8],
     after: &mut [u8],
     s: &[u8],
@@ -136,7 +136,7 @@ fn turn(
 ) -> Walk
     requires { ⌜ Inverts b (now t) × Ahead (now s) (w .pre) × Ahead (now s) (plain (w .post)) × (0 < w .pre .left) × (0 < w .post .left) ⌝ }
     requires { ⌜ Suited (now table) (rest (now s) (w .pre)) × (w .post .size ≡ factSize) × (w .post .key ≡ factKey (w .post .last)) ⌝ }
-    ensures { λ r. ⌜ (r .bad ≡ false → Turned (now (s .entry)) (now (atoms .entry)) b w (now (before .entry)) (now (after .entry)) r (now (before .exit)) (now (after .exit))) ⌝ }
+    ensures { λ r. ⌜ (r .bad ≡ false → NextMarked (now (s .entry)) (now (atoms .entry)) b w (now (before .entry)) (now (after .entry)) r (now (before .exit)) (now (after .exit))) ⌝ }
     ensures { λ r. ⌜ Looks (now (s .entry)) (now (table .entry)) (w .post) (r .post) (r .bad) ⌝ }
 {
     let p = w.pre;
@@ -203,7 +203,7 @@ pub fn mark_step(
     post: usize,
     before: &mut [u8],
     after: &mut [u8],
-) -> Sight
+) -> MarkedList
     requires { ⌜ (pre ≤ nearCeiling) × (post ≤ nearCeiling) × (listEnd (now s) pre ≤ length (now s)) × (listEnd (now s) post ≤ length (now s)) ⌝ }
     requires { ⌜ (now t ≡ noDigits) × (now before ≡ empty setSize) × (now after ≡ empty setSize) × Suited (now table) (listAt (now s) pre) ⌝ }
     ensures { λ r. ⌜ ListLooked (now (s .entry)) (now (table .entry)) post (r .answer) ⌝ }
@@ -218,9 +218,9 @@ pub fn mark_step(
     };
     while (0 < w.pre.left) & (0 < w.post.left) {
         let place = w.post.at;
-        w = turn(before, after, s, table, t, atoms, b, w);
+        w = mark_next(before, after, s, table, t, atoms, b, w);
         if w.bad {
-            return Sight {
+            return MarkedList {
                 answer: Answer::Refused(8, place),
                 unbound: false,
             };
@@ -232,7 +232,7 @@ pub fn mark_step(
     let r = look_rest(after, s, table, t, atoms, b, q);
     lifting::restore(t, b);
     let answer = r.answer;
-    Sight {
+    MarkedList {
         answer,
         unbound: w.changed | only_before | r.unbound,
     }
@@ -241,7 +241,7 @@ pub fn mark_step(
 // ---- the facts that turn
 
 // A list of facts that turn, read once: row 8 of it and, where it is good, whether one of them is no bound fact, and how many facts hold after it.
-pub struct TurnSight {
+pub struct TurnedList {
     pub answer: Answer,
     pub unbound: bool,
     pub count: usize,
@@ -259,7 +259,7 @@ pub fn mark_turned(
     state: &mut [u8],
     held: usize,
     after: &mut [u8],
-) -> TurnSight
+) -> TurnedList
     requires { ⌜ (at ≤ nearCeiling) × (listEnd (now s) at ≤ length (now s)) × (now t ≡ noDigits) × (length (now state) ≡ stateSize) × (held ≡ cardinality (now state)) × RightForFew (now table) ⌝ }
     ensures { λ r. ⌜ ListLooked (now (s .entry)) (now (table .entry)) at (r .answer) ⌝ }
     ensures { λ r. ⌜ ((k : ℕ) → r .answer ≡ Good k → (now (t .exit) ≡ noDigits) × StepTurned (now (atoms .entry)) b (listAt (now (s .entry)) at) (now (state .entry)) (now (state .exit)) (now (after .entry)) (now (after .exit)) (r .unbound) × (r .count ≡ cardinality (now (state .exit)))) ⌝ }
@@ -270,7 +270,7 @@ pub fn mark_turned(
     let mut count = held;
     while 0 < c.left {
         if c.bad(s, table) {
-            return TurnSight {
+            return TurnedList {
                 answer: Answer::Refused(8, c.at),
                 unbound: false,
                 count: 0,
@@ -284,7 +284,7 @@ pub fn mark_turned(
         unbound = unbound | (lifting::UNBOUND <= x);
     }
     lifting::restore(t, b);
-    TurnSight {
+    TurnedList {
         answer: Answer::Good(c.at),
         unbound,
         count,

@@ -45,7 +45,7 @@ firstSets a atoms l = widened (setAt a bound) atoms (widened (setAt a alwaysAfte
 
 -- what is asked of the step at an offset: its list lies within the book, its move is one that there may be, a state has room for its objects, and the
 -- bound facts of its move are of relations that the book has
-pub record Turnable (h : Sections) (s : List ℕ) (at : ℕ) (m masks : List ℕ) : Type 0 where
+pub record StepTurnable (h : Sections) (s : List ℕ) (at : ℕ) (m masks : List ℕ) : Type 0 where
   pub near : at ≤ maxLength
   pub within : listEnd s (at + stepSize) ≤ length s
   pub counted : 1 ≤ stepAt s at .action .0

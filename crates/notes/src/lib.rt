@@ -15,7 +15,7 @@ ghost use Rattle.answer.specs.declared.Answer.the-variants.{Good};
 ghost use Rattle.states.specs.Looked.{ListLooked};
 ghost use Rattle.lifting.specs.Pairs.{noDigits};
 ghost use Rattle.marks.specs.Marks.{Suited, RightForFew};
-ghost use Rattle.notes.specs.Notes.{narrowed, widened, observedStep, IsObserved, firstSets, Turnable, TurnObserved};
+ghost use Rattle.notes.specs.Notes.{narrowed, widened, observedStep, IsObserved, firstSets, StepTurnable, TurnObserved};
 use answer::Answer;
 use terms::Move;
 use terms::Sections;
@@ -152,7 +152,7 @@ pub fn observe_turned(
     observed: &mut [u8],
     named: usize,
 ) -> Noted
-    requires { ⌜ Turnable h (now s) at (now state) (now observed) × (now t ≡ noDigits) × (held ≡ cardinality (now state)) × RightForFew (now table) ⌝ }
+    requires { ⌜ StepTurnable h (now s) at (now state) (now observed) × (now t ≡ noDigits) × (held ≡ cardinality (now state)) × RightForFew (now table) ⌝ }
     ensures { λ r. ⌜ ListLooked (now (s .entry)) (now (table .entry)) (at + stepSize) (r .answer) ⌝ }
     ensures { λ r. ⌜ ((k : ℕ) → r .answer ≡ Good k → (now (t .exit) ≡ noDigits) × TurnObserved (schema h (now (s .entry))) (stepAt (now (s .entry)) at) (listAt (now (s .entry)) (at + stepSize)) at (now (observed .entry)) named (now (observed .exit)) (r .named) (now (state .entry)) (now (state .exit)) × (r .count ≡ cardinality (now (state .exit)))) ⌝ }
 {

@@ -45,7 +45,7 @@ use Rattle.records.specs.Readable.{schemaIn, typedIn, stepAlone, stepListed}
 use Rattle.records.proofs.Parts.{alone-behind}
 use Rattle.marks.specs.Marks.{Suited, RightForFew}
 use Rattle.notes.specs.declared.Noted.{Noted}
-use Rattle.notes.specs.Notes.{observedStep, IsObserved, Turnable, observedTurned, TurnObserved}
+use Rattle.notes.specs.Notes.{observedStep, IsObserved, StepTurnable, observedTurned, TurnObserved}
 use Rattle.observing.specs.Observing.{Observable, Ready, Whole, Done}
 
 -- the bound facts of a move are of relations that the book has
@@ -132,7 +132,7 @@ module _ (s : List ℕ) (c : Scope) (table : List ℕ) (obs : Observable s c tab
       unfolding schema
       ended n l = rw (ready .begun .atoms _ (step-move .0) (step-move .1)) (atoms-end (schemaIn s c) (stepAt s at .action .0) n l known)
 
-      pub ready-turnable : Turnable (c .h) s at m masks
+      pub ready-turnable : StepTurnable (c .h) s at m masks
       ready-turnable =
           record {
             near = step-within .0;

@@ -1,4 +1,4 @@
--- Two lists of facts walked together: each way on of `turn`, and what its loop leaves.
+-- Two lists of facts walked together: each way on of `merge_next`, and what its loop leaves.
 use Prim.Native.Nat.{ℕ, zero, suc, _+_, _-_, _<_, _≤_}
 use native.Mathlib.Omega.{arith}
 use mathlib.Core.Path.{_≡_, refl, sym, ap, ap₂, _∙_}
@@ -22,7 +22,7 @@ use Rattle.factlist.specs.Rest.{rest, Ahead, next, Comes}
 use Rattle.factlist.proofs.Rest.{rest-none}
 use Rattle.rendering.specs.declared.Walk.{Walk}
 use Rattle.rendering.specs.Appended.{pastEnd, Appended, AllBut}
-use Rattle.rendering.specs.Merge.{toCome, left, Merging, Turned}
+use Rattle.rendering.specs.Merge.{toCome, left, Merging, NextMerged}
 use Rattle.rendering.specs.Good.{GoodList}
 use Rattle.rendering.proofs.Appended.{append-none, append-then, part-none, part-one, part-then, part-all}
 
@@ -31,7 +31,7 @@ pub list-near : {s : List ℕ} {at : ℕ} → GoodList s at → at ≤ nearCeili
 unfolding listEnd
 list-near good = omega (arith, good .within, good .near)
 
--- ---- a turn
+-- ---- one fact more
 
 first-fact : (f : Fact) (fs gs : List Fact) → gs ≡ f ∷ fs → factsBytes (f ∷ []) ++ factsBytes fs ≡ factsBytes gs
 unfolding factsBytes
@@ -45,9 +45,9 @@ module _ (state s : List ℕ) (v : Walk) (m : Merging state s v) (f g : Fact) (a
   later = (rw (b .first) at (m .order)) .1
 
   -- a fact that holds, and does not turn
-  pub turned-held : precedes f g ≡ true → (h : ListCursor) → h ≡ next (v .held) → (r : ℕ) (old new : List ℕ)
-      → Appended (factsBytes (f ∷ [])) (v .at) old new r → Turned state s v old (record { held = h; turns = v .turns; at = r }) new
-  turned-held e h d r old new p =
+  pub merged-held : precedes f g ≡ true → (h : ListCursor) → h ≡ next (v .held) → (r : ℕ) (old new : List ℕ)
+      → Appended (factsBytes (f ∷ [])) (v .at) old new r → NextMerged state s v old (record { held = h; turns = v .turns; at = r }) new
+  merged-held e h d r old new p =
       let w : Walk = record { held = h; turns = v .turns; at = r } in
       let l = a .less in
       let same : toCome state s v ≡ f ∷ toCome state s w = both ∙ merge-before f g _ _ e later ∙ rw (d, b .first) in
@@ -58,9 +58,9 @@ module _ (state s : List ℕ) (v : Walk) (m : Merging state s v) (f g : Fact) (a
       }
 
   -- one that turns, and did not hold
-  pub turned-turn : precedes g f ≡ true → (h : ListCursor) → h ≡ next (v .turns) → (r : ℕ) (old new : List ℕ)
-      → Appended (factsBytes (g ∷ [])) (v .at) old new r → Turned state s v old (record { held = v .held; turns = h; at = r }) new
-  turned-turn e h d r old new p =
+  pub merged-turn : precedes g f ≡ true → (h : ListCursor) → h ≡ next (v .turns) → (r : ℕ) (old new : List ℕ)
+      → Appended (factsBytes (g ∷ [])) (v .at) old new r → NextMerged state s v old (record { held = v .held; turns = h; at = r }) new
+  merged-turn e h d r old new p =
       let w : Walk = record { held = v .held; turns = h; at = r } in
       let l = b .less in
       let same : toCome state s v ≡ g ∷ toCome state s w = both ∙ merge-after f g _ _ e later ∙ rw (d, a .first) in
@@ -71,9 +71,9 @@ module _ (state s : List ℕ) (v : Walk) (m : Merging state s v) (f g : Fact) (a
       }
 
   -- one that held, and turns
-  pub turned-both : precedes f g ≡ false → precedes g f ≡ false → (h k : ListCursor) → h ≡ next (v .held) → k ≡ next (v .turns) → v .at ≤ pastEnd → (old : List ℕ)
-      → Turned state s v old (record { held = h; turns = k; at = v .at }) old
-  turned-both e e′ h k d d′ n old =
+  pub merged-both : precedes f g ≡ false → precedes g f ≡ false → (h k : ListCursor) → h ≡ next (v .held) → k ≡ next (v .turns) → v .at ≤ pastEnd → (old : List ℕ)
+      → NextMerged state s v old (record { held = h; turns = k; at = v .at }) old
+  merged-both e e′ h k d d′ n old =
       let w : Walk = record { held = h; turns = k; at = v .at } in
       let l = a .less in
       let l′ = b .less in
@@ -121,7 +121,7 @@ module _ (state s : List ℕ) (at w : ℕ) (old : List ℕ) where
       }
 
 module _ {state s whole : List ℕ} {w : ℕ} {old : List ℕ} {v : Walk} {mid : List ℕ} (m : Merged state s whole w old v mid) where
-  pub merged-next : {u : Walk} {new : List ℕ} → Turned state s v mid u new → Merged state s whole w old u new
+  pub merged-next : {u : Walk} {new : List ℕ} → NextMerged state s v mid u new → Merged state s whole w old u new
   merged-next t = record { merging = t .merging; appended = part-then (m .appended) (t .appended) }
 
   -- one of the lists is at its end

@@ -24,7 +24,7 @@ pub record Merging (state s : List ℕ) (v : Walk) : Type 0 where
   pub order : Increasing last (rest s (v .turns))
 
 -- From v to w: nearer to the end, and of the facts that hold afterwards those that come no more were appended.
-pub record Turned (state s : List ℕ) (v : Walk) (old : List ℕ) (w : Walk) (new : List ℕ) : Type 0 where
+pub record NextMerged (state s : List ℕ) (v : Walk) (old : List ℕ) (w : Walk) (new : List ℕ) : Type 0 where
   pub merging : Merging state s w
   pub less : left w < left v
   pub appended : AllBut (factsBytes (toCome state s w)) (factsBytes (toCome state s v)) (v .at) old new (w .at)

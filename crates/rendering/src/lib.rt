@@ -20,7 +20,7 @@ ghost use Rattle.format.specs.Decode.{recordedStepsAt};
 ghost use Rattle.jobs.specs.Convert.{factsBytes, listBytes, stepBytes, stepsBytes, recordBytes, recordsBytes};
 ghost use Rattle.rendering.specs.Appended.{pastEnd, Appended};
 ghost use Rattle.factlist.specs.Rest.{rest, Ahead};
-ghost use Rattle.rendering.specs.Merge.{Merging, Turned};
+ghost use Rattle.rendering.specs.Merge.{Merging, NextMerged};
 ghost use Rattle.rendering.specs.Held.{heldSize, Holds, Carried};
 ghost use Rattle.rendering.specs.Good.{GoodBook, GoodList, GoodNext, GoodSteps, GoodTrajectory, GoodRecord, GoodRecords};
 ghost use Rattle.rendering.specs.Formed.{trajectoryBytes, Formed};
@@ -81,9 +81,9 @@ struct Walk {
 
 // One fact more of a list, or of both. Facts stand in order, so a fact that comes next in one list and not in the other is in that list alone: it
 // holds afterwards. One that comes next in both holds no more.
-fn turn(new: &mut [u8], state: &[u8], book: &[u8], v: Walk) -> Walk
+fn merge_next(new: &mut [u8], state: &[u8], book: &[u8], v: Walk) -> Walk
     requires { ⌜ (length (now new) ≡ maxLength) × Merging (now state) (now book) v × (0 < v .held .left) × (0 < v .turns .left) × (v .at ≤ pastEnd) ⌝ }
-    ensures { λ r. ⌜ Turned (now (state .entry)) (now (book .entry)) v (now (new .entry)) r (now (new .exit)) ⌝ }
+    ensures { λ r. ⌜ NextMerged (now (state .entry)) (now (book .entry)) v (now (new .entry)) r (now (new .exit)) ⌝ }
 {
     let p = v.held;
     let q = v.turns;
@@ -121,7 +121,7 @@ fn append_turned(new: &mut [u8], w: usize, state: &[u8], book: &[u8], at: usize)
         at: w,
     };
     while (0 < v.held.left) & (0 < v.turns.left) {
-        v = turn(new, state, book, v);
+        v = merge_next(new, state, book, v);
     }
     let p = v.held;
     let q = v.turns;

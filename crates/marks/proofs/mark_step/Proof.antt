@@ -33,8 +33,8 @@ loop-holds c =
     let p = i .before .before .before .before .before .before .before .pre in
     (stands-first _ _ _ _ _ _ _ _ _ f l (p .1 .1) (p .1 .2), i .invert .ensures, refl, refl, rw (f .0) (p .1 .3), l .looked _)
 
-turn-requires : tie.Need-turn-requires Inv-loop μ-loop
-turn-requires c κs =
+mark-next-requires : tie.Need-mark-next-requires Inv-loop μ-loop
+mark-next-requires c κs =
     let u = c .before .before .before in
     let i = u .before .before .before .loop .inv in
     let h = both-left _ _ (u .if1 .taken) in
@@ -49,29 +49,29 @@ same-length c =
 same-length-2 : tie.Need-same-length-2 Inv-loop μ-loop
 same-length-2 c =
     let t = c .before .before .before .before .before in
-    t .turn .kept .0 ∙ t .before .before .before .before .before .before .before .loop .inv .2
+    t .mark-next .kept .0 ∙ t .before .before .before .before .before .before .before .loop .inv .2
 
 same-length-3 : tie.Need-same-length-3 Inv-loop μ-loop
 same-length-3 c =
     let t = c .before .before .before .before .before in
-    t .turn .kept .1 .0 ∙ t .before .before .before .before .before .before .before .loop .inv .3
+    t .mark-next .kept .1 .0 ∙ t .before .before .before .before .before .before .before .loop .inv .3
 
 returns : tie.Need-returns Inv-loop μ-loop
 returns c =
     let t = c .before .before .before .before .before in
     let i = t .before .before .before .before .before .before .before .loop .inv in
-    (λ end reach. t .turn .ensures .1 .refused (c .if2 .taken) end _ _ (i .5 end reach), λ k e. good-refused k _ _ (sym e))
+    (λ end reach. t .mark-next .ensures .1 .refused (c .if2 .taken) end _ _ (i .5 end reach), λ k e. good-refused k _ _ (sym e))
 
 loop-less : tie.Need-loop-less Inv-loop μ-loop
-loop-less c = c .before .before .before .before .before .turn .ensures .0 (c .if2 .left) .less
+loop-less c = c .before .before .before .before .before .mark-next .ensures .0 (c .if2 .left) .less
 
 loop-again : tie.Need-loop-again Inv-loop μ-loop
 loop-again c =
     let t = c .before .before .before .before .before in
     let i = t .before .before .before .before .before .before .before .loop .inv in
-    let e = t .turn .ensures in
+    let e = t .mark-next .ensures in
     let d = e .0 (c .if2 .left) in
-    (stands-next _ _ _ (i .0) d, i .1, t .turn .kept .0 ∙ i .2, t .turn .kept .1 .0 ∙ i .3, d .suited _ (i .4), λ end reach. e .1 .on (c .if2 .left) end _ _ (i .5 end reach))
+    (stands-next _ _ _ (i .0) d, i .1, t .mark-next .kept .0 ∙ i .2, t .mark-next .kept .1 .0 ∙ i .3, d .suited _ (i .4), λ end reach. e .1 .on (c .if2 .left) end _ _ (i .5 end reach))
 
 mark-rest-requires : tie.Need-mark-rest-requires Inv-loop μ-loop
 mark-rest-requires c κs =
@@ -116,5 +116,5 @@ returns-2 c =
 pub mark-step-spec : {M : Type 1} → statement M
 mark-step-spec =
     tie.close
-    (tie.spec Inv-loop μ-loop (λ c κs. search needs) (λ c κs. search needs) (λ c κs. search needs) loop-holds turn-requires same-length same-length-2
+    (tie.spec Inv-loop μ-loop (λ c κs. search needs) (λ c κs. search needs) (λ c κs. search needs) loop-holds mark-next-requires same-length same-length-2
     same-length-3 returns loop-less loop-again mark-rest-requires look-rest-requires restore-requires same-length-4 same-length-5 same-length-6 returns-2)

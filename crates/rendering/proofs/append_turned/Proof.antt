@@ -34,19 +34,19 @@ loop-holds c =
     let p = c .before .before .before .before .before .pre in
     (merged-first _ _ _ _ _ _ _ (c .before .of-list .ensures) (c .of-list2 .ensures) (p .3) (p .1), p .0)
 
-turn-requires : tie.Need-turn-requires Inv-loop μ-loop
-turn-requires c κs =
+merge-next-requires : tie.Need-merge-next-requires Inv-loop μ-loop
+merge-next-requires c κs =
     let i = c .before .before .before .before .loop .inv in
     let h = both-left _ _ (c .before .if1 .taken) in
     (i .1, i .0 .merging, h .0, h .1, i .0 .appended .appended .most)
 
 loop-less : tie.Need-loop-less Inv-loop μ-loop
-loop-less c = c .before .before .turn .ensures .less
+loop-less c = c .before .before .merge-next .ensures .less
 
 loop-again : tie.Need-loop-again Inv-loop μ-loop
 loop-again c =
     let i = c .before .before .before .before .before .before .before .loop .inv in
-    (merged-next (i .0) (c .before .before .turn .ensures), omega arith)
+    (merged-next (i .0) (c .before .before .merge-next .ensures), omega arith)
 
 append-rest-requires : tie.Need-append-rest-requires Inv-loop μ-loop
 append-rest-requires c κs =
@@ -67,5 +67,5 @@ returns c = merged-end (c .before .before .before .before .before .before .befor
 pub append-turned-spec : {M : Type 1} → statement M
 append-turned-spec =
     tie.close
-    (tie.spec Inv-loop μ-loop of-list-requires of-list-requires-2 loop-holds turn-requires loop-less loop-again append-rest-requires append-rest-requires-2
+    (tie.spec Inv-loop μ-loop of-list-requires of-list-requires-2 loop-holds merge-next-requires loop-less loop-again append-rest-requires append-rest-requires-2
     same-length returns)

@@ -1,11 +1,11 @@
--- `marks::turn` meets its contract: each of its three ways on is a law of Steps. A place in the proof has the name of the value that it makes known.
+-- `marks::mark_next` meets its contract: each of its three ways on is a law of Steps. A place in the proof has the name of the value that it makes known.
 use native.Mathlib.Omega.{arith}
 use borrow.Author.Needs.{needs}
 use Rattle.truth.specs.Bools.{clash}
 use Rattle.marks.proofs.Looks.{plain-next, item-ahead, comes-plain, same-told, looks-stay, looks-next, looks-wrong}
-use Rattle.marks.proofs.Steps.{turned-both, turned-before, turned-after}
-use Rattle.marks.proofs.turn.Statement.{statement}
-use Rattle.marks.proofs.turn.Tie as tie
+use Rattle.marks.proofs.Steps.{marked-both, marked-before, marked-after}
+use Rattle.marks.proofs.mark_next.Statement.{statement}
+use Rattle.marks.proofs.mark_next.Tie as tie
 
 fact-requires-2 : tie.Need-fact-requires-2
 fact-requires-2 c κs =
@@ -69,7 +69,7 @@ returns-2 c =
     let f = g .before in
     let a = f .before .before .before .before .before .before .before .before .pre in
     let told = same-told _ _ _ _ _ _ _ _ (f .fact .ensures) (a .1 .0) (e .same-fact .ensures) (i .if1 .taken) (omega (arith, g .fact2 .ok)) (g .fact2 .ensures) (k .follows .ensures) in (
-      λ _. turned-both _ _ _ _ _ _ _ (f .fact .ensures) _ (comes-plain _ _ (a .1 .1) (a .0 .2) (a .0 .4) _ (g .fact2 .ensures)) _ (e .same-fact .ensures) _ (x .pair .ensures)
+      λ _. marked-both _ _ _ _ _ _ _ (f .fact .ensures) _ (comes-plain _ _ (a .1 .1) (a .0 .2) (a .0 .4) _ (g .fact2 .ensures)) _ (e .same-fact .ensures) _ (x .pair .ensures)
           (i .if1 .taken) _ _ _ _ (p .pass .ensures) (m .mark .ensures, plain-next _ _ (a .1 .1) _ (n .next .ensures)),
       looks-next _ _ _ _ told (a .0 .4) (u .if2 .left) _ (n .next .ensures),
     )
@@ -81,7 +81,7 @@ returns-3 c =
     let x = u .before .before .before in
     let f = x .before .before in
     let a = f .before .before .before .before .before .before .before .before .pre in
-    (λ _. turned-before _ _ _ _ _ _ _ (f .fact .ensures) (a .0 .2) _ (x .pair .ensures) (u .if3 .taken) _ _ (p .pass2 .ensures), looks-stay _ _ _)
+    (λ _. marked-before _ _ _ _ _ _ _ (f .fact .ensures) (a .0 .2) _ (x .pair .ensures) (u .if3 .taken) _ _ (p .pass2 .ensures), looks-stay _ _ _)
 
 returns-4 : tie.Need-returns-4
 returns-4 c =
@@ -103,13 +103,13 @@ returns-5 c =
     let g = x .before in
     let f = g .before in
     let a = f .before .before .before .before .before .before .before .before .pre in (
-      λ _. turned-after _ _ _ _ _ _ _ (f .fact .ensures) _ (comes-plain _ _ (a .1 .1) (a .0 .2) (a .0 .4) _ (g .fact2 .ensures)) _ (e .same-fact .ensures) (a .0 .1)
+      λ _. marked-after _ _ _ _ _ _ _ (f .fact .ensures) _ (comes-plain _ _ (a .1 .1) (a .0 .2) (a .0 .4) _ (g .fact2 .ensures)) _ (e .same-fact .ensures) (a .0 .1)
           (i .if1 .left) _ _ (x .pair .ensures) (v .if3 .left) (y .pair2 .ensures) _ _ (m .mark2 .ensures, plain-next _ _ (a .1 .1) _ (n .next2 .ensures)),
       looks-next _ _ _ _ (d .bad .ensures) (a .0 .4) (u .if4 .left) _ (n .next2 .ensures),
     )
 
-pub turn-spec : {M : Type 1} → statement M
-turn-spec =
+pub mark-next-spec : {M : Type 1} → statement M
+mark-next-spec =
     tie.close
     (tie.spec (λ c κs. search needs) fact-requires-2 (λ c κs. search needs) (λ c κs. search needs) follows-requires (λ c κs. search needs) returns
     next-requires (λ c κs. search needs) pass-requires (λ c. search needs) (λ c. search needs) returns-2 pass-requires-2 (λ c. search needs) returns-3
