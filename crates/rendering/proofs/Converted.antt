@@ -17,10 +17,10 @@ use Rattle.limits.specs.Limits.{maxLength, headerSize}
 use Rattle.format.specs.Form.{Form}
 use Rattle.format.proofs.LookOver.{LookedOver, look-over-good}
 use Rattle.jobs.specs.Convert.{bytesAt, recordsBytes, allRecordsBytes, converted}
-use Rattle.rendering.specs.Appended.{Appended}
+use Rattle.appending.specs.Appended.{Appended}
 use Rattle.rendering.specs.Good.{GoodBook, GoodRecords}
 use Rattle.rendering.specs.Formed.{Formed}
-use Rattle.rendering.proofs.Appended.{append-then, append-same, append-renewed}
+use Rattle.appending.proofs.Appended.{append-then, append-same, append-renewed}
 
 module _ (form : Form) (s : List ℕ) (good : GoodBook form s) (h : Sections) (is : h ≡ sectionsOf s) where
   looked : LookedOver form s (good .0)

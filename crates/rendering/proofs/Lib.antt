@@ -1,5 +1,4 @@
 -- Laws for the proofs of the functions.
-pub mod Appended
 pub mod Bytes
 pub mod Merge
 pub mod Held

@@ -13,10 +13,10 @@ use Rattle.format.specs.Lists.{listAt, listEnd}
 use Rattle.format.specs.Toggled.{toggled}
 use Rattle.format.specs.Form.{Form, stateAfter}
 use Rattle.jobs.specs.Convert.{factsBytes, listBytes}
-use Rattle.rendering.specs.Appended.{Appended}
+use Rattle.appending.specs.Appended.{Appended}
 use Rattle.rendering.specs.Held.{heldSize, Carried}
 use Rattle.rendering.specs.Good.{GoodNext}
-use Rattle.rendering.proofs.Appended.{append-then, append-same, append-renewed}
+use Rattle.appending.proofs.Appended.{append-then, append-same, append-renewed}
 use Rattle.rendering.proofs.Bytes.{facts-length, list-bytes-length, list-read}
 use Rattle.rendering.proofs.Held.{list-size}
 

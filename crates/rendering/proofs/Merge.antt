@@ -21,10 +21,10 @@ use Rattle.factlist.specs.declared.ListCursor.{ListCursor}
 use Rattle.factlist.specs.Rest.{rest, Ahead, next, Comes}
 use Rattle.factlist.proofs.Rest.{rest-none}
 use Rattle.rendering.specs.declared.Walk.{Walk}
-use Rattle.rendering.specs.Appended.{pastEnd, Appended, AllBut}
+use Rattle.appending.specs.Appended.{pastEnd, Appended, AllBut}
 use Rattle.rendering.specs.Merge.{toCome, left, Merging, NextMerged}
 use Rattle.rendering.specs.Good.{GoodList}
-use Rattle.rendering.proofs.Appended.{append-none, append-then, part-none, part-one, part-then, part-all}
+use Rattle.appending.proofs.Appended.{append-none, append-then, part-none, part-one, part-then, part-all}
 
 -- a list of the book begins at an offset that can be added to
 pub list-near : {s : List ℕ} {at : ℕ} → GoodList s at → at ≤ nearCeiling

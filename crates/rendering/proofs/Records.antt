@@ -25,12 +25,12 @@ use Rattle.jobs.specs.Convert.{listBytes, stepsBytes, bytesAt, bodyBytes, recor
 use Rattle.wellformed.specs.Right.{Increasing}
 use Rattle.wellformed.proofs.States.{list-increasing, list-few}
 use Rattle.wellformed.proofs.Toggled.{toggled-none}
-use Rattle.rendering.specs.Appended.{pastEnd, Appended, AllBut}
+use Rattle.appending.specs.Appended.{pastEnd, Appended, AllBut}
 use Rattle.rendering.specs.Held.{Holds, Carried}
 use Rattle.rendering.specs.Good.{GoodNext, GoodTrajectory, GoodRecord, GoodRecords}
 use Rattle.rendering.specs.Formed.{trajectoryBytes}
 use Rattle.rendering.proofs.Bytes.{part-cons, part-three}
-use Rattle.rendering.proofs.Appended.{append-then, append-stays, append-same, append-renewed, part-none, part-one, part-then, part-all}
+use Rattle.appending.proofs.Appended.{append-then, append-stays, append-same, append-renewed, part-none, part-one, part-then, part-all}
 
 -- ---- from the first state on
 

@@ -16,10 +16,10 @@ use Rattle.format.proofs.States.{next-good}
 use Rattle.format.proofs.Records.{step-good, step-ends, steps-parted}
 use Rattle.jobs.specs.Convert.{listBytes, stepBytes, listed, stepsBytes}
 use Rattle.wellformed.proofs.States.{list-increasing}
-use Rattle.rendering.specs.Appended.{pastEnd, Appended, AllBut}
+use Rattle.appending.specs.Appended.{pastEnd, Appended, AllBut}
 use Rattle.rendering.specs.Held.{Holds, Carried}
 use Rattle.rendering.specs.Good.{GoodNext, GoodSteps}
-use Rattle.rendering.proofs.Appended.{append-then, part-none, part-one, part-then, part-over, part-all}
+use Rattle.appending.proofs.Appended.{append-then, part-none, part-one, part-then, part-over, part-all}
 
 -- ---- what is asked
 

@@ -6,7 +6,7 @@ use lib.ListN.{length}
 use Rattle.terms.specs.declared.Fact.{Fact}
 use Rattle.limits.specs.Limits.{maxLength, countSize, factSize, maxFacts}
 use Rattle.format.specs.Lists.{listAt}
-use Rattle.rendering.specs.Appended.{Appended}
+use Rattle.appending.specs.Appended.{Appended}
 
 -- a count and 256 facts
 abbrev pub heldSize : ℕ

@@ -1,5 +1,4 @@
--- What the functions promise: bytes appended to the new book, the facts of two lists that are yet to come, what is asked of the book, and the whole.
-pub mod Appended
+-- What the functions promise: the facts of two lists that are yet to come, what is asked of the book, and the whole.
 pub mod Merge
 pub mod Held
 pub mod Good

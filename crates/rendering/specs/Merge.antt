@@ -7,7 +7,7 @@ use Rattle.jobs.specs.Convert.{factsBytes}
 use Rattle.wellformed.specs.Right.{Increasing}
 use Rattle.factlist.specs.Rest.{rest, Ahead}
 use Rattle.rendering.specs.declared.Walk.{Walk}
-use Rattle.rendering.specs.Appended.{AllBut}
+use Rattle.appending.specs.Appended.{AllBut}
 
 -- the facts to come of the state, of those that turn, and those that hold when they have turned
 abbrev pub toCome : List ℕ → List ℕ → Walk → List Fact

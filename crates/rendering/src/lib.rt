@@ -1,14 +1,15 @@
 // Converting a book of good form to the other form, full or short, in lent memory: one function for both directions. The list that is written
 // after a step has in both the facts that are in one alone of the state before it and the list that is read; only what holds next differs.
 // The new book is formed front to back; counts and lengths are copied first and renewed when they are known.
-// Uses answer, input, limits, output, terms, factlist for a list's facts, where a list ends from states, and the definitions of jobs and format.
+// Uses answer, input, limits, output, terms, appending for what is written, factlist for a list's facts, where a list ends from states, and the
+// definitions of jobs and format.
 use answer::Answer;
 use factlist::ListCursor;
 use terms::Fact;
 use terms::Sections;
 ghost use mathlib.Core.Path.{_≡_};
 ghost use mathlib.Core.Bool.{not};
-ghost use mathlib.Core.List.{[], _∷_, _++_};
+ghost use mathlib.Core.List.{_++_};
 ghost use Prim.Native.Nat.{_+_, _≤_, _<_};
 ghost use lib.ListN.{length};
 ghost use Rattle.limits.specs.Limits.{maxLength, maxFacts, stepSize};
@@ -18,56 +19,26 @@ ghost use Rattle.format.specs.Toggled.{toggled};
 ghost use Rattle.format.specs.Form.{stateAfter};
 ghost use Rattle.format.specs.Decode.{recordedStepsAt};
 ghost use Rattle.jobs.specs.Convert.{factsBytes, listBytes, stepBytes, stepsBytes, recordBytes, recordsBytes};
-ghost use Rattle.rendering.specs.Appended.{pastEnd, Appended};
+ghost use Rattle.appending.specs.Appended.{pastEnd, Appended};
 ghost use Rattle.factlist.specs.Rest.{rest, Ahead};
 ghost use Rattle.rendering.specs.Merge.{Merging, NextMerged};
 ghost use Rattle.rendering.specs.Held.{heldSize, Holds, Carried};
 ghost use Rattle.rendering.specs.Good.{GoodBook, GoodList, GoodNext, GoodSteps, GoodTrajectory, GoodRecord, GoodRecords};
 ghost use Rattle.rendering.specs.Formed.{trajectoryBytes, Formed};
 
-// The offset of a book that has passed its end, however far: nothing more is written.
-const PAST_END: usize = limits::MAX_LENGTH + 1;
-
 // The longest state as a list.
 const HELD_SIZE: usize = limits::COUNT_SIZE + limits::FACT_SIZE * limits::MAX_FACTS as usize;
 
-// ---- bytes appended
-
-// From the offset `w` on, which the new book has reached, here and below; where the bytes end is returned.
-fn append(new: &mut [u8], w: usize, bytes: &[u8]) -> usize
-    requires { ⌜ (length (now new) ≡ maxLength) × (w ≤ pastEnd) ⌝ }
-    ensures { λ r. ⌜ Appended (now (bytes .entry)) w (now (new .entry)) (now (new .exit)) r ⌝ }
-{
-    if PAST_END - w <= bytes.len() {
-        return PAST_END;
-    }
-    output::write_bytes(new, w, bytes);
-    w + bytes.len()
-}
-
-fn append_fact(new: &mut [u8], w: usize, f: Fact) -> usize
-    requires { ⌜ (length (now new) ≡ maxLength) × (w ≤ pastEnd) ⌝ }
-    ensures { λ r. ⌜ Appended (factsBytes (f ∷ [])) w (now (new .entry)) (now (new .exit)) r ⌝ }
-{
-    if limits::MAX_LENGTH < w + limits::FACT_SIZE {
-        return PAST_END;
-    }
-    new[w] = f.relation.0;
-    new[w + 1] = f.first.0;
-    new[w + 2] = f.second.0;
-    w + limits::FACT_SIZE
-}
-
 // ---- the facts of a list
 
-// The facts of a list that are yet to come.
+// The facts of a list that are yet to come, from the offset `w` on, which the new book has reached, here and below; where they end is returned.
 fn append_rest(new: &mut [u8], w: usize, s: &[u8], c: ListCursor) -> usize
     requires { ⌜ (length (now new) ≡ maxLength) × (w ≤ pastEnd) × Ahead (now s) c ⌝ }
     ensures { λ r. ⌜ Appended (factsBytes (rest (now (s .entry)) c)) w (now (new .entry)) (now (new .exit)) r ⌝ }
 {
     let at = c.at;
     let end = at + limits::FACT_SIZE * c.left as usize;
-    append(new, w, &s[at..end])
+    appending::append(new, w, &s[at..end])
 }
 
 // ---- the facts of two lists
@@ -93,14 +64,14 @@ fn merge_next(new: &mut [u8], state: &[u8], book: &[u8], v: Walk) -> Walk
         return Walk {
             held: p.on(),
             turns: q,
-            at: append_fact(new, v.at, f),
+            at: appending::append_fact(new, v.at, f),
         };
     }
     if f.follows(g, g.key()) {
         return Walk {
             held: p,
             turns: q.on(),
-            at: append_fact(new, v.at, g),
+            at: appending::append_fact(new, v.at, g),
         };
     }
     Walk {
@@ -137,7 +108,7 @@ fn append_list(new: &mut [u8], w: usize, state: &[u8], book: &[u8], at: usize) -
     ensures { λ r. ⌜ Appended (listBytes (toggled (listAt (now (state .entry)) 0) (listAt (now (book .entry)) at))) w (now (new .entry)) (now (new .exit)) r ⌝ }
 {
     let first = at + limits::COUNT_SIZE;
-    let from = append(new, w, &book[at..first]);
+    let from = appending::append(new, w, &book[at..first]);
     let end = append_turned(new, from, state, book, at);
     if limits::MAX_LENGTH < end {
         return end;
@@ -194,7 +165,7 @@ fn append_step(
     ensures { λ r. ⌜ Carried (stepBytes (stepAt (now (book .entry)) at) ++ listBytes (toggled (listAt (now (state .entry)) 0) (listAt (now (book .entry)) (at + stepSize)))) (stateAfter short (now (book .entry)) (listAt (now (state .entry)) 0) (at + stepSize)) w (now (new .entry)) (now (new .exit)) (now (state .exit)) r ⌝ }
 {
     let next = at + limits::STEP_SIZE;
-    let from = append(new, w, &book[at..next]);
+    let from = appending::append(new, w, &book[at..next]);
     append_state(new, from, state, book, next, short)
 }
 
@@ -260,7 +231,7 @@ fn append_record(
     let objects = input::byte_at(book, at) as usize;
     let steps = input::byte_at(book, at + 1) as usize;
     let first = at + limits::HEAD_SIZE + objects;
-    let from = append(new, w, &book[at..first]);
+    let from = appending::append(new, w, &book[at..first]);
     let end = append_trajectory(new, from, state, book, first, steps, short);
     if limits::MAX_LENGTH < end {
         return end;
@@ -304,7 +275,7 @@ pub fn form_converted(new: &mut [u8], book: &[u8], short: bool) -> Answer
     let mut state = [0u8; HELD_SIZE];
     let h = Sections::read(book);
     let at = h.records.at as usize;
-    let from = append(new, 0, &book[..at]);
+    let from = appending::append(new, 0, &book[..at]);
     let end = append_records(
         new,
         from,

@@ -3,9 +3,9 @@ use native.Mathlib.Omega.{arith}
 use lib.ListN.{length-set}
 use borrow.Author.Needs.{needs}
 use Rattle.jobs.specs.Convert.{factsBytes}
-use Rattle.rendering.proofs.Appended.{append-over, append-three}
-use Rattle.rendering.proofs.append_fact.Statement.{statement}
-use Rattle.rendering.proofs.append_fact.Tie as tie
+use Rattle.appending.proofs.Appended.{append-over, append-three}
+use Rattle.appending.proofs.append_fact.Statement.{statement}
+use Rattle.appending.proofs.append_fact.Tie as tie
 
 returns : tie.Need-returns
 unfolding factsBytes

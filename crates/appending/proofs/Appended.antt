@@ -9,7 +9,7 @@ use lib.ListN.{length, take, drop, set, length-append, take-append-drop}
 use lib.Seq.{sets-eq, length-take-le, take-at, drop-at}
 use Rattle.limits.specs.Limits.{maxLength}
 use Rattle.output.specs.Written.{written}
-use Rattle.rendering.specs.Appended.{pastEnd, Appended, AllBut}
+use Rattle.appending.specs.Appended.{pastEnd, Appended, AllBut}
 
 -- ---- one run
 

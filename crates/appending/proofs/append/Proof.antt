@@ -2,9 +2,9 @@
 use native.Mathlib.Omega.{arith}
 use mathlib.Core.Path.{refl}
 use borrow.Author.Needs.{needs}
-use Rattle.rendering.proofs.Appended.{append-over, append-written}
-use Rattle.rendering.proofs.append.Statement.{statement}
-use Rattle.rendering.proofs.append.Tie as tie
+use Rattle.appending.proofs.Appended.{append-over, append-written}
+use Rattle.appending.proofs.append.Statement.{statement}
+use Rattle.appending.proofs.append.Tie as tie
 
 returns : tie.Need-returns
 returns c = append-over _ _ _ _ (omega arith)

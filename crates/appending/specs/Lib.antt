@@ -1,0 +1,2 @@
+-- What the functions promise: bytes appended, or the end passed.
+pub mod Appended
