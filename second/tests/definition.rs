@@ -51,10 +51,9 @@ fn atoms(draft: &BookDraft, entry: &[u8; 6]) -> Vec<Atom> {
     atoms
 }
 
-/// The answer, with places as the draft is written in this form, and, on success,
-/// the sheet.
-fn defined(draft: &BookDraft, form: Form) -> (Answer, Vec<u8>) {
-    let of_move: Vec<Vec<Atom>> = draft.moves.iter().map(|entry| atoms(draft, entry)).collect();
+/// Where the first step stands, as the draft is written in this form, that changes a
+/// fact which no atom of its move gives: row 11.
+fn unbound_change(draft: &BookDraft, form: Form, of_move: &[Vec<Atom>]) -> Option<usize> {
     for (record, layout) in draft.records.iter().zip(draft.in_form(form).layout().records) {
         for (index, step) in record.steps.iter().enumerate() {
             let (before, after) = (&record.states[index], &record.states[index + 1]);
@@ -62,37 +61,61 @@ fn defined(draft: &BookDraft, form: Form) -> (Answer, Vec<u8>) {
                 of_move[usize::from(step[0]) - 1].iter().map(|atom| atom.fact(step)).collect();
             let changed = |fact: &&Fact| before.contains(fact) != after.contains(fact);
             if before.iter().chain(after).filter(changed).any(|fact| !bound.contains(fact)) {
-                return (Refusal::UnboundChange.at(layout.steps[index]), Vec::new());
+                return Some(layout.steps[index]);
             }
         }
+    }
+    None
+}
+
+/// The atom's values before and after each step of the move of this number.
+fn values(draft: &BookDraft, number: usize, atom: &Atom) -> Vec<(bool, bool)> {
+    let mut values = Vec::new();
+    for record in &draft.records {
+        for (at, step) in record.steps.iter().enumerate() {
+            if usize::from(step[0]) == number {
+                let fact = atom.fact(step);
+                let holds = |state: usize| record.states[state].contains(&fact);
+                values.push((holds(at), holds(at + 1)));
+            }
+        }
+    }
+    values
+}
+
+/// Changed to a value by one step, and of the other after another: row 12.
+fn conflict(values: &[(bool, bool)]) -> bool {
+    [true, false].into_iter().any(|value| {
+        let changed_to = values.contains(&(!value, value));
+        changed_to && values.iter().any(|&(_, after)| after != value)
+    })
+}
+
+/// Whether the atom is needed to hold, needed not to hold, added and removed.
+fn sets(values: &[(bool, bool)]) -> [bool; 4] {
+    [
+        values.iter().all(|&(before, _)| before),
+        values.iter().all(|&(before, _)| !before),
+        values.contains(&(false, true)),
+        values.contains(&(true, false)),
+    ]
+}
+
+/// The answer, with places as the draft is written in this form, and, on success,
+/// the sheet.
+fn defined(draft: &BookDraft, form: Form) -> (Answer, Vec<u8>) {
+    let of_move: Vec<Vec<Atom>> = draft.moves.iter().map(|entry| atoms(draft, entry)).collect();
+    if let Some(place) = unbound_change(draft, form, &of_move) {
+        return (Refusal::UnboundChange.at(place), Vec::new());
     }
     let mut sheet = vec![0; 128 * draft.moves.len()];
     for (index, atoms) in of_move.iter().enumerate() {
         for atom in atoms {
-            // The atom's values before and after each step of the move.
-            let mut values = Vec::new();
-            for record in &draft.records {
-                for (at, step) in record.steps.iter().enumerate() {
-                    if usize::from(step[0]) == index + 1 {
-                        let fact = atom.fact(step);
-                        let holds = |state: usize| record.states[state].contains(&fact);
-                        values.push((holds(at), holds(at + 1)));
-                    }
-                }
+            let values = values(draft, index + 1, atom);
+            if conflict(&values) {
+                return (Refusal::EffectConflict.at(index + 1), Vec::new());
             }
-            for value in [true, false] {
-                let changed_to = values.contains(&(!value, value));
-                if changed_to && values.iter().any(|&(_, after)| after != value) {
-                    return (Refusal::EffectConflict.at(index + 1), Vec::new());
-                }
-            }
-            let sets = [
-                values.iter().all(|&(before, _)| before),
-                values.iter().all(|&(before, _)| !before),
-                values.contains(&(false, true)),
-                values.contains(&(true, false)),
-            ];
-            for (set, holds) in sets.into_iter().enumerate() {
+            for (set, holds) in sets(&values).into_iter().enumerate() {
                 sheet[128 * index + 32 * set + atom.n / 8] |= u8::from(holds) << (atom.n % 8);
             }
         }

@@ -10,7 +10,9 @@ use crate::answer::Refusal;
 use crate::limits::{KIND_LIMIT, MOVE_LIMIT, RECORD_LIMIT, RELATION_LIMIT};
 
 pub fn aims() -> Vec<Aim<BookDraft>> {
-    let mut aims = length_and_header();
+    let mut aims = lengths();
+    aims.extend(counts());
+    aims.extend(offsets());
     aims.extend(parent_faults::aims());
     aims.extend(section_aims("relation", Refusal::Relation, 16, |draft| Entries {
         bytes: draft.relations.iter().map(|entry| entry.to_vec()).collect(),
@@ -23,24 +25,8 @@ pub fn aims() -> Vec<Aim<BookDraft>> {
     aims
 }
 
-fn length_and_header() -> Vec<Aim<BookDraft>> {
-    let count = |what, field: usize, limit: usize| {
-        Aim::new("header", what, Refusal::HeaderCounts, move |draft: &BookDraft, rng: &mut Rng| {
-            let mut bytes = draft.bytes();
-            let wrong = if rng.chance(50) { limit + 1 } else { rng.range(limit + 1, 0xffff) };
-            put_number(&mut bytes, 2 * field, wrong);
-            Some(Hit { bytes, place: 0 })
-        })
-    };
-    let offset = |what, field: usize| {
-        Aim::new("header", what, Refusal::HeaderOffsets, move |draft: &BookDraft, rng: &mut Rng| {
-            let mut bytes = draft.bytes();
-            let right = usize::from(u16::from_be_bytes([bytes[2 * field], bytes[2 * field + 1]]));
-            let wrong = *rng.pick(&[right + 1, right - 1, right ^ 0x100, 0, 0xffff])?;
-            put_number(&mut bytes, 2 * field, wrong);
-            Some(Hit { bytes, place: 0 })
-        })
-    };
+/// Row 1.
+fn lengths() -> Vec<Aim<BookDraft>> {
     vec![
         Aim::new("length", "under 16", Refusal::Length, |draft: &BookDraft, rng| {
             let mut bytes = draft.bytes();
@@ -57,10 +43,39 @@ fn length_and_header() -> Vec<Aim<BookDraft>> {
             put_number(&mut bytes, 14, length);
             Some(Hit { bytes, place: 0 })
         }),
+    ]
+}
+
+/// Row 2.
+fn counts() -> Vec<Aim<BookDraft>> {
+    let count = |what, field: usize, limit: usize| {
+        Aim::new("header", what, Refusal::HeaderCounts, move |draft: &BookDraft, rng: &mut Rng| {
+            let mut bytes = draft.bytes();
+            let wrong = if rng.chance(50) { limit + 1 } else { rng.range(limit + 1, 0xffff) };
+            put_number(&mut bytes, 2 * field, wrong);
+            Some(Hit { bytes, place: 0 })
+        })
+    };
+    vec![
         count("kinds over 8", 0, KIND_LIMIT),
         count("relations over 16", 1, RELATION_LIMIT),
         count("moves over 32", 2, MOVE_LIMIT),
         count("records over 64", 3, RECORD_LIMIT),
+    ]
+}
+
+/// Row 3.
+fn offsets() -> Vec<Aim<BookDraft>> {
+    let offset = |what, field: usize| {
+        Aim::new("header", what, Refusal::HeaderOffsets, move |draft: &BookDraft, rng: &mut Rng| {
+            let mut bytes = draft.bytes();
+            let right = usize::from(u16::from_be_bytes([bytes[2 * field], bytes[2 * field + 1]]));
+            let wrong = *rng.pick(&[right + 1, right - 1, right ^ 0x100, 0, 0xffff])?;
+            put_number(&mut bytes, 2 * field, wrong);
+            Some(Hit { bytes, place: 0 })
+        })
+    };
+    vec![
         offset("relations offset wrong", 4),
         offset("moves offset wrong", 5),
         offset("records offset wrong", 6),

@@ -19,6 +19,7 @@ pub mod front;
 pub mod front_faults;
 pub mod fullbook;
 pub mod hall;
+pub mod head_and_tail;
 pub mod kinds;
 pub mod learning;
 pub mod mixed;

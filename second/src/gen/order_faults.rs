@@ -2,7 +2,7 @@
 //! `start_faults`.
 
 use super::aim::{Aim, Hit};
-use super::draft::{put_number, OrderDraft};
+use super::draft::{put_number, Fact, OrderDraft};
 use super::order::Plan;
 use super::rng::Rng;
 use super::spoil::{over, Scene, FACT_FAULTS, STEP_FAULTS, TWICE_FAULTS};
@@ -22,48 +22,71 @@ pub(super) fn scene(plan: &Plan) -> Scene<'_> {
     Scene { book: &plan.book, objects: &plan.order.objects }
 }
 
+/// Row 14, in the order in which a header is read.
 fn header() -> Vec<Aim<Plan>> {
-    let aim = |what, make: fn(&OrderDraft, &mut Rng) -> Option<Vec<u8>>| {
-        Aim::new("order header", what, Refusal::OrderHeader, move |plan: &Plan, rng: &mut Rng| {
-            make(&plan.order, rng).map(|bytes| Hit { bytes, place: 0 })
-        })
-    };
-    let offset = |what, field: usize| {
-        Aim::new("order header", what, Refusal::OrderHeader, move |plan: &Plan, rng: &mut Rng| {
-            let mut bytes = plan.order.bytes();
-            let right = usize::from(u16::from_be_bytes([bytes[2 * field], bytes[2 * field + 1]]));
-            let wrong = *rng.pick(&[right + 1, right - 1, right ^ 0x100, 0, 0xffff])?;
-            put_number(&mut bytes, 2 * field, wrong);
-            Some(Hit { bytes, place: 0 })
-        })
-    };
-    vec![
-        aim("under 16 bytes", |order, rng| {
-            let mut bytes = order.bytes();
-            bytes.truncate(rng.below(16));
-            Some(bytes)
-        }),
-        // Laid out in full, so that nothing but the count is wrong.
-        aim("objects over 16", |order, _| {
+    let mut aims = vec![header_aim("under 16 bytes", |order, rng| {
+        let mut bytes = order.bytes();
+        bytes.truncate(rng.below(16));
+        Some(bytes)
+    })];
+    aims.extend(counts());
+    aims.extend(offsets());
+    aims.extend(lengths());
+    aims
+}
+
+fn header_aim(
+    what: &'static str,
+    make: impl Fn(&OrderDraft, &mut Rng) -> Option<Vec<u8>> + 'static,
+) -> Aim<Plan> {
+    Aim::new("order header", what, Refusal::OrderHeader, move |plan: &Plan, rng: &mut Rng| {
+        make(&plan.order, rng).map(|bytes| Hit { bytes, place: 0 })
+    })
+}
+
+/// Each is laid out in full, so that nothing but the count is wrong.
+fn counts() -> [Aim<Plan>; 3] {
+    [
+        header_aim("objects over 16", |order, _| {
             let mut order = order.clone();
             order.objects.resize(17, 1);
             Some(order.bytes())
         }),
-        aim("goal entries over 64", |order, _| {
+        header_aim("goal entries over 64", |order, _| {
             let mut order = order.clone();
             order.goal.resize(65, (1, [1, 1, 1]));
             Some(order.bytes())
         }),
-        aim("steps over 64", |order, _| {
+        header_aim("steps over 64", |order, _| {
             let mut order = order.clone();
             order.steps.resize(65, [1, 0, 0, 0, 0]);
             Some(order.bytes())
         }),
+    ]
+}
+
+fn offsets() -> [Aim<Plan>; 4] {
+    let offset = |what, field: usize| {
+        header_aim(what, move |order, rng| {
+            let mut bytes = order.bytes();
+            let right = usize::from(u16::from_be_bytes([bytes[2 * field], bytes[2 * field + 1]]));
+            let wrong = *rng.pick(&[right + 1, right - 1, right ^ 0x100, 0, 0xffff])?;
+            put_number(&mut bytes, 2 * field, wrong);
+            Some(bytes)
+        })
+    };
+    [
         offset("objects offset wrong", 4),
         offset("start offset wrong", 5),
         offset("goal offset wrong", 6),
         offset("steps offset wrong", 7),
-        aim("too short for its counts", |order, rng| {
+    ]
+}
+
+/// The order is not as long as its header says.
+fn lengths() -> [Aim<Plan>; 2] {
+    [
+        header_aim("too short for its counts", |order, rng| {
             let mut bytes = order.bytes();
             if bytes.len() == 16 {
                 return None;
@@ -71,7 +94,7 @@ fn header() -> Vec<Aim<Plan>> {
             bytes.truncate(rng.range(16.max(bytes.len() - 6), bytes.len() - 1));
             Some(bytes)
         }),
-        aim("bytes behind the steps", |order, rng| {
+        header_aim("bytes behind the steps", |order, rng| {
             let mut bytes = order.bytes();
             bytes.resize(bytes.len() + rng.range(1, 6), 0);
             Some(bytes)
@@ -92,52 +115,41 @@ fn objects() -> Vec<Aim<Plan>> {
     vec![aim("kind 0", |_, _| 0), aim("kind over the count", over)]
 }
 
-fn goal_entries() -> Vec<Aim<Plan>> {
-    let entry_at = |plan: &Plan, rng: &mut Rng| {
+/// A fault in one entry of the goal; `spoil` is given all entries and its index.
+fn goal_aim(
+    what: &'static str,
+    spoil: impl Fn(&mut [(u8, Fact)], usize, &Plan, &mut Rng) -> Option<()> + 'static,
+) -> Aim<Plan> {
+    Aim::new("goal", what, Refusal::GoalEntry, move |plan: &Plan, rng: &mut Rng| {
         let count = plan.order.goal.len();
-        (count > 0).then(|| rng.below(count))
-    };
-    let put = |order: OrderDraft, index: usize| {
+        let index = (count > 0).then(|| rng.below(count))?;
+        let mut order = plan.order.clone();
+        spoil(&mut order.goal, index, plan, rng)?;
         let place = order.layout().goal + 4 * index;
         Some(Hit { bytes: order.bytes(), place })
-    };
+    })
+}
+
+fn goal_entries() -> Vec<Aim<Plan>> {
     let mut aims = vec![
-        Aim::new(
-            "goal",
-            "first byte over 1",
-            Refusal::GoalEntry,
-            move |plan: &Plan, rng: &mut Rng| {
-                let index = entry_at(plan, rng)?;
-                let mut order = plan.order.clone();
-                order.goal[index].0 = over(1, rng);
-                put(order, index)
-            },
-        ),
-        Aim::new("goal", "facts equal", Refusal::GoalEntry, move |plan: &Plan, rng: &mut Rng| {
-            let index = entry_at(plan, rng)?;
-            let mut order = plan.order.clone();
-            // The first bytes may differ all the same.
-            order.goal[index] = (rng.below(2) as u8, order.goal[index.checked_sub(1)?].1);
-            put(order, index)
+        goal_aim("first byte over 1", |goal, index, _, rng| {
+            goal[index].0 = over(1, rng);
+            Some(())
         }),
-        Aim::new(
-            "goal",
-            "facts decrease",
-            Refusal::GoalEntry,
-            move |plan: &Plan, rng: &mut Rng| {
-                let index = entry_at(plan, rng)?;
-                let mut order = plan.order.clone();
-                order.goal.swap(index, index.checked_sub(1)?);
-                put(order, index)
-            },
-        ),
+        goal_aim("facts equal", |goal, index, _, rng| {
+            // The first bytes may differ all the same.
+            goal[index] = (rng.below(2) as u8, goal[index.checked_sub(1)?].1);
+            Some(())
+        }),
+        goal_aim("facts decrease", |goal, index, _, _| {
+            goal.swap(index, index.checked_sub(1)?);
+            Some(())
+        }),
     ];
     aims.extend(FACT_FAULTS.into_iter().map(|(what, spoil)| {
-        Aim::new("goal", what, Refusal::GoalEntry, move |plan: &Plan, rng: &mut Rng| {
-            let index = entry_at(plan, rng)?;
-            let mut order = plan.order.clone();
-            order.goal[index].1 = spoil(order.goal[index].1, &scene(plan), rng)?;
-            put(order, index)
+        goal_aim(what, move |goal, index, plan, rng| {
+            goal[index].1 = spoil(goal[index].1, &scene(plan), rng)?;
+            Some(())
         })
     }));
     aims

@@ -1,17 +1,17 @@
-//! Faults in records and behind them: rows 6 to 10. Those of row 24 stand in
-//! `no_steps.rs`.
+//! Faults in records and behind them: rows 6 to 10. Those of row 6 are in
+//! `head_and_tail`, those of row 24 in `no_steps`.
 
 use super::aim::{Aim, Hit};
 use super::draft::{put_number, BookDraft, Fact, RecordDraft, RecordLayout};
-use super::no_steps;
 use super::rng::Rng;
 use super::spoil::{over, Scene, FACT_FAULTS, STEP_FAULTS, TWICE_FAULTS};
+use super::{head_and_tail, no_steps};
 use crate::answer::Refusal;
 use crate::calls::Form;
 
 /// For drafts of this form.
 pub fn aims(form: Form) -> Vec<Aim<BookDraft>> {
-    let mut aims = head_and_tail();
+    let mut aims = head_and_tail::aims();
     aims.extend(no_steps::aims());
     aims.extend(objects());
     aims.extend(states(form));
@@ -23,7 +23,7 @@ pub fn aims(form: Form) -> Vec<Aim<BookDraft>> {
 pub(super) struct Site<'a> {
     pub(super) record: &'a RecordDraft,
     pub(super) layout: RecordLayout,
-    last: bool,
+    pub(super) last: bool,
     pub(super) bytes: Vec<u8>,
 }
 
@@ -52,106 +52,6 @@ impl Site<'_> {
 pub(super) fn renew_end(bytes: &mut [u8]) {
     let end = bytes.len();
     put_number(bytes, 14, end);
-}
-
-fn insert_random(bytes: &mut Vec<u8>, at: usize, rng: &mut Rng) -> usize {
-    let count = rng.range(1, 7);
-    let new: Vec<u8> = (0..count).map(|_| if rng.chance(50) { 0 } else { rng.byte() }).collect();
-    bytes.splice(at..at, new);
-    renew_end(bytes);
-    count
-}
-
-fn head_and_tail() -> Vec<Aim<BookDraft>> {
-    let aim = |part, what, make: fn(Site<'_>, &mut Rng) -> Option<Hit>| {
-        Aim::new(part, what, Refusal::Record, move |draft: &BookDraft, rng: &mut Rng| {
-            make(site(draft, rng)?, rng)
-        })
-    };
-    vec![
-        aim("head", "cut", |mut site, rng| {
-            let at = site.layout.at;
-            site.bytes.truncate(at + rng.range(1, 3));
-            renew_end(&mut site.bytes);
-            site.hit(at)
-        }),
-        Aim::new("head", "more announced than filed", Refusal::Record, |draft: &BookDraft, rng| {
-            let records = draft.records.len();
-            if records == 0 {
-                return None;
-            }
-            let mut bytes = draft.bytes();
-            put_number(&mut bytes, 6, rng.range(records + 1, 64));
-            let place = bytes.len();
-            Some(Hit { bytes, place })
-        }),
-        Aim::new("head", "records offset is the end", Refusal::Record, |draft: &BookDraft, rng| {
-            let mut bytes = draft.bytes();
-            bytes.truncate(draft.front_length());
-            renew_end(&mut bytes);
-            put_number(&mut bytes, 6, rng.range(1, 64));
-            let place = bytes.len();
-            Some(Hit { bytes, place })
-        }),
-        aim("head", "objects over 16", |mut site, rng| {
-            let at = site.layout.at;
-            site.bytes[at] = over(16, rng);
-            site.hit(at)
-        }),
-        aim("head", "steps over 64", |mut site, rng| {
-            let at = site.layout.at;
-            site.bytes[at + 1] = over(64, rng);
-            site.hit(at)
-        }),
-        aim("head", "length under 4", |mut site, rng| {
-            let at = site.layout.at;
-            put_number(&mut site.bytes, at + 2, rng.below(4));
-            site.hit(at)
-        }),
-        aim("head", "length past the end", |mut site, rng| {
-            let (at, room) = (site.layout.at, site.bytes.len() - site.layout.at);
-            let length = if rng.chance(50) { room + 1 } else { rng.range(room + 1, 0xffff) };
-            put_number(&mut site.bytes, at + 2, length);
-            site.hit(at)
-        }),
-        aim("tail", "of a record, bytes put in", |mut site, rng| {
-            let (at, end) = (site.layout.at, site.layout.end);
-            let more = insert_random(&mut site.bytes, end, rng);
-            site.end_record(end + more);
-            site.hit(at)
-        }),
-        aim("tail", "of a record, the next one taken in", |mut site, rng| {
-            let (at, end) = (site.layout.at, site.layout.end);
-            if site.last {
-                return None;
-            }
-            let longer = rng.range(end + 1, site.bytes.len());
-            site.end_record(longer);
-            site.hit(at)
-        }),
-        Aim::new(
-            "tail",
-            "of a book, bytes put behind",
-            Refusal::Record,
-            |draft: &BookDraft, rng| {
-                let mut bytes = draft.bytes();
-                let place = bytes.len();
-                insert_random(&mut bytes, place, rng);
-                Some(Hit { bytes, place })
-            },
-        ),
-        Aim::new(
-            "tail",
-            "of a book, fewer announced",
-            Refusal::Record,
-            |draft: &BookDraft, rng| {
-                let index = (!draft.records.is_empty()).then(|| rng.below(draft.records.len()))?;
-                let mut bytes = draft.bytes();
-                put_number(&mut bytes, 6, index);
-                Some(Hit { bytes, place: draft.layout().records[index].at })
-            },
-        ),
-    ]
 }
 
 fn objects() -> Vec<Aim<BookDraft>> {

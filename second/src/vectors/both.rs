@@ -11,6 +11,9 @@ use crate::calls::Job::{self, Check, Learn};
 use crate::gen::{BookDraft, RecordDraft};
 use crate::limits::END_SHEET_LENGTH;
 
+/// The step with spot 2 for both of its spots.
+const TWICE: (usize, &[u8]) = (STEP, &[1, 1, 2, 2, 0]);
+
 fn hall(changes: &[(usize, &[u8])]) -> Vec<u8> {
     changed(small_hall().bytes(), changes)
 }
@@ -27,7 +30,8 @@ fn longer(length: u8, behind: &[u8], changes: &[(usize, &[u8])]) -> Vec<u8> {
 pub fn all() -> Vec<Vector> {
     let mut vectors = fronts();
     vectors.extend(sections());
-    vectors.extend(records());
+    vectors.extend(heads_and_objects());
+    vectors.extend(states_and_steps());
     vectors.extend(tails());
     vectors.extend(learning());
     vectors
@@ -79,20 +83,8 @@ fn sections() -> Vec<Vector> {
     ]
 }
 
-fn records() -> Vec<Vector> {
-    let (head, step_at) = (Refusal::Record.at(HEAD), STEP);
-    let twice: (usize, &[u8]) = (STEP, &[1, 1, 2, 2, 0]);
-    // Objects 1 and 2 are banks, 3 is a spot; the first two parameters are one
-    // bank, and the fourth has an object that is not there.
-    let four = BookDraft {
-        moves: vec![[4, 1, 1, 2, 2, 0]],
-        ..with([RecordDraft {
-            objects: vec![1, 1, 2],
-            states: vec![Vec::new(); 2],
-            steps: vec![[1, 2, 2, 3, 4]],
-        }])
-    };
-    let four_at = four.layout().records[0].steps[0];
+fn heads_and_objects() -> Vec<Vector> {
+    let head = Refusal::Record.at(HEAD);
     vec![
         every("6: length 65,535", hall(&[(HEAD + 2, &[0xff, 0xff])]), head),
         every("6 before 7: 65 steps", hall(&[(HEAD + 1, &[65]), (OBJECTS, &[0])]), head),
@@ -107,6 +99,26 @@ fn records() -> Vec<Vector> {
             hall(&[(OBJECTS + 2, &[0]), (STATE, &[1, 1])]),
             Refusal::Object.at(OBJECTS + 2),
         ),
+    ]
+}
+
+/// Objects 1 and 2 are banks, 3 is a spot; the step's first two parameters are one
+/// bank, and the fourth has an object that is not there.
+fn twice_and_missing() -> BookDraft {
+    BookDraft {
+        moves: vec![[4, 1, 1, 2, 2, 0]],
+        ..with([RecordDraft {
+            objects: vec![1, 1, 2],
+            states: vec![Vec::new(); 2],
+            steps: vec![[1, 2, 2, 3, 4]],
+        }])
+    }
+}
+
+fn states_and_steps() -> Vec<Vector> {
+    let four = twice_and_missing();
+    let four_at = four.layout().records[0].steps[0];
+    vec![
         every(
             "8: the first of two wrong facts",
             hall(&[(STATE + 2, &[3]), (STATE + 5, &[4])]),
@@ -120,26 +132,25 @@ fn records() -> Vec<Vector> {
         every(
             "9 before 10: an unused object not 0",
             hall(&[(STEP, &[1, 1, 2, 2, 5])]),
-            Refusal::Step.at(step_at),
+            Refusal::Step.at(STEP),
         ),
         every("9 before 10: a later object wrong", four.bytes(), Refusal::Step.at(four_at)),
         every(
             "10 before 8 of the state after the step",
-            hall(&[twice, (AFTER + 2, &[9])]),
-            Refusal::ObjectTwice.at(step_at),
+            hall(&[TWICE, (AFTER + 2, &[9])]),
+            Refusal::ObjectTwice.at(STEP),
         ),
     ]
 }
 
 fn tails() -> Vec<Vector> {
-    let twice: (usize, &[u8]) = (STEP, &[1, 1, 2, 2, 0]);
     let two = with([filed(), filed()]).bytes();
     let second = HEAD + 28;
     let mut tail_and_head = longer(29, &[0], &[(7, &[2])]);
     tail_and_head.extend([17, 0, 0, 6, 0, 0]);
     let end = tail_and_head.len() as u8;
     vec![
-        every("10 before 6 of the record's tail", longer(29, &[0], &[twice]), {
+        every("10 before 6 of the record's tail", longer(29, &[0], &[TWICE]), {
             Refusal::ObjectTwice.at(STEP)
         }),
         every("8 before 6 of the record's tail", longer(29, &[0], &[(AFTER + 5, &[9])]), {
@@ -155,7 +166,7 @@ fn tails() -> Vec<Vector> {
         ),
         every(
             "10 before 6 of the next head",
-            changed(two.clone(), &[twice, (second, &[17])]),
+            changed(two.clone(), &[TWICE, (second, &[17])]),
             Refusal::ObjectTwice.at(STEP),
         ),
         every(

@@ -71,6 +71,14 @@ impl Vector {
 /// All vectors, in the order of the file.
 #[must_use]
 pub fn all() -> Vec<Vector> {
+    let mut vectors = full_books();
+    vectors.extend(short_books());
+    vectors.extend(no_steps::all());
+    vectors.extend(no_steps_calls::all());
+    vectors
+}
+
+fn full_books() -> Vec<Vector> {
     let mut vectors = paper::marked();
     vectors.extend(paper::decisions());
     vectors.extend(paper::limits());
@@ -100,7 +108,12 @@ pub fn all() -> Vec<Vector> {
     vectors.extend(aimed::orders());
     vectors.extend(aimed::additions());
     vectors.extend(carried::all());
-    vectors.extend(short_hall::all());
+    vectors
+}
+
+/// Short books, and books to be converted.
+fn short_books() -> Vec<Vector> {
+    let mut vectors = short_hall::all();
     vectors.extend(lent::short());
     vectors.extend(short_states::all());
     vectors.extend(short_twins::of(&twinned()));
@@ -108,8 +121,6 @@ pub fn all() -> Vec<Vector> {
     vectors.extend(converting::all());
     vectors.extend(converted_lengths::all());
     vectors.extend(aimed::short_books());
-    vectors.extend(no_steps::all());
-    vectors.extend(no_steps_calls::all());
     vectors
 }
 

@@ -1,8 +1,8 @@
 //! The paper's marked cases, the examples of docs/DECISIONS.md, and the limits.
 
 use super::hall::{
-    end_sheet, filed, one_fact, order, sheet, small_hall, story, unrecorded, with, AT_2, AT_4,
-    ROLL_2_3, ROLL_3_4, START, START_2_CLEAR,
+    changed, empty_end, end_sheet, filed, m2, one_fact, order, sheet, small_hall, story,
+    unrecorded, with, AT_2, AT_4, HEAD, OBJECTS, ROLL_2_3, ROLL_3_4, START, START_2_CLEAR, STEP,
 };
 use super::Vector;
 use crate::answer::{Answer, Refusal};
@@ -10,7 +10,7 @@ use crate::calls::Form;
 use crate::calls::Job::{self, Add, Check, Learn, LookOver};
 use crate::gen::order::at_the_limits;
 use crate::gen::{extreme, fullbook, BookDraft, OrderDraft, RecordDraft, Rng};
-use crate::limits::{END_SHEET_LENGTH, FACT_LIMIT, RULES_LENGTH};
+use crate::limits::{END_SHEET_LENGTH, FACT_LIMIT};
 
 /// A check with an end sheet of the right length.
 pub fn check(name: &str, book: Vec<u8>, order: Vec<u8>, answer: Answer) -> Vector {
@@ -42,75 +42,108 @@ pub fn m1_sheet() -> Vec<u8> {
 }
 
 pub fn marked() -> Vec<Vector> {
+    let mut vectors = one_record();
+    vectors.extend(no_record());
+    vectors.extend(refused());
+    vectors.push(m6_added());
+    vectors.extend(m6_rolls());
+    vectors
+}
+
+/// M1 to M5: the small hall, and plans by its one record.
+fn one_record() -> Vec<Vector> {
     let hall = || small_hall().bytes();
     let goal = [(1, AT_4)];
-    let rolls = [ROLL_2_3, ROLL_3_4];
-    let twice = |goal: &[_]| order(&START, goal, &[[1, 1, 2, 2, 0]]).bytes();
-    let mut empty_end = filed();
-    empty_end.states[1].clear();
+    let ended = [AT_4, [2, 2, 0], [2, 3, 0]];
+    vec![
+        Vector::new("M1 looked over", &[LookOver], hall(), Answer::success(1)),
+        learn("M1 learned", &small_hall(), m1_sheet()),
+        check("M2", hall(), m2().bytes(), Answer::success(2)).after(end_sheet(&ended)),
+        check("M3", hall(), order(&START_2_CLEAR, &goal, &[ROLL_2_3, ROLL_3_4]).bytes(), unmet(1)),
+        check("M4", hall(), order(&START, &[(1, AT_2)], &[]).bytes(), Answer::success(0))
+            .after(end_sheet(&START)),
+        check("M5", hall(), order(&START, &goal, &[]).bytes(), missed(1)),
+    ]
+}
+
+/// M6 and M7: nothing was filed of a move.
+fn no_record() -> Vec<Vector> {
     let bare = BookDraft { moves: vec![[0; 6]], ..BookDraft::default() };
     let bare_order = OrderDraft {
         starts: vec![Vec::new()],
         steps: vec![[1, 0, 0, 0, 0]],
         ..OrderDraft::default()
     };
-
-    let mut vectors = vec![
-        Vector::new("M1 looked over", &[LookOver], hall(), Answer::success(1)),
-        Vector::new("M1 learned", &[Learn], hall(), Answer::success(1))
-            .output(RULES_LENGTH)
-            .after(m1_sheet()),
-        check("M2", hall(), order(&START, &goal, &rolls).bytes(), Answer::success(2))
-            .after(end_sheet(&[AT_4, [2, 2, 0], [2, 3, 0]])),
-        check("M3", hall(), order(&START_2_CLEAR, &goal, &rolls).bytes(), unmet(1)),
-        check("M4", hall(), order(&START, &[(1, AT_2)], &[]).bytes(), Answer::success(0))
-            .after(end_sheet(&START)),
-        check("M5", hall(), order(&START, &goal, &[]).bytes(), missed(1)),
-        Vector::new("M6 learned", &[Learn], unrecorded().bytes(), Answer::success(0))
-            .output(RULES_LENGTH)
-            .after(sheet(&[[&[1, 2, 20, 24], &[1, 2, 20, 24], &[], &[]]])),
+    vec![
+        learn("M6 learned", &unrecorded(), sheet(&[[&[1, 2, 20, 24], &[1, 2, 20, 24], &[], &[]]])),
         check("M7", bare.bytes(), bare_order.bytes(), Answer::success(1)).after(end_sheet(&[])),
+    ]
+}
+
+/// M8 to M10, and that M9's record is added all the same.
+fn refused() -> Vec<Vector> {
+    let hall = || small_hall().bytes();
+    let twice = |goal: &[_]| order(&START, goal, &[[1, 1, 2, 2, 0]]).bytes();
+    let conflict = with([filed(), empty_end()]).bytes();
+    vec![
         check("M8", hall(), twice(&[]), Refusal::PlanStep.at(31)),
-        check("M8 with a goal", hall(), twice(&goal), Refusal::PlanStep.at(35)),
-        Vector::new(
-            "M9",
-            &[Learn, Check],
-            with([filed(), empty_end.clone()]).bytes(),
-            Refusal::EffectConflict.at(1),
-        )
-        .order(order(&START, &goal, &rolls).bytes())
-        .output(END_SHEET_LENGTH),
+        check("M8 with a goal", hall(), twice(&[(1, AT_4)]), Refusal::PlanStep.at(35)),
+        Vector::new("M9", &[Learn, Check], conflict.clone(), Refusal::EffectConflict.at(1))
+            .order(m2().bytes())
+            .output(END_SHEET_LENGTH),
         Vector::new("M9 added", &[Add], hall(), Answer::success(80))
-            .record(empty_end.bytes())
+            .record(empty_end().bytes())
             .output(80)
-            .after(with([filed(), empty_end]).bytes()),
+            .after(conflict),
         Vector::new("M10", &Job::OF_BOTH_FORMS, hall()[..15].to_vec(), Refusal::Length.at(0)),
-        Vector::new("record added to M6", &[Add], unrecorded().bytes(), Answer::success(58))
-            .record(filed().bytes())
-            .output(58)
-            .after(hall()),
-    ];
-    for roll in [ROLL_2_3, ROLL_3_4, [1, 1, 4, 2, 0]] {
+    ]
+}
+
+/// M6's book with the record added is M1's.
+fn m6_added() -> Vector {
+    Vector::new("record added to M6", &[Add], unrecorded().bytes(), Answer::success(58))
+        .record(filed().bytes())
+        .output(58)
+        .after(small_hall().bytes())
+}
+
+/// M6: no roll goes.
+fn m6_rolls() -> impl Iterator<Item = Vector> {
+    [ROLL_2_3, ROLL_3_4, [1, 1, 4, 2, 0]].into_iter().map(|roll| {
         let name = format!("M6 roll {} {} {}", roll[1], roll[2], roll[3]);
         let order = order(&START, &[], &[roll]).bytes();
-        vectors.push(check(&name, unrecorded().bytes(), order, unmet(1)));
-    }
-    vectors
+        check(&name, unrecorded().bytes(), order, unmet(1))
+    })
 }
 
 /// One example of each point in which the paper could be read two ways.
 pub fn decisions() -> Vec<Vector> {
+    let mut vectors = places();
+    vectors.extend(facts());
+    vectors
+}
+
+/// D1 to D4: which fault of a record is met, and where.
+fn places() -> Vec<Vector> {
     let every =
         |name: &str, book: Vec<u8>, answer| Vector::new(name, &Job::OF_BOTH_FORMS, book, answer);
-    let mut announced = unrecorded().bytes();
-    announced[7] = 1;
-    let mut cut_object = small_hall().bytes();
-    cut_object[33] = 4;
+    let announced = |book: &BookDraft, records: u8| changed(book.bytes(), &[(7, &[records])]);
+    let one = announced(&unrecorded(), 1);
+    let cut_object = changed(small_hall().bytes(), &[(HEAD + 3, &[4])]);
     let mut two_faults = small_hall();
     two_faults.records[0].steps[0][0] = 2;
     two_faults.records[0].states[1].swap(0, 1);
-    let mut more = small_hall().bytes();
-    more[7] = 2;
+    let two = announced(&small_hall(), 2);
+    vec![
+        every("D1 a record announced, no byte for it", one, Refusal::Record.at(HEAD)),
+        every("D2 the first object cut", cut_object, Refusal::Object.at(OBJECTS)),
+        every("D3 faults in file order", two_faults.bytes(), Refusal::Step.at(STEP)),
+        every("D4 two records announced, one filed", two, Refusal::Record.at(58)),
+    ]
+}
+
+/// D5, D6 and D9: a fact in both places, twice in a goal, and held after two steps.
+fn facts() -> Vec<Vector> {
     let both_places = BookDraft {
         kinds: 1,
         relations: vec![[2, 1, 1, 0]],
@@ -123,11 +156,9 @@ pub fn decisions() -> Vec<Vector> {
         ..BookDraft::default()
     };
     let twice = order(&START, &[(1, AT_2), (0, AT_2)], &[]);
+    // Held after each step, and changed by one of them.
+    let held = one_fact(1, [story(&[false, true, true], &[1, 1])]);
     vec![
-        every("D1 a record announced, no byte for it", announced, Refusal::Record.at(30)),
-        every("D2 the first object cut", cut_object, Refusal::Object.at(34)),
-        every("D3 faults in file order", two_faults.bytes(), Refusal::Step.at(45)),
-        every("D4 two records announced, one filed", more, Refusal::Record.at(58)),
         Vector::new(
             "D5 a fact of one object in both places",
             &[LookOver],
@@ -140,15 +171,7 @@ pub fn decisions() -> Vec<Vector> {
             twice.bytes(),
             Refusal::GoalEntry.at(twice.layout().goal + 4),
         ),
-        // D9: a fact that holds after each step and was changed by one of them.
-        Vector::new(
-            "D9 held after and changed agree",
-            &[Learn],
-            one_fact(1, [story(&[false, true, true], &[1, 1])]).bytes(),
-            Answer::success(2),
-        )
-        .output(RULES_LENGTH)
-        .after(sheet(&[[&[], &[], &[0], &[]]])),
+        learn("D9 held after and changed agree", &held, sheet(&[[&[], &[], &[0], &[]]])),
     ]
 }
 

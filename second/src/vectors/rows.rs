@@ -2,8 +2,8 @@
 //! by hand on the small hall and on a hall with one fact.
 
 use super::hall::{
-    end_sheet, filed, one_fact, order, sheet, small_hall, story, with, AT_2, AT_4, ROLL_2_3,
-    ROLL_3_4, START, START_2_CLEAR,
+    empty_end, end_sheet, filed, one_fact, order, sheet, small_hall, story, unbound, with, AT_2,
+    AT_4, ROLL_2_3, ROLL_3_4, START, START_2_CLEAR,
 };
 use super::paper::{check, learn, m1_sheet, missed, unmet};
 use super::Vector;
@@ -26,6 +26,8 @@ fn four(before: &[Fact], after: &[Fact]) -> RecordDraft {
 /// Rows 11 and 12, and books that learn.
 pub fn learning() -> Vec<Vector> {
     let mut vectors = unbound_changes();
+    vectors.extend(unbound_in_one_place());
+    vectors.extend(unbound_and_other_steps());
     vectors.extend(unbound_among_others());
     vectors.extend(conflicts());
     vectors.extend(learned());
@@ -36,54 +38,57 @@ fn refused(name: &str, book: &BookDraft, answer: Answer) -> Vector {
     Vector::new(name, &[Learn, Check], book.bytes(), answer)
 }
 
+/// Row 11 at the step of this record.
+fn unbound_at(name: &str, book: &BookDraft, record: usize) -> Vector {
+    refused(name, book, Refusal::UnboundChange.at(step_at(book, record)))
+}
+
+fn step_at(book: &BookDraft, record: usize) -> usize {
+    book.layout().records[record].steps[0]
+}
+
+/// The filed step, but spot 4, which is no parameter, is clear before it alone.
+fn vanishes() -> RecordDraft {
+    let mut record = RecordDraft { objects: vec![1, 2, 2, 2], ..filed() };
+    record.states[0].push(CLEAR_4);
+    record
+}
+
 fn unbound_changes() -> Vec<Vector> {
-    let (before, after) = ([AT_2, [2, 3, 0]], [[1, 1, 3], [2, 2, 0]]);
-    let appears = with([four(&before, &[after[0], after[1], CLEAR_4])]);
-    let vanishes = with([four(&[before[0], before[1], CLEAR_4], &after)]);
-    // A third relation of two banks: bound only where bank 1 fills both places.
+    vec![
+        unbound_at("11: a fact of no parameter appears", &with([unbound()]), 0),
+        unbound_at("11: a fact of no parameter vanishes", &with([vanishes()]), 0),
+    ]
+}
+
+/// A third relation of two banks: bound only where bank 1 fills both places.
+fn unbound_in_one_place() -> Vec<Vector> {
     let beside = |fact: Fact| {
-        let mut book = with([RecordDraft {
-            objects: vec![1, 2, 2, 1],
-            states: vec![before.to_vec(), vec![after[0], after[1], fact]],
-            ..filed()
-        }]);
+        let mut record = RecordDraft { objects: vec![1, 2, 2, 1], ..filed() };
+        record.states[1].push(fact);
+        let mut book = with([record]);
         book.relations.push([2, 1, 1, 0]);
         book
     };
-    let first_step = |book: &BookDraft, record: usize| book.layout().records[record].steps[0];
-    let later = with([filed(), appears.records[0].clone(), vanishes.records[0].clone()]);
-    let mut empty_end = filed();
-    empty_end.states[1].clear();
-    let conflict_too = with([filed(), empty_end, vanishes.records[0].clone()]);
-    let mut form_too = with([vanishes.records[0].clone(), filed()]);
-    form_too.records[1].steps[0] = [1, 1, 2, 2, 0];
     vec![
-        refused("11: a fact of no parameter appears", &appears, {
-            Refusal::UnboundChange.at(first_step(&appears, 0))
-        }),
-        refused("11: a fact of no parameter vanishes", &vanishes, {
-            Refusal::UnboundChange.at(first_step(&vanishes, 0))
-        }),
-        refused("11: one object of two is no parameter", &beside([3, 1, 4]), {
-            Refusal::UnboundChange.at(first_step(&beside([3, 1, 4]), 0))
-        }),
-        Vector::new(
+        unbound_at("11: one object of two is no parameter", &beside([3, 1, 4]), 0),
+        learn(
             "11 not met: one parameter in both places",
-            &[Learn],
-            beside([3, 1, 1]).bytes(),
-            Answer::success(1),
-        )
-        .output(RULES_LENGTH)
-        .after(sheet(&[[&[1, 24], &[2, 20, 32], &[2, 20, 32], &[1, 24]]])),
-        refused("11: the first of two such steps", &later, {
-            Refusal::UnboundChange.at(first_step(&later, 1))
-        }),
-        refused("11 before 12", &conflict_too, {
-            Refusal::UnboundChange.at(first_step(&conflict_too, 2))
-        }),
-        refused("10 in a later record before 11", &form_too, {
-            Refusal::ObjectTwice.at(first_step(&form_too, 1))
-        }),
+            &beside([3, 1, 1]),
+            sheet(&[[&[1, 24], &[2, 20, 32], &[2, 20, 32], &[1, 24]]]),
+        ),
+    ]
+}
+
+/// Which of several steps, and which row, is the answer.
+fn unbound_and_other_steps() -> Vec<Vector> {
+    let mut form_too = with([vanishes(), filed()]);
+    form_too.records[1].steps[0] = [1, 1, 2, 2, 0];
+    let twice_at = step_at(&form_too, 1);
+    vec![
+        unbound_at("11: the first of two such steps", &with([filed(), unbound(), vanishes()]), 1),
+        unbound_at("11 before 12", &with([filed(), empty_end(), vanishes()]), 2),
+        refused("10 in a later record before 11", &form_too, Refusal::ObjectTwice.at(twice_at)),
     ]
 }
 
@@ -91,9 +96,8 @@ fn unbound_changes() -> Vec<Vector> {
 /// cleared or not. Its fact stands between facts that change as they may.
 fn unbound_among_others() -> Vec<Vector> {
     let case = |name, before: &[Fact], after: &[Fact]| {
-        let book = with([RecordDraft { steps: vec![ROLL_3_4], ..four(before, after) }]);
-        let step_at = book.layout().records[0].steps[0];
-        refused(name, &book, Refusal::UnboundChange.at(step_at))
+        let record = RecordDraft { steps: vec![ROLL_3_4], ..four(before, after) };
+        unbound_at(name, &with([record]), 0)
     };
     let clear_2 = [2, 2, 0];
     vec![
@@ -106,47 +110,35 @@ fn unbound_among_others() -> Vec<Vector> {
     ]
 }
 
+/// Whether the one fact holds before a step and after it.
+const UP: &[bool] = &[false, true];
+const DOWN: &[bool] = &[true, false];
+const STAYS: &[bool] = &[true, true];
+const STAYS_OUT: &[bool] = &[false, false];
+
+/// Row 12 at move `number` of so many. A record is told by whether the fact holds in
+/// each of its states and by the move of all its steps.
+fn conflict(name: &str, moves: usize, records: &[(&[bool], u8)], number: usize) -> Vector {
+    let record = |&(states, by): &(&[bool], u8)| story(states, &vec![by; states.len() - 1]);
+    let book = one_fact(moves, records.iter().map(record));
+    refused(name, &book, Refusal::EffectConflict.at(number))
+}
+
 fn conflicts() -> Vec<Vector> {
-    let conflict = |name, moves, records: &[RecordDraft], number| {
-        let book = one_fact(moves, records.to_vec());
-        refused(name, &book, Refusal::EffectConflict.at(number))
-    };
-    let (up, down) = (story(&[false, true], &[1]), story(&[true, false], &[1]));
-    let (stays, stays_out) = (story(&[true, true], &[1]), story(&[false, false], &[1]));
-    let of_move = |record: &RecordDraft, number: u8| {
-        let mut record = record.clone();
-        record.steps[0][0] = number;
-        record
-    };
+    let up_once = [(UP, 1), (STAYS_OUT, 1)];
     vec![
-        conflict(
-            "12: changed to hold, and not held after another",
-            1,
-            &[up.clone(), stays_out.clone()],
-            1,
-        ),
-        conflict("12: the other record first", 1, &[stays_out.clone(), up.clone()], 1),
-        conflict(
-            "12: changed not to hold, and held after another",
-            1,
-            &[down.clone(), stays.clone()],
-            1,
-        ),
-        conflict("12: changed both ways", 1, &[up.clone(), down.clone()], 1),
-        conflict("12: in one record", 1, &[story(&[false, true, false], &[1, 1])], 1),
+        conflict("12: changed to hold, and not held after another", 1, &up_once, 1),
+        conflict("12: the other record first", 1, &[(STAYS_OUT, 1), (UP, 1)], 1),
+        conflict("12: changed not to hold, and held after another", 1, &[(DOWN, 1), (STAYS, 1)], 1),
+        conflict("12: changed both ways", 1, &[(UP, 1), (DOWN, 1)], 1),
+        conflict("12: in one record", 1, &[(&[false, true, false], 1)], 1),
         conflict(
             "12: the smallest such move",
             4,
-            &[
-                of_move(&up, 4),
-                of_move(&down, 4),
-                of_move(&up, 2),
-                of_move(&stays_out, 2),
-                stays.clone(),
-            ],
+            &[(UP, 4), (DOWN, 4), (UP, 2), (STAYS_OUT, 2), (STAYS, 1)],
             2,
         ),
-        conflict("12 before 13 and 14", 1, &[up, stays_out], 1).order(vec![9]).output(7),
+        conflict("12 before 13 and 14", 1, &up_once, 1).order(vec![9]).output(7),
     ]
 }
 
