@@ -21,7 +21,7 @@ fn the_file_is_what_is_printed() {
     let file = concat!(env!("CARGO_MANIFEST_DIR"), "/../tests/vectors/vectors.txt");
     let text = std::fs::read_to_string(file).expect("the file is there");
     assert!(text == print(&ALL), "run `vectors print` and store what it prints");
-    assert!(text.len() < 1_200_000, "{} bytes", text.len());
+    assert!(text.len() < 1 << 20, "{} bytes", text.len());
 }
 
 #[test]

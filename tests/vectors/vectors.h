@@ -20,7 +20,7 @@ static const char *const job_names[JOBS] = {"look_over", "learn",    "check",
 
 enum { ROOM = 1 << 17, LINE = 1 << 12 };
 struct bytes {
-    size_t len;
+    size_t len, len_before; /* of this vector, and of the one before it */
     uint8_t at[ROOM];
 };
 
@@ -121,8 +121,10 @@ static void begin_vector(const char *name)
     strcpy(vector.name, name);
     for (int job = 0; job < JOBS; job++)
         vector.wanted[job] = 0;
-    for (int i = 0; i < BYTE_KEYS; i++)
+    for (int i = 0; i < BYTE_KEYS; i++) {
+        byte_keys[i].to->len_before = byte_keys[i].to->len;
         byte_keys[i].to->len = 0;
+    }
     for (int i = 0; i < NUMBER_KEYS; i++)
         *number_keys[i].to = number_keys[i].left_out;
 }
@@ -161,6 +163,14 @@ static void append_part(struct bytes *to, const char *part)
                 stop("too many bytes");
             to->at[to->len++] = (uint8_t)strtoul(byte, NULL, 16);
         }
+}
+
+/* The bytes of the vector before, which still stand there if none has come for this one. */
+static void keep_bytes(struct bytes *to)
+{
+    if (to->len > 0 || to->len_before == 0)
+        stop("no bytes of the vector before");
+    to->len = to->len_before;
 }
 
 static void want(const char *word)
@@ -206,6 +216,8 @@ static void read_value(const char *key, char *value)
         end_file(value);
     else if (vector.name[0] == '\0')
         stop("a line before the first vector");
+    else if (to != NULL && strcmp(value, "same") == 0)
+        keep_bytes(to);
     else if (to != NULL || strcmp(key, "jobs") == 0)
         for (char *word = strtok(value, " "); word != NULL; word = strtok(NULL, " "))
             if (to != NULL)

@@ -13,22 +13,27 @@ const HEAD: &str = "\
 # Written by `second/target/release/vectors print`.
 ";
 const WIDTH: usize = 100;
+/// For bytes that are those of the vector before.
+const SAME: &str = "same";
+/// Of a vector that has no number yet.
+const NO_ANSWER: Answer = Answer { number: u32::MAX, place: 0, position: 0 };
 
 #[must_use]
 pub fn print(vectors: &[Vector]) -> String {
     let mut text = String::from(HEAD);
-    for vector in vectors {
+    let none = Vector::new("", &[], Vec::new(), NO_ANSWER);
+    for (vector, before) in vectors.iter().zip([&none].into_iter().chain(vectors)) {
         let jobs: Vec<&str> = vector.jobs.iter().map(|job| job.name()).collect();
         write!(text, "\nvector {}\njobs {}\n", vector.name, jobs.join(" ")).expect(WRITES);
-        print_bytes(&mut text, "book", &vector.book);
+        print_bytes(&mut text, "book", &vector.book, &before.book);
         print_unless_0(&mut text, "form", vector.form);
-        print_bytes(&mut text, "order", &vector.order);
-        print_bytes(&mut text, "record", &vector.record);
+        print_bytes(&mut text, "order", &vector.order, &before.order);
+        print_bytes(&mut text, "record", &vector.record, &before.record);
         print_unless_0(&mut text, "output", vector.output as u32);
         let Answer { number, place, position } = vector.answer;
         writeln!(text, "number {number}\nplace {place}").expect(WRITES);
         print_unless_0(&mut text, "position", position);
-        print_bytes(&mut text, "after", &vector.after);
+        print_bytes(&mut text, "after", &vector.after, &before.after);
     }
     writeln!(text, "\nend {}", vectors.len()).expect(WRITES);
     text
@@ -44,8 +49,12 @@ fn print_unless_0(text: &mut String, key: &str, number: u32) {
 
 /// Parts on lines of at most [`WIDTH`], but for parts that are longer; a line
 /// that goes on begins with a blank.
-fn print_bytes(text: &mut String, key: &str, bytes: &[u8]) {
+fn print_bytes(text: &mut String, key: &str, bytes: &[u8], before: &[u8]) {
     if bytes.is_empty() {
+        return;
+    }
+    if bytes == before {
+        writeln!(text, "{key} {SAME}").expect(WRITES);
         return;
     }
     text.push_str(key);
@@ -77,34 +86,48 @@ pub fn parse(text: &str) -> Result<Vec<Vector>, String> {
     let (last, count) = entries.pop().ok_or("no line")?;
     for (key, value) in entries {
         if key == "vector" {
-            let none = Answer { number: u32::MAX, place: 0, position: 0 };
-            vectors.push(Vector::new(value, &[], Vec::new(), none));
+            vectors.push(Vector::new(value, &[], Vec::new(), NO_ANSWER));
             continue;
         }
-        let vector = vectors.last_mut().ok_or("a line before the first vector")?;
-        let in_vector = |error: String| format!("vector {}, {key}: {error}", vector.name);
-        let number = || value.parse::<u32>().map_err(|error| error.to_string());
-        match key.as_str() {
-            "jobs" => vector.jobs = parse_jobs(&value).map_err(in_vector)?,
-            "book" => vector.book = decode(&value).map_err(in_vector)?,
-            "form" => vector.form = number().map_err(in_vector)?,
-            "order" => vector.order = decode(&value).map_err(in_vector)?,
-            "record" => vector.record = decode(&value).map_err(in_vector)?,
-            "output" => vector.output = number().map_err(in_vector)? as usize,
-            "number" => vector.answer.number = number().map_err(in_vector)?,
-            "place" => vector.answer.place = number().map_err(in_vector)?,
-            "position" => vector.answer.position = number().map_err(in_vector)?,
-            "after" => vector.after = decode(&value).map_err(in_vector)?,
-            _ => return Err(in_vector("no such key".into())),
-        }
+        let (vector, before) = vectors.split_last_mut().ok_or("a line before the first vector")?;
+        take(vector, before.last(), &key, &value)
+            .map_err(|error| format!("vector {}, {key}: {error}", vector.name))?;
     }
     if last != "end" || count != vectors.len().to_string() {
         return Err(format!("{} vectors, and no end that says so", vectors.len()));
     }
-    match vectors.iter().find(|v| v.jobs.is_empty() || v.answer.number == u32::MAX) {
+    match vectors.iter().find(|v| v.jobs.is_empty() || v.answer.number == NO_ANSWER.number) {
         Some(vector) => Err(format!("vector {}: no jobs or no number", vector.name)),
         None => Ok(vectors),
     }
+}
+
+/// One line of a vector.
+fn take(
+    vector: &mut Vector,
+    before: Option<&Vector>,
+    key: &str,
+    value: &str,
+) -> Result<(), String> {
+    let number = || value.parse::<u32>().map_err(|error| error.to_string());
+    let bytes = |of: fn(&Vector) -> &Vec<u8>| match before {
+        Some(before) if value == SAME => Ok(of(before).clone()),
+        _ => decode(value),
+    };
+    match key {
+        "jobs" => vector.jobs = parse_jobs(value)?,
+        "book" => vector.book = bytes(|before| &before.book)?,
+        "form" => vector.form = number()?,
+        "order" => vector.order = bytes(|before| &before.order)?,
+        "record" => vector.record = bytes(|before| &before.record)?,
+        "output" => vector.output = number()? as usize,
+        "number" => vector.answer.number = number()?,
+        "place" => vector.answer.place = number()?,
+        "position" => vector.answer.position = number()?,
+        "after" => vector.after = bytes(|before| &before.after)?,
+        _ => return Err("no such key".into()),
+    }
+    Ok(())
 }
 
 /// Each key with its value, the lines that go on put together.
