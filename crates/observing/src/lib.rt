@@ -11,7 +11,7 @@ ghost use mathlib.Core.Path.{_≡_};
 ghost use Prim.Native.Nat.{ℕ, _+_, _≤_};
 ghost use lib.ListN.{length};
 ghost use Rattle.limits.specs.Limits.{maxLength, maxObjects, maxRelations, maxMoves, stepSize, nearCeiling};
-ghost use Rattle.answer.specs.declared.Answer.the-variants.{Good, Refused};
+ghost use Rattle.answer.specs.declared.Answer.the-variants.{Good};
 ghost use Rattle.terms.specs.Schema.{schema};
 ghost use Rattle.terms.specs.Typing.{Falling};
 ghost use Rattle.format.specs.Lists.{listAt, listEnd};
@@ -31,14 +31,11 @@ pub struct Walked {
     pub named: usize,
 }
 
-// A refusal, by which no step is named.
-pub fn refused(number: usize, place: usize) -> Walked
-    ensures { λ r. ⌜ r ≡ record { answer = Refused number place; named = 0 } ⌝ }
+// A walk that came to a refusal, by which no step is named.
+pub fn stopped(answer: Answer) -> Walked
+    ensures { λ r. ⌜ r ≡ record { answer = answer; named = 0 } ⌝ }
 {
-    Walked {
-        answer: Answer::Refused(number, place),
-        named: 0,
-    }
+    Walked { answer, named: 0 }
 }
 
 // A walk that came to its end.
@@ -152,14 +149,14 @@ fn observe_steps(
         let answer = r.answer;
         match answer {
             Answer::Refused(k, p) => {
-                return refused(k, p);
+                return stopped(Answer::Refused(k, p));
             }
             Answer::Good(next) => {
                 pre = at + limits::STEP_SIZE;
                 held = r.count;
                 name = r.named;
                 if (limits::MAX_FACTS as usize) < held {
-                    return refused(8, pre);
+                    return stopped(Answer::Refused(8, pre));
                 }
                 at = next;
             }
@@ -184,10 +181,7 @@ fn observe_trajectory(
 {
     let first = states::state(8, book, table, c.end, at);
     if answer::is_refused(first) {
-        return Walked {
-            answer: first,
-            named: 0,
-        };
+        return stopped(first);
     }
     observe_steps(
         book,
@@ -219,10 +213,7 @@ fn observe_body(
     let c = records::scope_of(short, h, head, at, end);
     let first = records::objects(s, h.kinds, end, head.objects as usize, c.objects.at);
     if answer::is_refused(first) {
-        return Walked {
-            answer: first,
-            named: 0,
-        };
+        return stopped(first);
     }
     let kinds = tables::kinds_of(s, h, s, c.objects);
     let table = tables::table_of(s, h, &kinds);
@@ -258,10 +249,7 @@ pub fn observe_record(
     let head = Head::read(s, at);
     let end = records::record_head(s, head, at);
     if answer::is_refused(end) {
-        return Walked {
-            answer: end,
-            named: 0,
-        };
+        return stopped(end);
     }
     observe_body(
         s,

@@ -30,7 +30,7 @@ pub fn records(s: &[u8], short: bool, n: usize, from: usize, observed: &mut [u8]
         let answer = w.answer;
         match answer {
             Answer::Refused(k, p) => {
-                return observing::refused(k, p);
+                return observing::stopped(Answer::Refused(k, p));
             }
             Answer::Good(next) => {
                 let head = Head::read(s, at);
@@ -42,7 +42,7 @@ pub fn records(s: &[u8], short: bool, n: usize, from: usize, observed: &mut [u8]
         left -= 1;
     }
     if at < s.len() {
-        return observing::refused(6, at);
+        return observing::stopped(Answer::Refused(6, at));
     }
     observing::ended(total, named)
 }

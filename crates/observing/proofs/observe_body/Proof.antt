@@ -19,11 +19,13 @@ objects-requires c κs =
 
 returns : tie.Need-returns
 returns c =
-    let d = c .before .before in
+    let i = c .before in
+    let d = i .before .before in
     let g = d .before .before in
     let p = g .before .before .before .pre in
-    stays-observes _ _ _ _ _ _ _ (c .before .is-refused .ensures) (c .if1 .taken)
-    (body-stays _ _ _ _ _ _ (p .1 .3) _ (g .scope-of .ensures) _ _ (d .objects .ensures) (c .before .is-refused .ensures) (c .if1 .taken))
+    rw (c .stopped .ensures)
+    (stays-observes _ _ _ _ _ _ _ (i .before .is-refused .ensures) (i .if1 .taken)
+    (body-stays _ _ _ _ _ _ (p .1 .3) _ (g .scope-of .ensures) _ _ (d .objects .ensures) (i .before .is-refused .ensures) (i .if1 .taken)))
 
 kinds-of-requires : tie.Need-kinds-of-requires
 kinds-of-requires c κs =
@@ -74,5 +76,5 @@ returns-2 c =
 pub observe-body-spec : {M : Type 1} → statement M
 observe-body-spec =
     tie.close
-    (tie.spec (λ c κs. search needs) (λ c. search needs) objects-requires (λ c κs. search needs) returns kinds-of-requires
+    (tie.spec (λ c κs. search needs) (λ c. search needs) objects-requires (λ c κs. search needs) (λ c κs. search needs) returns kinds-of-requires
     (λ c κs. search needs) (λ c κs. search needs) observe-trajectory-requires (λ c κs. search needs) (λ c. search needs) returns-2)

@@ -13,9 +13,11 @@ use Rattle.observing.proofs.observe_record.Tie as tie
 
 returns : tie.Need-returns
 returns c =
-    let d = c .before in
-    stays-observes _ _ _ _ _ _ _ (d .is-refused .ensures) (c .if1 .taken)
-    (record-stays _ _ _ _ _ _ (d .before .record-head .ensures) (d .is-refused .ensures) (c .if1 .taken))
+    let i = c .before in
+    let d = i .before in
+    rw (c .stopped .ensures)
+    (stays-observes _ _ _ _ _ _ _ (d .is-refused .ensures) (i .if1 .taken)
+    (record-stays _ _ _ _ _ _ (d .before .record-head .ensures) (d .is-refused .ensures) (i .if1 .taken)))
 
 observe-body-requires : tie.Need-observe-body-requires
 unfolding headOf
@@ -44,4 +46,4 @@ returns-2 c =
 pub observe-record-spec : {M : Type 1} → statement M
 observe-record-spec =
     tie.close
-    (tie.spec (λ c κs. search needs) (λ c κs. (search needs, c .read .ensures)) (λ c κs. search needs) returns (λ c κs. search needs) observe-body-requires (λ c. search needs) returns-2)
+    (tie.spec (λ c κs. search needs) (λ c κs. (search needs, c .read .ensures)) (λ c κs. search needs) (λ c κs. search needs) returns (λ c κs. search needs) observe-body-requires (λ c. search needs) returns-2)

@@ -49,7 +49,7 @@ returns c =
     let o = c .before .before .before .before .before .before .before .before in
     let l = o .before .before .before .before .before in
     let p = l .before .before .before .before .before .before .before .before .pre .0 in
-    rw (c .refused .ensures)
+    rw (c .stopped .ensures)
     (refused-observes _ _ _ _ _ _ _
     (going-refused _ _ _ _ (p .0) _ _ _ _ _ _ _ (l .loop .inv .0 .going) (o .before .before .before .before .loop-test .taken) _ (o .observe-step .ensures .0) _ _ (c .before .before .answer .given .1)))
 
@@ -65,7 +65,7 @@ returns-2 c =
     let i = l .loop .inv .0 in
     let e = a .answer2 .given .1 in
     let done = o .observe-step .ensures .1 _ e .1 (observing-ready _ _ _ _ (p .0) _ _ _ _ _ _ _ _ _ _ i) in
-    rw (c .refused2 .ensures)
+    rw (c .stopped2 .ensures)
     (refused-observes _ _ _ _ _ _ _
     (going-many _ _ _ _ (p .0) _ _ _ _ _ _ _ (i .going) (o .before .before .before .before .loop-test .taken) _ (o .observe-step .ensures .0) _ e _ _ (done .carried) (c .before .if1 .taken)))
 

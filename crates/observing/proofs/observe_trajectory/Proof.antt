@@ -13,10 +13,12 @@ use Rattle.observing.proofs.observe_trajectory.Tie as tie
 returns : tie.Need-returns
 unfolding ForRightByPlace
 returns c =
-    let d = c .before .before in
+    let i = c .before in
+    let d = i .before .before in
     let p = d .before .before .before .pre in
-    stays-observes _ _ _ _ _ _ _ (c .before .is-refused .ensures) (c .if1 .taken)
-    (trajectory-stays _ _ _ _ _ _ _ _ _ (d .state .ensures _ _ (p .0 .table)) (c .before .is-refused .ensures) (c .if1 .taken))
+    rw (c .stopped .ensures)
+    (stays-observes _ _ _ _ _ _ _ (i .before .is-refused .ensures) (i .if1 .taken)
+    (trajectory-stays _ _ _ _ _ _ _ _ _ (d .state .ensures _ _ (p .0 .table)) (i .before .is-refused .ensures) (i .if1 .taken)))
 
 observe-steps-requires : tie.Need-observe-steps-requires
 unfolding ForRightByPlace
@@ -44,4 +46,4 @@ returns-2 c =
 pub observe-trajectory-spec : {M : Type 1} → statement M
 observe-trajectory-spec =
     tie.close
-    (tie.spec (λ c κs. search needs) (λ c κs. search needs) returns (λ c κs. search needs) observe-steps-requires (λ c. search needs) returns-2)
+    (tie.spec (λ c κs. search needs) (λ c κs. search needs) (λ c κs. search needs) returns (λ c κs. search needs) observe-steps-requires (λ c. search needs) returns-2)

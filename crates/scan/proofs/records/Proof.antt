@@ -51,7 +51,7 @@ returns c =
     let l = o .before .before .before in
     let own = l .before .read .ensures in
     let says = rw own at (o .observe-record .ensures .says) in
-    rw (c .refused .ensures)
+    rw (c .stopped .ensures)
     (refused-scanned _ _ _ _ _ _ _ _ _ _
     (all-refused _ _ _ _ _ _ _ (turn-refused _ _ _ _ _ _ _ (l .loop .inv .2) (o .before .before .loop-test .taken) says (c .before .before .answer .given .1))))
 
@@ -78,7 +78,7 @@ loop-again c =
 
 returns-2 : tie.Need-returns-2 Inv-loop μ-loop
 returns-2 c =
-    rw (c .refused2 .ensures)
+    rw (c .stopped2 .ensures)
     (refused-scanned _ _ _ _ _ _ _ _ _ _
     (all-left _ _ _ _ _ _ (turn-none _ _ _ _ (c .before .before .before .loop .inv .2) (omega arith)) (c .before .if1 .taken)))
 
