@@ -1,6 +1,6 @@
 -- Answers that are the same but for the place of 11: the relation, and its laws through rows in order, lent bytes and positions.
 use Prim.Native.Nat.{ℕ}
-use mathlib.Core.Path.{_≡_, refl, sym, ap, ap₂, _∙_}
+use mathlib.Core.Path.{_≡_, refl, ap, ap₂}
 use mathlib.Core.List.{List}
 use Rattle.answer.specs.declared.Answer.{Answer}
 use Rattle.answer.specs.declared.Answer.the-variants.{Good, Refused}
@@ -13,16 +13,6 @@ use Rattle.twins.specs.Twins.{SameAnswer}
 pub data Twin (a b : Answer) : Type 0 where
   equal : a ≡ b → Twin a b
   elsewhere : (p q : ℕ) → a ≡ Refused 11 p → b ≡ Refused 11 q → Twin a b
-
--- it is an equivalence
-pub twin-sym : (a b : Answer) → Twin a b → Twin b a
-twin-sym a b (equal e) = equal (sym e)
-twin-sym a b (elsewhere p q e e′) = elsewhere q p e′ e
-
-pub twin-trans : (a b c : Answer) → Twin a b → Twin b c → Twin a c
-twin-trans a b c (equal e) h = rw e h
-twin-trans a b c (elsewhere p q e e′) (equal h) = elsewhere p q e (sym h ∙ e′)
-twin-trans a b c (elsewhere p q e e′) (elsewhere x y h h′) = elsewhere p y e h′
 
 -- rows in order
 pub twin-rest : (a : Answer) (j k : ℕ → Answer) → ((n : ℕ) → Twin (j n) (k n)) → Twin (a >>= j) (a >>= k)

@@ -1,5 +1,5 @@
--- Two books that say the same, in planning's terms: one domain, and trimmed to atoms the same transitions and, of any order, the same plan. So the
--- same model is learned, the same steps are met by row 11 and the same moves by row 12, and plans come to the same.
+-- Two books with the same transitions, in planning's terms: one domain, and trimmed to atoms the same transitions in whatever sequence and, of any
+-- order, the same plan. So the same model is learned, row 11 is met by both or by neither and row 12 by the same moves, and plans come to the same.
 use Prim.Native.Nat.{ℕ}
 use mathlib.Core.Path.{_≡_, refl, sym, ap, ap₂, _∙_, subst}
 use mathlib.Core.Bool.{Bool, true, false, cond}
@@ -7,22 +7,25 @@ use mathlib.Core.List.{List, [], _∷_, map}
 use Rattle.terms.specs.declared.Step.{Step}
 use Rattle.terms.specs.Schema.{Schema}
 use Rattle.terms.specs.Steps.{isAtom, ground}
-use Rattle.terms.specs.Typing.{RightSchema}
 use Rattle.terms.specs.Agree.{SameSchema}
 use Rattle.terms.proofs.Agree.{ground-same}
 use Rattle.format.specs.Form.{Form}
 use Rattle.format.specs.Decode.{RecordedStep}
 use Rattle.format.specs.Order.{plan}
+use Rattle.model.specs.Quantify.{Mem, any}
 use Rattle.model.specs.Domain.{Domain, State, GroundAction, Transition}
 use Rattle.model.specs.Model.{Model, Consistent, run}
 use Rattle.model.specs.Learned.{learned, unboundEffect, conflicting}
+use Rattle.model.specs.Alike.{SameMembers}
+use Rattle.model.proofs.Order.{consistent-alike, learned-alike, conflicting-alike, unbound-alike}
 use Rattle.jobs.specs.Planning.{domain, groundAction, transition, schemaOf, stepsOfBook, transitionsOf, planOf}
 use Rattle.jobs.specs.Learn.{learnedFrom}
 use Rattle.converted.specs.Converted.{unplaced}
 use Rattle.demand.proofs.Agree.{domain-same}
 use Rattle.wellformed.proofs.Headers.{right-schema}
-use Rattle.twins.specs.Twins.{SameBooks}
-use Rattle.twins.proofs.Trimmed.{trimmed, trimmedTransition, OfAtoms, learned-trimmed, conflicting-trimmed, unbound-trimmed, run-trimmed, consistent-trimmed}
+use Rattle.wellformed.proofs.Lists.{map-alike}
+use Rattle.twins.specs.Twins.{SameTransitions}
+use Rattle.twins.proofs.Trimmed.{trimmed, trimmedTransition, OfAtoms, learned-trimmed, conflicting-trimmed, any-unbound-trimmed, run-trimmed, consistent-trimmed}
 
 -- ---- schemas that say the same
 
@@ -50,12 +53,6 @@ module _ (S T : Schema) (same : SameSchema S T) where
       steps [] = refl
       steps (x ∷ xs) = ap₂ (λ (y : GroundAction) (ys : List GroundAction). y ∷ ys) (action-same x) (steps xs)
 
-  -- and row 11 is met by the same recorded steps
-  pub unbound-same : RightSchema S → RightSchema T → (f : RecordedStep) → unboundEffect (domain S) (transition S f) ≡ unboundEffect (domain T) (transition T f)
-  unbound-same right right′ f =
-      sym (unbound-trimmed (domain S) (transition S f)) ∙ ap (unboundEffect (domain S)) (transition-same f) ∙ unbound-trimmed (domain S) (transition T f)
-      ∙ ap (λ (D : Domain). unboundEffect D (transition T f)) (domain-same S T same right right′)
-
 -- the transitions of recorded steps do not say where these stand
 unplaced-told : (D : Domain) (S : Schema) (fs : List RecordedStep)
     → map (trimmedTransition D) (map (transition S) fs) ≡ map (λ f. trimmedTransition D (transition S f)) (unplaced fs)
@@ -63,45 +60,58 @@ unfolding unplaced transition
 unplaced-told D S [] = refl
 unplaced-told D S (f ∷ fs) = ap (λ (ys : List Transition). trimmedTransition D (transition S f) ∷ ys) (unplaced-told D S fs)
 
--- ---- books that say the same
+-- ---- books with the same transitions
 
-module _ (f g : Form) (s t : List ℕ) (n : ℕ) (same : SameBooks f g s t n) where
+module _ (f g : Form) (s t : List ℕ) (n : ℕ) (same : SameTransitions f g s t n) where
   -- they have one domain
   pub domains : domain (schemaOf s) ≡ domain (schemaOf t)
-  domains = domain-same (schemaOf s) (schemaOf t) (same .schema) (right-schema f s n (same .good)) (right-schema g t n (same .good′))
+  domains = domain-same (schemaOf s) (schemaOf t) (same .comparable .schema) (right-schema f s n (same .comparable .good)) (right-schema g t n (same .comparable .good′))
 
-  -- and trimmed the same transitions in the same sequence
-  transitions-same : map (trimmedTransition (domain (schemaOf s))) (transitionsOf f s) ≡ map (trimmedTransition (domain (schemaOf s))) (transitionsOf g t)
+  -- and trimmed the same transitions
+  members-same : SameMembers (map (trimmedTransition (domain (schemaOf s))) (transitionsOf f s)) (map (trimmedTransition (domain (schemaOf s))) (transitionsOf g t))
   unfolding transitionsOf
-  transitions-same =
-      let one : RecordedStep → Transition = λ x. trimmedTransition (domain (schemaOf s)) (transition (schemaOf s) x) in
-      let other : RecordedStep → Transition = λ x. trimmedTransition (domain (schemaOf s)) (transition (schemaOf t) x) in
-      let each : one ≡ other = λ i x. transition-same (schemaOf s) (schemaOf t) (same .schema) x i in
-      unplaced-told (domain (schemaOf s)) (schemaOf s) (stepsOfBook f s)
-      ∙ ap₂ (λ (h : RecordedStep → Transition) (xs : List RecordedStep). map h xs) each (same .steps)
-      ∙ sym (unplaced-told (domain (schemaOf s)) (schemaOf t) (stepsOfBook g t))
+  members-same y =
+      let D : Domain = domain (schemaOf s) in
+      let one : RecordedStep → Transition = λ x. trimmedTransition D (transition (schemaOf s) x) in
+      let other : RecordedStep → Transition = λ x. trimmedTransition D (transition (schemaOf t) x) in
+      let each : other ≡ one = λ i x. sym (transition-same (schemaOf s) (schemaOf t) (same .comparable .schema) x) i in
+      let told = unplaced-told D (schemaOf s) (stepsOfBook f s) in
+      let told′ = unplaced-told D (schemaOf t) (stepsOfBook g t) ∙ ap (λ (h : RecordedStep → Transition). map h (unplaced (stepsOfBook g t))) each in
+      let alike = map-alike one (unplaced (stepsOfBook f s)) (unplaced (stepsOfBook g t)) (same .steps) y in (
+        λ m. subst (λ (ts : List Transition). Mem y ts) (sym told′) (alike .0 (subst (λ (ts : List Transition). Mem y ts) told m)),
+        λ m. subst (λ (ts : List Transition). Mem y ts) (sym told) (alike .1 (subst (λ (ts : List Transition). Mem y ts) told′ m)),
+      )
 
   -- The same model is learned,
   pub learned-same : learnedFrom f s ≡ learnedFrom g t
   unfolding learnedFrom
   learned-same =
       let D : Domain = domain (schemaOf s) in
-      learned-trimmed D (transitionsOf f s) ∙ ap (learned D) transitions-same ∙ sym (learned-trimmed D (transitionsOf g t))
+      learned-trimmed D (transitionsOf f s) ∙ learned-alike D _ _ members-same ∙ sym (learned-trimmed D (transitionsOf g t))
       ∙ ap (λ (E : Domain). learned E (transitionsOf g t)) domains
 
   -- the same moves have a conflict,
   pub conflicts-same : conflicting (domain (schemaOf s)) (transitionsOf f s) ≡ conflicting (domain (schemaOf t)) (transitionsOf g t)
   conflicts-same =
       let D : Domain = domain (schemaOf s) in
-      conflicting-trimmed D (transitionsOf f s) ∙ ap (conflicting D) transitions-same ∙ sym (conflicting-trimmed D (transitionsOf g t))
+      let alike : conflicting D (map (trimmedTransition D) (transitionsOf f s)) ≡ conflicting D (map (trimmedTransition D) (transitionsOf g t)) =
+      λ i a. conflicting-alike D _ _ members-same a i in
+      conflicting-trimmed D (transitionsOf f s) ∙ alike ∙ sym (conflicting-trimmed D (transitionsOf g t))
       ∙ ap (λ (E : Domain). conflicting E (transitionsOf g t)) domains
+
+  -- row 11 is met by both, or by neither,
+  pub unbound-same : any (unboundEffect (domain (schemaOf s))) (transitionsOf f s) ≡ any (unboundEffect (domain (schemaOf t))) (transitionsOf g t)
+  unbound-same =
+      let D : Domain = domain (schemaOf s) in
+      sym (any-unbound-trimmed D (transitionsOf f s)) ∙ unbound-alike D _ _ members-same ∙ any-unbound-trimmed D (transitionsOf g t)
+      ∙ ap (λ (E : Domain). any (unboundEffect E) (transitionsOf g t)) domains
 
   -- the same models fit,
   pub fit-over : (M : Model) → Consistent (domain (schemaOf s)) (transitionsOf f s) M → Consistent (domain (schemaOf t)) (transitionsOf g t) M
   fit-over M h =
       let D : Domain = domain (schemaOf s) in
       let cut : Consistent D (map (trimmedTransition D) (transitionsOf g t)) M =
-      subst (λ (ts : List Transition). Consistent D ts M) transitions-same (consistent-trimmed D (transitionsOf f s) M .0 h) in
+      consistent-alike D _ _ members-same M .0 (consistent-trimmed D (transitionsOf f s) M .0 h) in
       subst (λ (E : Domain). Consistent E (transitionsOf g t) M) domains (consistent-trimmed D (transitionsOf g t) M .1 cut)
 
   -- and under a model of atoms an order's plan comes to the same.
@@ -110,6 +120,6 @@ module _ (f g : Form) (s t : List ℕ) (n : ℕ) (same : SameBooks f g s t n) wh
   runs-same M own o st k =
       let D : Domain = domain (schemaOf s) in
       sym (run-trimmed D M own (planOf (schemaOf s) o) st k)
-      ∙ ap (λ (plan : List GroundAction). run D M plan st k) (plan-same (schemaOf s) (schemaOf t) (same .schema) o)
+      ∙ ap (λ (plan : List GroundAction). run D M plan st k) (plan-same (schemaOf s) (schemaOf t) (same .comparable .schema) o)
       ∙ run-trimmed D M own (planOf (schemaOf t) o) st k
       ∙ ap (λ (E : Domain). run E M (planOf (schemaOf t) o) st k) domains

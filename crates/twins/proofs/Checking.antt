@@ -1,4 +1,4 @@
--- Checking an order against two books that say the same: answers that are the same but for the place of 11, the same position, the same end sheet.
+-- Checking an order against two books with the same transitions: answers that are the same but for the place of 11, the same position, the same end sheet.
 use Prim.Native.Nat.{ℕ}
 use mathlib.Core.Path.{_≡_, ap, _∙_}
 use mathlib.Core.Bool.{not}
@@ -16,14 +16,14 @@ use Rattle.jobs.specs.Planning.{domain, schemaOf, startStates, planOf, goalOf, 
 use Rattle.jobs.specs.Learn.{learnedFrom}
 use Rattle.jobs.specs.Check.{planRun, orderRun, runAnswer, startAnswer, firstFailing, startsAnswer, beforePlan, check, endSheet, endAfter, checkBytes}
 use Rattle.wellformed.proofs.Headers.{right-schema}
-use Rattle.twins.specs.Twins.{SameBooks}
+use Rattle.twins.specs.Twins.{SameTransitions}
 use Rattle.twins.proofs.Answers.{Twin, equal, twin-bind, twin-kept, twin-then, twin-position}
 use Rattle.twins.proofs.Trimmed.{OfAtoms, learned-of-atoms}
 use Rattle.twins.proofs.Order.{order-form-same}
 use Rattle.twins.proofs.Books.{learned-same, runs-same}
 use Rattle.twins.proofs.Learning.{learnable-twin}
 
-module _ (f g : Form) (s t : List ℕ) (n : ℕ) (same : SameBooks f g s t n) (o : List ℕ) where
+module _ (f g : Form) (s t : List ℕ) (n : ℕ) (same : SameTransitions f g s t n) (o : List ℕ) where
   own : OfAtoms (domain (schemaOf s)) (learnedFrom f s)
   unfolding learnedFrom
   own = learned-of-atoms (domain (schemaOf s)) (transitionsOf f s)
@@ -50,7 +50,7 @@ module _ (f g : Form) (s t : List ℕ) (n : ℕ) (same : SameBooks f g s t n) (o
       equal
       (bind-cong (refuse (not (eqb size endSheetSize)) 13 0) _ _
       (λ x.
-      order-form-same (schemaOf s) (schemaOf t) (same .schema) (same .kinds) (right-schema f s n (same .good) .falling) (right-schema g t n (same .good′) .falling) o)))
+      order-form-same (schemaOf s) (schemaOf t) (same .comparable .schema) (same .comparable .kinds) (right-schema f s n (same .comparable .good) .falling) (right-schema g t n (same .comparable .good′) .falling) o)))
 
   -- The check's answer is the same but for the place of 11,
   pub check-twin : (size : ℕ) → Twin (check f s o size .answer) (check g t o size .answer)

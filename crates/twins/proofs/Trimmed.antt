@@ -7,7 +7,7 @@ use mathlib.Core.Bool.{Bool, true, false, cond, _&&_, _||_, not}
 use mathlib.Core.List.{List, [], _∷_, map}
 use lib.Dec.{eqb}
 use Rattle.truth.specs.Bools.{clash, is-false, and-out, guarded}
-use Rattle.model.specs.Quantify.{same}
+use Rattle.model.specs.Quantify.{same, any}
 use Rattle.model.specs.Domain.{Domain, State, GroundAction, Transition}
 use Rattle.model.specs.Model.{Model, Valid, Fits, Consistent, image, inapplicable, next, Run, stopped, run}
 use Rattle.model.specs.Learned.{learned, unboundEffect, conflicting}
@@ -49,11 +49,16 @@ module _ (D : Domain) where
   image-trimmed q s h f = below-same _ _ _ (λ n. guarded (q n) _ _ (λ e. ap (λ (x : ℕ). eqb x f) (trimmed-ground s n (h n e))))
 
   -- row 11 is met by both, or by neither
-  pub unbound-trimmed : (t : Transition) → unboundEffect D (trimmedTransition D t) ≡ unboundEffect D t
+  unbound-trimmed : (t : Transition) → unboundEffect D (trimmedTransition D t) ≡ unboundEffect D t
   unfolding unboundEffect trimmedTransition trimmed
   unbound-trimmed t =
       below-same _ _ _
       (λ f. guarded (not (same (t .pre f) (t .post f))) _ _ (λ e. ap not (image-trimmed (D .atom (t .step .action)) (t .step) (λ n h. h) f)))
+
+  pub any-unbound-trimmed : (ts : List Transition) → any (unboundEffect D) (map (trimmedTransition D) ts) ≡ any (unboundEffect D) ts
+  unfolding any
+  any-unbound-trimmed [] = refl
+  any-unbound-trimmed (t ∷ ts) = ap₂ (λ (b c : Bool). b || c) (unbound-trimmed t) (any-unbound-trimmed ts)
 
   -- ---- learning
 

@@ -1,4 +1,4 @@
--- The theorems: two good books that say the same get the same answers, and a good book and its converted twin are such books.
+-- The theorems: two good books with the same transitions get the same answers, and a good book and its converted twin are such books.
 use Prim.Native.Nat.{ℕ}
 use mathlib.Core.Path.{sym, ap, _∙_, subst}
 use mathlib.Core.List.{List}
@@ -10,7 +10,7 @@ use Rattle.model.specs.Judge.{Verdict, Judged}
 use Rattle.jobs.specs.Planning.{domain, schemaOf, planOf, goalOf}
 use Rattle.jobs.specs.Judge.{FitsBook, StartVerdict}
 use Rattle.converted.proofs.Converted.{keeps-sections, is-good, says-the-same}
-use Rattle.twins.specs.Twins.{SameBooks, SameBooksSameAnswers, EitherForm, EitherFormSameAnswers}
+use Rattle.twins.specs.Twins.{SameBooks, SameTransitions, SameTransitionsSameAnswers, SameBooksSameAnswers, EitherForm, EitherFormSameAnswers}
 use Rattle.twins.proofs.Answers.{twin-answer}
 use Rattle.twins.proofs.Trimmed.{valid-of-atoms}
 use Rattle.twins.proofs.Verdicts.{judged-over}
@@ -19,22 +19,20 @@ use Rattle.twins.proofs.Learning.{sheet-same, learn-twin, learn-bytes-s
 use Rattle.twins.proofs.Checking.{check-twin, position-same, check-bytes-same}
 
 -- which of the two comes first does not matter
-pub same-books-sym : (f g : Form) (s t : List ℕ) (n : ℕ) → SameBooks f g s t n → SameBooks g f t s n
-same-books-sym f g s t n same =
+pub same-transitions-sym : (f g : Form) (s t : List ℕ) (n : ℕ) → SameTransitions f g s t n → SameTransitions g f t s n
+same-transitions-sym f g s t n same =
+    let both = same .comparable in
     record {
-      good = same .good′;
-      good′ = same .good;
-      schema = same-sym (schemaOf s) (schemaOf t) (same .schema);
-      kinds = sym (same .kinds);
-      steps = sym (same .steps);
+      comparable = record { good = both .good′; good′ = both .good; schema = same-sym (schemaOf s) (schemaOf t) (both .schema); kinds = sym (both .kinds) };
+      steps = λ x. (same .steps x .1, same .steps x .0);
     }
 
 -- what the judge says of a plan with the one book, he says with the other
-verdict-over : (f g : Form) (s t : List ℕ) (n : ℕ) → SameBooks f g s t n → (o : List ℕ) (start : State) (v : Verdict)
+verdict-over : (f g : Form) (s t : List ℕ) (n : ℕ) → SameTransitions f g s t n → (o : List ℕ) (start : State) (v : Verdict)
     → StartVerdict f s o start v → StartVerdict g t o start v
 verdict-over f g s t n same o start v h =
     let D : Domain = domain (schemaOf s) in
-    let other = same-books-sym f g s t n same in
+    let other = same-transitions-sym f g s t n same in
     let moved : Judged D (FitsBook g t) (planOf (schemaOf t) o) start (goalOf o) v =
     judged-over D (planOf (schemaOf s) o) (planOf (schemaOf t) o) start (goalOf o) (FitsBook f s) (FitsBook g t)
     (λ M. (fit-over f g s t n same M, fit-over g f t s n other M))
@@ -44,10 +42,10 @@ verdict-over f g s t n same o start v h =
     v h in
     subst (λ (E : Domain). Judged E (FitsBook g t) (planOf (schemaOf t) o) start (goalOf o) v) (domains f g s t n same) moved
 
--- Books that say the same get the same sheet, the same answers apart from the places of 11, and the same verdicts.
-pub same-answers : SameBooksSameAnswers
-same-answers f g s t n same =
-    let other = same-books-sym f g s t n same in
+-- Books with the same transitions get the same sheet, the same answers apart from the places of 11, and the same verdicts.
+pub same-transitions-same-answers : SameTransitionsSameAnswers
+same-transitions-same-answers f g s t n same =
+    let other = same-transitions-sym f g s t n same in
     record {
       sheet = sheet-same f g s t n same;
       learning = λ size. twin-answer _ _ (learn-twin f g s t n same size);
@@ -59,20 +57,25 @@ same-answers f g s t n same =
       verdicts = λ o start v. (verdict-over f g s t n same o start v, verdict-over g f t s n other o start v);
     }
 
+-- books that say the same have the same transitions
+same-transitions : (f g : Form) (s t : List ℕ) (n : ℕ) → SameBooks f g s t n → SameTransitions f g s t n
+same-transitions f g s t n same = record { comparable = same .comparable; steps = λ x. rw (same .steps) (λ m. m, λ m. m) }
+
+-- So they get the same answers too.
+pub same-answers : SameBooksSameAnswers
+same-answers f g s t n same = same-transitions-same-answers f g s t n (same-transitions f g s t n same)
+
 -- A good book and its converted twin say the same,
 pub either-form : EitherForm
 either-form form s n good most =
     let kept = keeps-sections form s n good most in
     record {
-      good = good;
-      good′ = is-good form s n good most;
-      schema = kept .schema;
-      kinds = sym (kept .kinds);
+      comparable = record { good = good; good′ = is-good form s n good most; schema = kept .schema; kinds = sym (kept .kinds) };
       steps = sym (says-the-same form s n good most);
     }
 
 -- and get the same answers.
 pub either-form-same-answers : EitherFormSameAnswers
 either-form-same-answers form s n good most =
-    let same = either-form form s n good most in
-    (same-answers _ _ _ _ n same, same-answers _ _ _ _ n (same-books-sym _ _ _ _ n same))
+    let same = same-transitions _ _ _ _ n (either-form form s n good most) in
+    (same-transitions-same-answers _ _ _ _ n same, same-transitions-same-answers _ _ _ _ n (same-transitions-sym _ _ _ _ n same))

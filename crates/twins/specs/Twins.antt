@@ -1,5 +1,5 @@
--- Two good books that say the same, each in its form, get the same sheet, the same answers apart from the places of 11, and the same verdicts. `s`
--- is of form `f`, `t` of form `g`. A book and its converted twin are such books.
+-- Two good books that hold the same transitions (steps, with their states), each in its form, get the same sheet, the same answers apart from the
+-- places of 11, and the same verdicts. `s` is of form `f`, `t` of form `g`. A book and its converted twin are such books.
 use Prim.Native.Nat.{ℕ, _≤_}
 use mathlib.Core.Path.{_≡_}
 use mathlib.Core.Logic.{_↔_}
@@ -12,7 +12,9 @@ use Rattle.answer.specs.Answer.{number, place}
 use Rattle.limits.specs.Limits.{maxLength}
 use Rattle.terms.specs.Agree.{SameSchema}
 use Rattle.format.specs.Form.{Form}
+use Rattle.format.specs.Decode.{RecordedStep}
 use Rattle.format.specs.LookOver.{lookOver}
+use Rattle.model.specs.Quantify.{Mem}
 use Rattle.model.specs.Domain.{State}
 use Rattle.model.specs.Model.{Model}
 use Rattle.model.specs.Judge.{Verdict}
@@ -23,14 +25,22 @@ use Rattle.jobs.specs.Convert.{converted}
 use Rattle.jobs.specs.Judge.{FitsBook, StartVerdict}
 use Rattle.converted.specs.Converted.{unplaced}
 
--- both books are of good form with as many steps; their schemas say the same, with as many kinds; and their steps are the same in the same
--- sequence, states included, wherever each is recorded
-pub record SameBooks (f g : Form) (s t : List ℕ) (n : ℕ) : Type 0 where
+-- the two books can be compared: both are of good form with as many steps, and their schemas say the same, with as many kinds
+pub record Comparable (f g : Form) (s t : List ℕ) (n : ℕ) : Type 0 where
   pub good : lookOver f s ≡ Good n
   pub good′ : lookOver g t ≡ Good n
   pub schema : SameSchema (schemaOf s) (schemaOf t)
   pub kinds : schemaOf s .kinds ≡ schemaOf t .kinds
+
+-- they say the same: their steps are the same in the same sequence, states included, wherever each is recorded
+pub record SameBooks (f g : Form) (s t : List ℕ) (n : ℕ) : Type 0 where
+  pub comparable : Comparable f g s t n
   pub steps : unplaced (stepsOfBook f s) ≡ unplaced (stepsOfBook g t)
+
+-- they have the same transitions: a step, states included, that is recorded in the one is recorded in the other, in whatever sequence and however often
+pub record SameTransitions (f g : Form) (s t : List ℕ) (n : ℕ) : Type 0 where
+  pub comparable : Comparable f g s t n
+  pub steps : (x : RecordedStep) → Mem x (unplaced (stepsOfBook f s)) ↔ Mem x (unplaced (stepsOfBook g t))
 
 -- the same number, and the same place unless the number is 11, whose place is a step's offset in its own book
 pub record SameAnswer (a b : Answer) : Type 0 where
@@ -49,7 +59,11 @@ pub record SameAnswers (f g : Form) (s t : List ℕ) : Type 0 where
   pub fitting : (M : Model) → FitsBook f s M ↔ FitsBook g t M
   pub verdicts : (o : List ℕ) (start : State) (v : Verdict) → StartVerdict f s o start v ↔ StartVerdict g t o start v
 
--- Books that say the same get the same answers.
+-- Books with the same transitions get the same answers,
+abbrev pub SameTransitionsSameAnswers : Type 0
+SameTransitionsSameAnswers = (f g : Form) (s t : List ℕ) (n : ℕ) → SameTransitions f g s t n → SameAnswers f g s t
+
+-- and books that say the same have the same transitions.
 abbrev pub SameBooksSameAnswers : Type 0
 SameBooksSameAnswers = (f g : Form) (s t : List ℕ) (n : ℕ) → SameBooks f g s t n → SameAnswers f g s t
 
