@@ -2,7 +2,6 @@
 use Prim.Native.Nat.{ℕ, suc, _+_, _-_, _≤_, _<_}
 use mathlib.Core.Path.{_≡_, refl, sym, ap₂, _∙_}
 use mathlib.Core.List.{List, _++_}
-use native.Mathlib.Decide.{decLt}
 use native.Mathlib.Numerals.{add-one}
 use native.Mathlib.Omega.{arith}
 use lib.ListN.{length}
@@ -12,8 +11,6 @@ use Rattle.input.specs.Bytes.{byteAt, two}
 use Rattle.terms.specs.Sections.{sectionsOf}
 use Rattle.terms.specs.Schema.{schema}
 use Rattle.terms.specs.Agree.{SameSchema}
-use Rattle.terms.proofs.Atoms.{parent-some, parent-none}
-use Rattle.terms.proofs.Agree.{same-by-bytes}
 use Rattle.limits.specs.Limits.{headerSize, maxLength}
 use Rattle.format.specs.Form.{Form}
 use Rattle.format.specs.Records.{stepsIn, recordAt}
@@ -22,6 +19,7 @@ use Rattle.format.specs.Decode.{stepsOfRecord, stepsOfRecords, recordedSteps}
 use Rattle.jobs.specs.Planning.{schemaOf}
 use Rattle.jobs.specs.Add.{added}
 use Rattle.format.proofs.Typing.{schema-right}
+use Rattle.format.proofs.Front.{schema-same}
 use Rattle.format.proofs.Reading.{Copied}
 use Rattle.format.proofs.Copies.{placed-same, records-copied, all-recorded-copied, recorded-last}
 use Rattle.format.proofs.LookOver.{LookedOver}
@@ -66,30 +64,15 @@ module _ (form : Form) (s r : List ℕ) (old : ℕ) (was : LookedOver form s old
   unfolding schemaOf schema oneMore
   kinds-kept = rw header
 
-  -- the relations start where they did, so that as many parents stand before them
-  parents-kept : (k : ℕ) → schema (sectionsOf s) s .parent k ≡ schema (oneMore (sectionsOf s) (length s + length r)) (added s r) .parent k
-  unfolding oneMore
-  parents-kept k = go (decLt (headerSize + (k - 1)) (sectionsOf s .relations .at))
-    where
-      go : Dec (headerSize + (k - 1) < sectionsOf s .relations .at)
-          → schema (sectionsOf s) s .parent k ≡ schema (oneMore (sectionsOf s) (length s + length r)) (added s r) .parent k
-      go (yes l) =
-          let o = was .sections .offsets in
-          parent-some (sectionsOf s) s k _ refl l
-          ∙ sym (same _ (omega arith) (omega (arith, o .moves, o .records, o .within)))
-          ∙ sym (parent-some (oneMore (sectionsOf s) (length s + length r)) (added s r) k _ refl l)
-      go (no l) =
-          parent-none (sectionsOf s) s k _ refl (omega arith)
-          ∙ sym (parent-none (oneMore (sectionsOf s) (length s + length r)) (added s r) k _ refl (omega arith))
+  -- the bytes between header and records
+  pub between : (i : ℕ) → headerSize ≤ i → i < sectionsOf s .records .at → byteAt (added s r) i ≡ byteAt s i
+  between i h l = let w = was .sections .offsets .within in same i h (omega arith)
 
   pub schema-kept : SameSchema (schemaOf s) (schemaOf (added s r))
   unfolding schemaOf oneMore
   schema-kept =
-      let o = was .sections .offsets in
       rw header
-      (same-by-bytes (sectionsOf s) (oneMore (sectionsOf s) (length s + length r)) s (added s r) (λ k low high high′. parents-kept k) refl refl
-      (λ i l. sym (same _ (omega (arith, o .behind)) (omega (arith, o .moves, o .records, o .within))))
-      (λ i l. sym (same _ (omega (arith, o .behind, o .moves)) (omega (arith, o .records, o .within)))))
+      (schema-same (sectionsOf s) s _ (was .sections) (record { count = sectionsOf s .records .count + 1; at = sectionsOf s .records .at }) (length s + length r) (added s r) between)
 
   -- the old records are good again, and what is recorded in them stays
   old-part : Copied s (sectionsOf s .records .at) (added s r) (sectionsOf s .records .at) (length s - sectionsOf s .records .at)

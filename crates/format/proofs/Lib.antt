@@ -7,6 +7,7 @@ pub mod States
 pub mod Records
 pub mod Typing
 pub mod Copies
+pub mod Front
 pub mod LookOver
 pub mod Parts
 pub mod Orders

@@ -1,7 +1,6 @@
 -- A book as its sections and its records: a good record is what its bytes say by themselves, the parts of a good book are the whole of it, and
 -- the sections say the same without the records.
 use Prim.Native.Nat.{ℕ, _+_, _-_, _*_, _≤_, _<_}
-use native.Mathlib.Decide.{decLt}
 use native.Mathlib.Nat.{zero-add}
 use native.Mathlib.Omega.{arith}
 use mathlib.Core.Path.{_≡_, refl, sym, ap, _∙_}
@@ -13,15 +12,13 @@ use borrow.Author.Tests.{ltb-false}
 use Rattle.answer.specs.declared.Answer.the-variants.{Good}
 use Rattle.truth.specs.Bools.{neither}
 use Rattle.answer.specs.Walk.{walk, walk-induction}
-use Rattle.input.specs.Bytes.{byteAt, two}
-use Rattle.limits.specs.Limits.{headerSize, moveSize, maxParams}
+use Rattle.input.specs.Bytes.{byteAt}
+use Rattle.limits.specs.Limits.{moveSize, maxParams}
 use Rattle.terms.specs.declared.Sections.{Sections}
 use Rattle.terms.specs.Sections.{sectionsOf}
 use Rattle.terms.specs.Schema.{schema, moveAt}
 use Rattle.terms.specs.Typing.{RightSchema}
 use Rattle.terms.specs.Agree.{SameSchema}
-use Rattle.terms.proofs.Atoms.{parent-some, parent-none}
-use Rattle.terms.proofs.Agree.{same-by-bytes}
 use Rattle.format.specs.Form.{Form}
 use Rattle.format.specs.Header.{moveBad}
 use Rattle.format.specs.Records.{stepsIn, lengthIn, recordAt}
@@ -32,6 +29,7 @@ use Rattle.format.proofs.Records.{head-limits, record-good, record-with
 use Rattle.format.proofs.Typing.{schema-right}
 use Rattle.format.proofs.LookOver.{LookedOver}
 use Rattle.format.proofs.Reading.{Copied, head-copied}
+use Rattle.format.proofs.Front.{header-same, parents-same, schema-same}
 use Rattle.format.proofs.Copies.{placedBy, placed-same, recorded-copied}
 
 module _ (form : Form) (h : Sections) (s : List ℕ) where
@@ -43,7 +41,7 @@ module _ (form : Form) (h : Sections) (s : List ℕ) where
         let (place, within) = record-within form h s at next good in
         length-take-le (lengthIn s at) (drop at s) (omega (arith, length-drop at s))
 
-    part-alone : Copied s at (recordPart s at) 0 (lengthIn s at)
+    pub part-alone : Copied s at (recordPart s at) 0 (lengthIn s at)
     unfolding recordPart byteAt
     part-alone = record { within = omega (arith, record-length); bytes = λ i l. rw zero-add (getD-take (lengthIn s at) (drop at s) i 0 l ∙ getD-drop at s i 0) }
 
@@ -86,49 +84,23 @@ unfolding moveBad
 params-few s kinds at e = ltb-false maxParams (byteAt s at) (neither _ _ (neither _ _ (neither _ _ (neither _ _ (neither _ _ e .0) .0) .0) .0) .0)
 
 module _ (s : List ℕ) (n : ℕ) (good : SectionsGood (sectionsOf s) s n) where
-  byte-before : (i : ℕ) → i < sectionsOf s .records .at → byteAt (sectionsPart s) i ≡ byteAt s i
+  -- they are read as they are in the book
+  pub byte-before : (i : ℕ) → i < sectionsOf s .records .at → byteAt (sectionsPart s) i ≡ byteAt s i
   unfolding sectionsPart byteAt
   byte-before i l = getD-take (sectionsOf s .records .at) s i 0 l
 
-  two-before : (i : ℕ) → i + 1 < headerSize → two (sectionsPart s) i ≡ two s i
-  unfolding two
-  two-before i l =
-      let o = good .offsets in
-      let start : headerSize ≤ sectionsOf s .records .at = omega (arith, o .behind, o .moves, o .records) in
-      rw (byte-before i (omega arith), byte-before (i + 1) (omega arith))
-
   -- they have the same header
   pub header-alone : sectionsOf (sectionsPart s) ≡ sectionsOf s
-  unfolding sectionsOf
   header-alone =
-      rw (
-        two-before 0 (omega arith),
-        two-before 2 (omega arith),
-        two-before 4 (omega arith),
-        two-before 6 (omega arith),
-        two-before 8 (omega arith),
-        two-before 10 (omega arith),
-        two-before 12 (omega arith),
-        two-before 14 (omega arith),
-      )
+      let o = good .offsets in
+      header-same s (sectionsPart s) (λ i l. byte-before i (omega (arith, o .behind, o .moves, o .records)))
 
   parent-alone : (k : ℕ) → schema (sectionsOf s) s .parent k ≡ schema (sectionsOf s) (sectionsPart s) .parent k
-  parent-alone k = go (decLt (headerSize + (k - 1)) (sectionsOf s .relations .at))
-    where
-      go : Dec (headerSize + (k - 1) < sectionsOf s .relations .at) → schema (sectionsOf s) s .parent k ≡ schema (sectionsOf s) (sectionsPart s) .parent k
-      go (yes l) =
-          let o = good .offsets in
-          parent-some (sectionsOf s) s k _ refl l ∙ sym (byte-before (headerSize + (k - 1)) (omega (arith, o .moves, o .records)))
-          ∙ sym (parent-some (sectionsOf s) (sectionsPart s) k _ refl l)
-      go (no l) = parent-none (sectionsOf s) s k _ refl (omega arith) ∙ sym (parent-none (sectionsOf s) (sectionsPart s) k _ refl (omega arith))
+  parent-alone k = parents-same (sectionsOf s) s n good (sectionsOf s .records) (sectionsOf s .end) (sectionsPart s) (λ i low l. byte-before i l) k
 
   -- and a schema that says the same and is right.
   pub schema-alone : SameSchema (schema (sectionsOf s) s) (schema (sectionsOf s) (sectionsPart s))
-  schema-alone =
-      let o = good .offsets in
-      same-by-bytes (sectionsOf s) (sectionsOf s) s (sectionsPart s) (λ k low high high′. parent-alone k) refl refl
-      (λ i l. sym (byte-before (sectionsOf s .relations .at + i) (omega (arith, o .moves, o .records))))
-      (λ i l. sym (byte-before (sectionsOf s .moves .at + i) (omega (arith, o .records))))
+  schema-alone = schema-same (sectionsOf s) s n good (sectionsOf s .records) (sectionsOf s .end) (sectionsPart s) (λ i low l. byte-before i l)
 
   pub right-alone : RightSchema (schema (sectionsOf s) (sectionsPart s))
   unfolding schema moveAt
