@@ -51,6 +51,10 @@
  * the same rule sheet, and the same answers and end sheets of learning and
  * checking, but for the place of 11, which is an offset in the book that was read.
  *
+ * Sequence. The records of a good book make a good book in any sequence, behind
+ * the same bytes and each as often. It has the same rule sheet, and the same
+ * answers and end sheets of learning and checking, but for the place of 11.
+ *
  * The answer packs three numbers:
  *   bits 48 to 63   number: 0 success, else the refusal below
  *   bits 32 to 47   by 19 and 20 the position of the start, from 1; else 0

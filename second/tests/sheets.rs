@@ -41,19 +41,6 @@ fn object_numbers_do_not_matter() {
     assert!(renumbered > 1_000, "{renumbered}");
 }
 
-/// The sequence of the records leaves the sheet the same.
-#[test]
-fn sequence_does_not_matter() {
-    let mut shuffled = 0;
-    for (draft, mut rng) in books(2_000) {
-        let mut other = draft.clone();
-        rng.shuffle(&mut other.records);
-        shuffled += usize::from(draft.bytes() != other.bytes());
-        assert_eq!(sheet(&draft), sheet(&other));
-    }
-    assert!(shuffled > 500, "{shuffled}");
-}
-
 /// A move's 128 bytes come from its own steps: the other moves' may be cut off.
 #[test]
 fn other_moves_do_not_matter() {

@@ -33,4 +33,4 @@ use Rattle.cases.proofs.LongBook.{long-right, longer-right}
 
 pub cases-right : AllRight cases
 unfolding _>>=_ refuse number place walk byteAt two sectionsOf outOfRange parentAt relationAt moveAt schema typedObjects suitsWithin kindSuits objectBad factAt factBad precedes noFact factNumber objectOf stepAt argumentBad stepBad samePair repeats atomRelation atomFirst atomSecond parameterFills isAtom placed ground lengthBad countsBad offsetsBad parentBad kindBad relationBad moveBad parent relation move sections cut countBad factRefused facts list nextState mostListed stateAfter toggle toggled objectsIn stepsIn lengthIn headBad recordHead object stepRefused step steps objectsOf trajectory closed body recordAt stepTotal allRecords lookOverBy lookOver factsAt listAt listEnd recordedStep recordedStepsAt stepsOfRecord stepsOfRecords recordedSteps objectCount startCount goalCount stepCount startAt goalAt stepsAt orderCountsBad orderOffsetsBad orderHeader orderObjects orderObject entryBad entries planStepBad planStep fromGoal startsForm fromStart orderForm startsFrom starts entryAt goalFrom goal planFrom plan maskOf same below any has later first least image inapplicable next run wrong saw before after turned learned unboundEffect conflicting domain holding groundAction transition goalEntry schemaOf stepsOfBook transitionsOf startStates planOf goalOf unboundEffects conflictAnswer conflictingMove learnable ruleRow ruleRows learnedFrom ruleSheet learn kept learnBytes planRun orderRun goalAnswer runAnswer startAnswer firstFailing startsAnswer beforePlan check endSheet endAfter checkBytes isRefused unpositioned thenAt twoBytes added add addBytes factsBytes listBytes stepBytes listed stepsBytes bytesAt bodyBytes recordBytes recordsBytes allRecordsBytes converted convert convertBytes digits decimal refusedLine needLetter effectLetter paramShown atomFront atomLine lineIfAtom atomLines moveLines countsLine rulesLines rulesPrinted planLine planPrinted
-cases-right = (refl, (refl, (refl, (refl, (refl, (refl, (refl, (refl, (refl, (refl, (refl, (refl, (refl, (refl, (refl, (refl, (refl, (refl, (refl, (refl, (long-right, (longer-right, (refl, (refl, (refl, (refl, (refl, (refl, (refl, (refl, (refl, (refl, (refl, (refl, (refl, (refl, (refl, (refl, (refl, (refl, (refl, (refl, (refl, (refl, (refl, (refl, (refl, (refl, (refl, (refl, (refl, (refl, (refl, (refl, (refl, (refl, (refl, (refl, (refl, (refl, (refl, (refl, (refl, (refl, (refl, (refl, (refl, (refl, (refl, (refl, (refl, (refl, (refl, (refl, (refl, (refl, (refl, (refl, (refl, (refl, (refl, (refl, (refl, (refl, (refl, (refl, (refl, (refl, (refl, (refl, (refl, (refl, tt))))))))))))))))))))))))))))))))))))))))))))))))))))))))))))))))))))))))))))))))))))))))))))
+cases-right = (refl, (refl, (refl, (refl, (refl, (refl, (refl, (refl, (refl, (refl, (refl, (refl, (refl, (refl, (refl, (refl, (refl, (refl, (refl, (refl, (long-right, (longer-right, (refl, (refl, (refl, (refl, (refl, (refl, (refl, (refl, (refl, (refl, (refl, (refl, (refl, (refl, (refl, (refl, (refl, (refl, (refl, (refl, (refl, (refl, (refl, (refl, (refl, (refl, (refl, (refl, (refl, (refl, (refl, (refl, (refl, (refl, (refl, (refl, (refl, (refl, (refl, (refl, (refl, (refl, (refl, (refl, (refl, (refl, (refl, (refl, (refl, (refl, (refl, (refl, (refl, (refl, (refl, (refl, (refl, (refl, (refl, (refl, (refl, (refl, (refl, (refl, (refl, (refl, (refl, (refl, (refl, (refl, (refl, (refl, (refl, (refl, (refl, (refl, (refl, (refl, (refl, (refl, (refl, (refl, (refl, (refl, (refl, (refl, (refl, (refl, (refl, tt)))))))))))))))))))))))))))))))))))))))))))))))))))))))))))))))))))))))))))))))))))))))))))))))))))))))))))))))

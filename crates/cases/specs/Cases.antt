@@ -1,5 +1,5 @@
--- The marked cases of the paper and its limits, and cases of kinds under kinds, of several starts, of short books, of adding and of records without steps, as one
--- list of what the definitions give and what the paper says. proofs/Cases.antt has the one theorem that covers it.
+-- The marked cases of the paper and its limits, and cases of kinds under kinds, of several starts, of short books, of adding, of records without steps and
+-- of records in another sequence, as one list of what the definitions give and what the paper says. proofs/Cases.antt has the one theorem that covers it.
 use mathlib.Core.Path.{_≡_}
 use mathlib.Core.List.{List, [], _∷_, _++_}
 use Rattle.cases.specs.Marked.{Case, marked}
@@ -7,9 +7,10 @@ use Rattle.cases.specs.Further.{kindsUnder, severalStarts}
 use Rattle.cases.specs.Shorts.{shortBooks}
 use Rattle.cases.specs.Adding.{recordsAdded}
 use Rattle.cases.specs.Stepless.{recordsOfNothing}
+use Rattle.cases.specs.Sequences.{filedLate}
 
 abbrev pub cases : List Case
-cases = marked ++ (kindsUnder ++ (severalStarts ++ (shortBooks ++ (recordsAdded ++ recordsOfNothing))))
+cases = marked ++ (kindsUnder ++ (severalStarts ++ (shortBooks ++ (recordsAdded ++ (recordsOfNothing ++ filedLate)))))
 
 abbrev pub AllRight : List Case → Type 0
 AllRight [] = Unit {0}

@@ -4,4 +4,5 @@ pub mod Further
 pub mod Shorts
 pub mod Adding
 pub mod Stepless
+pub mod Sequences
 pub mod Cases

@@ -1,7 +1,7 @@
 -- Cases of records without steps, like the marked ones.
-use Prim.Native.Nat.{ℕ, _+_}
+use Prim.Native.Nat.{ℕ}
 use mathlib.Core.List.{List, [], _∷_, _++_}
-use lib.ListN.{length, take, drop, replicate}
+use lib.ListN.{take, drop, replicate}
 use Rattle.limits.specs.Limits.{endSheetSize}
 use Rattle.format.specs.Form.{full, short}
 use Rattle.format.specs.LookOver.{lookOver}
@@ -9,15 +9,12 @@ use Rattle.jobs.specs.Learn.{learn}
 use Rattle.jobs.specs.Check.{check}
 use Rattle.jobs.specs.Add.{add, addBytes}
 use Rattle.jobs.specs.Convert.{convert}
-use Rattle.cases.specs.Marked.{book, rollsOf, Case, said, saidAt}
+use Rattle.cases.specs.Marked.{book, hallOf, rollsOf, Case, said, saidAt}
 use Rattle.cases.specs.Shorts.{shortBook}
 
 -- the small hall with other bytes in place of its record
 abbrev filed : List ℕ → List ℕ
-filed r =
-    (0x00 ∷ 0x02 ∷ 0x00 ∷ 0x02 ∷ 0x00 ∷ 0x01 ∷ 0x00 ∷ 0x01 ∷ 0x00 ∷ 0x10 ∷ 0x00 ∷ 0x18 ∷ 0x00 ∷ 0x1e ∷ 0x00 ∷ (0x1e + length r) ∷ [])
-    ++ (0x02 ∷ 0x01 ∷ 0x02 ∷ 0x00 ∷ 0x01 ∷ 0x02 ∷ 0x00 ∷ 0x00 ∷ 0x03 ∷ 0x01 ∷ 0x02 ∷ 0x02 ∷ 0x00 ∷ 0x00 ∷ [])
-    ++ r
+filed r = hallOf 1 r
 
 -- a record of a bank and two spots without a step: the state before the roll of the small hall. It is told the length that its head says, and the
 -- kind of the bank.

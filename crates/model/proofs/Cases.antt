@@ -49,7 +49,7 @@ tried : List Transition → List GroundAction → List ℕ → Verdict
 tried ts plan start = checked typedObjects ts plan (state start) at4
 
 -- M2, M3, M5, M6, M7 and M9; then a stop at step 2, row 12 by a fact that was once removed and once left, row 11 by spot 4,
--- and that a fact which held before and after is no effect
+-- that a fact which held before and after is no effect, and that it is one if another step changed it, which may come first or last
 small-hall-right :
     (ends (tried (recordedSteps ∷ []) (roll23 ∷ roll34 ∷ []) (0 ∷ 4 ∷ 5 ∷ [])) ≡ false ∷ false ∷ true ∷ true ∷ true ∷ false ∷ [])
     × (tried (recordedSteps ∷ []) (roll23 ∷ roll34 ∷ []) (0 ∷ 3 ∷ 4 ∷ 5 ∷ []) ≡ stops 1)
@@ -61,5 +61,7 @@ small-hall-right :
     × (tried (recordedSteps ∷ seen (0 ∷ 4 ∷ []) (0 ∷ 1 ∷ 3 ∷ []) ∷ []) [] [] ≡ impossible)
     × (tried (seen (0 ∷ 4 ∷ []) (1 ∷ 3 ∷ 5 ∷ []) ∷ []) [] [] ≡ impossible)
     × (learned typedObjects (seen (0 ∷ 3 ∷ 4 ∷ []) (1 ∷ 3 ∷ []) ∷ []) .effect true 1 2 ≡ false)
+    × (learned typedObjects (recordedSteps ∷ seen (0 ∷ 3 ∷ 4 ∷ []) (1 ∷ 3 ∷ []) ∷ []) .effect true 1 2 ≡ true)
+    × (learned typedObjects (seen (0 ∷ 3 ∷ 4 ∷ []) (1 ∷ 3 ∷ []) ∷ recordedSteps ∷ []) .effect true 1 2 ≡ true)
 unfolding tried same below any later first image inapplicable next run wrong saw before after turned learned unboundEffect conflicting reached judgedRun checkedBy inconsistent checked
-small-hall-right = (refl, refl, refl, refl, refl, refl, refl, refl, refl, refl)
+small-hall-right = (refl, refl, refl, refl, refl, refl, refl, refl, refl, refl, refl, refl)

@@ -5,11 +5,12 @@ use mathlib.Core.Path.{_≡_, refl}
 use mathlib.Core.Bool.{true, false}
 use mathlib.Core.List.{List, [], _∷_, _++_}
 use lib.ListN.{replicate}
-use Rattle.mask.specs.Bits.{bitOf, testBit, setBit}
-use Rattle.mask.specs.Sets.{empty}
+use Rattle.mask.specs.Bits.{bitOf, without, testBit, setBit}
+use Rattle.mask.specs.Sets.{bytewise, intersection, union, difference, empty}
 use Rattle.terms.specs.declared.Binding.{Binding}
 use Rattle.terms.specs.declared.Fact.{Fact}
 use Rattle.terms.specs.Steps.{objectOf}
+use Rattle.observed.specs.Observed.{added, deleted, setAt, observedSet, onSet, noted}
 use Rattle.observed.specs.Inverse.{gives, paramOf, placeBound, factBound, atomOf, mark, marks, atomsIn, unbound, sameFact, sameFacts, unboundChanged}
 
 abbrev roll : ℕ → ℕ → ℕ → Binding
@@ -38,3 +39,22 @@ roll-right :
     × (unboundChanged lacking (roll 1 2 3) (fact 1 1 2 ∷ fact 2 3 0 ∷ []) (fact 1 1 3 ∷ fact 2 2 0 ∷ fact 2 3 0 ∷ []) ≡ false)
 unfolding objectOf bitOf testBit setBit empty gives paramOf placeBound factBound atomOf mark marks atomsIn unbound sameFact sameFacts unboundChanged
 roll-right = (refl, refl, refl, refl, refl, refl, refl)
+
+-- ---- two steps, in either sequence
+
+-- nothing in any of the sets of one move, and a set of some of its first eight bound facts, as the byte that has them
+abbrev none : List ℕ
+none = replicate 224 0
+
+abbrev some : ℕ → List ℕ
+some bits = bits ∷ replicate 31 0
+
+-- One step changes bound fact 1 to holding, and does not have number 2. The other leaves number 1 as it is, holding, and removes number 2. Whichever comes
+-- last, number 1 is added and number 2 removed.
+sequence-right :
+    (observedSet (noted 1 (some 6) (some 2) (noted 1 (some 0) (some 2) none)) 1 added ≡ some 2)
+    × (observedSet (noted 1 (some 0) (some 2) (noted 1 (some 6) (some 2) none)) 1 added ≡ some 2)
+    × (observedSet (noted 1 (some 6) (some 2) (noted 1 (some 0) (some 2) none)) 1 deleted ≡ some 4)
+    × (observedSet (noted 1 (some 0) (some 2) (noted 1 (some 6) (some 2) none)) 1 deleted ≡ some 4)
+unfolding without bytewise intersection union difference setAt observedSet onSet noted
+sequence-right = (refl, refl, refl, refl)

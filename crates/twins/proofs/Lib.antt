@@ -1,4 +1,4 @@
--- Books that say the same, proved: Twins has the theorems that specs/Twins states. Answers says what it is for answers to be the same but for the
+-- Books with the same transitions, proved: Twins has the theorems that specs/Twins states. Answers says what it is for answers to be the same but for the
 -- place of 11; Trimmed and Verdicts are about models alone; Books compares two books in planning's terms; Order, Learning and Checking are the calls.
 pub mod Answers
 pub mod Trimmed

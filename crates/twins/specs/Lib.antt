@@ -1,2 +1,2 @@
--- What two books that say the same have in common, for a reader.
+-- What two books with the same transitions have in common, for a reader.
 pub mod Twins

@@ -63,7 +63,7 @@ pub record SameAnswers (f g : Form) (s t : List ℕ) : Type 0 where
 abbrev pub SameTransitionsSameAnswers : Type 0
 SameTransitionsSameAnswers = (f g : Form) (s t : List ℕ) (n : ℕ) → SameTransitions f g s t n → SameAnswers f g s t
 
--- and books that say the same have the same transitions.
+-- and so do books that say the same.
 abbrev pub SameBooksSameAnswers : Type 0
 SameBooksSameAnswers = (f g : Form) (s t : List ℕ) (n : ℕ) → SameBooks f g s t n → SameAnswers f g s t
 

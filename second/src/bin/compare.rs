@@ -1,6 +1,6 @@
 //! Compares the built static library with this implementation, and with the
 //! judge on tiny halls and on those in which over 256 facts hold; books in both
-//! forms.
+//! forms, and with their records in another sequence.
 //!
 //! `compare [seed] [count]`; exit status 1 on any difference or when something
 //! was met too seldom, 2 without a library to compare with.

@@ -7,7 +7,8 @@
 
 use std::fmt;
 
-use super::verdicts::{Decision, Kind, Verdicts, CROWDED, TINY};
+use super::kinds::Kind;
+use super::verdicts::{Decision, IsMet, Verdicts, CROWDED, TINY};
 use super::Run;
 use crate::answer::{Answer, Refusal};
 use crate::calls::{unpacked, Calls, Form};
@@ -36,10 +37,10 @@ fn compare_halls(
     run: Run,
     calls: &impl Calls,
     draw: impl Fn(&mut Rng) -> Plan,
-    kinds: &'static [Kind],
+    kinds: &'static [Kind<IsMet>],
     is_counted: impl Fn(&[Judgement]) -> bool,
 ) -> Result<Verdicts, String> {
-    let mut met = Verdicts::of_kinds(kinds);
+    let mut met = Verdicts::of(kinds);
     for index in 0..run.count {
         let plan = draw(&mut Rng::of_case(run.seed, index));
         let halls = Form::BOTH.map(|form| Hall::new(calls, &plan, form));
@@ -54,7 +55,7 @@ fn compare_halls(
         if halls[0].given.sheet != halls[1].given.sheet {
             return Err(format!("seed {} hall {index}: two sheets for one book", run.seed));
         }
-        met.count(Some(&Decision::of(&judgements)).filter(|_| is_counted(&judgements)));
+        met.count_hall(Some(&Decision::of(&judgements)).filter(|_| is_counted(&judgements)));
     }
     Ok(met)
 }

@@ -4,12 +4,15 @@
 //! The other one is given by its calls, so that the same runs serve the built
 //! library (the bin `compare`) and deliberately wrong ones (the tests).
 
+mod agreed;
 mod alone;
 mod by;
 mod capped;
 mod job;
 mod judge;
+mod kinds;
 mod lent;
+mod permuted;
 mod report;
 mod tally;
 mod twins;

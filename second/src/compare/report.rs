@@ -42,6 +42,8 @@ pub struct Compared {
     pub note: String,
     pub form: u32,
     pub inputs: Vec<(&'static str, Vec<u8>)>,
+    /// The answer to its book in another sequence, where both were asked.
+    pub permuted: Option<Answer>,
 }
 
 /// Compares every case of a run; on differences, answers the shortest one.
@@ -56,7 +58,7 @@ pub fn compare_all(
         let compared = case(index);
         let missed = compared.aimed.is_some_and(|aimed| aimed != compared.expected);
         if compared.packed == compared.expected.packed() && compared.note.is_empty() && !missed {
-            tally.count(compared.label, compared.aimed, compared.expected);
+            tally.count(&compared);
             continue;
         }
         differing += 1;

@@ -1,15 +1,16 @@
-//! How often each answer and each aimed fault was met.
+//! How often each answer, each aimed fault and each outcome of a permuted book was met.
 
 use std::collections::BTreeMap;
 use std::fmt;
 
-use crate::answer::Answer;
+use super::permuted::Outcomes;
+use super::report::Compared;
 use crate::gen::Label;
 
-#[derive(Default)]
 pub struct Tally {
     numbers: BTreeMap<u32, usize>,
     labels: BTreeMap<Label, Met>,
+    permuted: Outcomes,
     cases: usize,
 }
 
@@ -24,17 +25,24 @@ struct Met {
 impl Tally {
     /// `labels` are those that must be hit; others may turn up as well.
     #[must_use]
-    pub fn new(labels: impl IntoIterator<Item = Label>) -> Self {
+    pub(super) fn new(labels: impl IntoIterator<Item = Label>, permuted: Outcomes) -> Self {
         let aimed = |label| (label, Met { aimed: true, ..Met::default() });
-        Self { labels: labels.into_iter().map(aimed).collect(), ..Self::default() }
+        let labels = labels.into_iter().map(aimed).collect();
+        Self { numbers: BTreeMap::new(), labels, permuted, cases: 0 }
     }
 
-    pub fn count(&mut self, label: Label, aimed: Option<Answer>, answer: Answer) {
+    /// A case on which both implementations agree.
+    pub(super) fn count(&mut self, case: &Compared) {
+        let answer = case.expected;
         self.cases += 1;
         *self.numbers.entry(answer.number).or_default() += 1;
-        let met = self.labels.entry(label).or_default();
+        let met = self.labels.entry(case.label).or_default();
         met.cases += 1;
-        met.hits += usize::from(aimed == Some(answer));
+        met.hits += usize::from(case.aimed == Some(answer));
+        match case.permuted {
+            Some(permuted) => self.permuted.count(|is_met| is_met(answer, permuted)),
+            None => self.permuted.pass_over(),
+        }
     }
 
     /// How often this number was answered.
@@ -43,7 +51,8 @@ impl Tally {
         self.numbers.get(&number).copied().unwrap_or(0)
     }
 
-    /// What was met less often than 50 times in 20,000 cases, in words.
+    /// What was met less often than 50 times in 20,000 cases, and which outcomes of
+    /// permuted books were met too seldom, in words.
     #[must_use]
     pub fn missing(&self, numbers: impl IntoIterator<Item = u32>) -> Vec<String> {
         let least = self.cases / 400;
@@ -58,7 +67,7 @@ impl Tally {
             .iter()
             .filter(|(_, met)| met.aimed)
             .filter_map(|(label, met)| seldom(met.hits, label.to_string()));
-        by_number.chain(by_label).collect()
+        by_number.chain(by_label).chain(self.permuted.missing()).collect()
     }
 }
 
@@ -72,6 +81,9 @@ impl fmt::Display for Tally {
         for (label, met) in &self.labels {
             let hits = if met.hits > 0 { met.hits.to_string() } else { "-".into() };
             writeln!(f, "{:>7} {hits:>7}  {label}", met.cases)?;
+        }
+        if !self.permuted.is_empty() {
+            writeln!(f, "no difference in another sequence of the records: {}", self.permuted)?;
         }
         Ok(())
     }

@@ -1,19 +1,16 @@
 //! Which verdicts of the judge were met in a run, and how often each must be.
 
-use std::fmt;
-
+use super::kinds::{Kind, Kinds};
 use crate::judge::{self, Judgement, Verdict};
 
-/// A kind of verdict. A hall may be of several.
-pub(super) struct Kind {
-    name: &'static str,
-    /// It must be met at least once in so many halls.
-    one_in: usize,
-    is_met: fn(&Decision) -> bool,
-}
+/// Whether a hall is of a kind of verdict.
+pub(super) type IsMet = fn(&Decision<'_>) -> bool;
+
+/// How often each kind of verdict was met.
+pub type Verdicts = Kinds<IsMet>;
 
 /// Of 8,000 halls 500 of each kind, 200 of those that need several starts.
-pub(super) const TINY: [Kind; 8] = [
+pub(super) const TINY: [Kind<IsMet>; 8] = [
     Kind { name: "impossible", one_in: 16, is_met: |by| *by.verdict == Verdict::Impossible },
     Kind { name: "19", one_in: 16, is_met: |by| by.stops() && !by.is_later() },
     Kind { name: "20", one_in: 16, is_met: |by| by.misses() && !by.is_later() },
@@ -25,7 +22,7 @@ pub(super) const TINY: [Kind; 8] = [
 ];
 
 /// Of 800 halls 100 of each kind, 40 of those that need several starts.
-pub(super) const CROWDED: [Kind; 5] = [
+pub(super) const CROWDED: [Kind<IsMet>; 5] = [
     Kind { name: "19", one_in: 8, is_met: |by| by.stops() && !by.is_later() },
     Kind { name: "20", one_in: 8, is_met: |by| by.misses() && !by.is_later() },
     Kind { name: "19 or 20 from a later start", one_in: 20, is_met: |by| by.is_later() },
@@ -35,7 +32,7 @@ pub(super) const CROWDED: [Kind; 5] = [
 
 /// The verdict that decides a plan: that of the first start from which it does
 /// not pass, else that of the first start.
-pub(super) struct Decision<'a> {
+pub struct Decision<'a> {
     verdict: &'a Verdict,
     /// Of its start, from 1.
     position: usize,
@@ -74,69 +71,25 @@ impl<'a> Decision<'a> {
     }
 }
 
-/// How often each kind of verdict was met.
-pub struct Verdicts {
-    /// In the order of the report.
-    kinds: Vec<(&'static Kind, usize)>,
-    /// Halls of no kind.
-    others: usize,
-    halls: usize,
-}
-
 impl Verdicts {
-    pub(super) fn of_kinds(kinds: &'static [Kind]) -> Self {
-        Self { kinds: kinds.iter().map(|kind| (kind, 0)).collect(), others: 0, halls: 0 }
-    }
-
     /// A hall, which without a decision is of no kind.
-    pub(super) fn count(&mut self, decision: Option<&Decision>) {
-        let mut is_other = true;
-        for (kind, times) in &mut self.kinds {
-            if decision.is_some_and(kind.is_met) {
-                *times += 1;
-                is_other = false;
-            }
-        }
-        self.others += usize::from(is_other);
-        self.halls += 1;
-    }
-
-    /// What was met too seldom, in words.
-    #[must_use]
-    pub fn missing(&self) -> Vec<String> {
-        let seldom = |&(kind, times): &(&Kind, usize)| {
-            let least = self.halls / kind.one_in;
-            (times < least)
-                .then(|| format!("{}: {times} times, at least {least} wanted", kind.name))
-        };
-        self.kinds.iter().filter_map(seldom).collect()
-    }
-}
-
-impl fmt::Display for Verdicts {
-    fn fmt(&self, f: &mut fmt::Formatter<'_>) -> fmt::Result {
-        for (number, (kind, times)) in self.kinds.iter().enumerate() {
-            write!(f, "{}{} {times}", if number > 0 { ", " } else { "" }, kind.name)?;
-        }
-        match self.others {
-            0 => Ok(()),
-            others => write!(f, ", others {others}"),
-        }
+    pub(super) fn count_hall(&mut self, decision: Option<&Decision>) {
+        self.count(|is_met| decision.is_some_and(is_met));
     }
 }
 
 #[cfg(test)]
 mod tests {
-    use super::{Decision, Kind, Verdict, Verdicts, CROWDED, TINY};
+    use super::{Decision, IsMet, Kind, Verdict, Verdicts, CROWDED, TINY};
 
     /// What is missing after so many halls that pass without steps from two starts
     /// and so many of no kind.
-    fn missing(kinds: &'static [Kind], passes: usize, others: usize) -> Vec<String> {
+    fn missing(kinds: &'static [Kind<IsMet>], passes: usize, others: usize) -> Vec<String> {
         let verdict = Verdict::Passes { steps: 0, end: Vec::new() };
         let decision = Decision { verdict: &verdict, position: 1, starts: 2 };
-        let mut met = Verdicts::of_kinds(kinds);
-        (0..passes).for_each(|_| met.count(Some(&decision)));
-        (0..others).for_each(|_| met.count(None));
+        let mut met = Verdicts::of(kinds);
+        (0..passes).for_each(|_| met.count_hall(Some(&decision)));
+        (0..others).for_each(|_| met.count_hall(None));
         met.missing()
     }
 

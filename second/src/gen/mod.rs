@@ -30,6 +30,7 @@ pub mod parent_faults;
 pub mod parsed;
 pub mod record_faults;
 pub mod rng;
+pub mod sequence;
 pub mod several;
 pub mod spoil;
 pub mod start_faults;

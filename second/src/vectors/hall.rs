@@ -124,6 +124,12 @@ pub fn story(states: &[bool], moves: &[u8]) -> RecordDraft {
     }
 }
 
+/// Whether this fact holds before a step and after it.
+pub const UP: &[bool] = &[false, true];
+pub const DOWN: &[bool] = &[true, false];
+pub const STAYS: &[bool] = &[true, true];
+pub const STAYS_OUT: &[bool] = &[false, false];
+
 /// A rule sheet: for each move four sets of bound facts by their numbers n.
 pub fn sheet(moves: &[[&[usize]; 4]]) -> Vec<u8> {
     let mut bytes = vec![0; RULES_LENGTH * moves.len()];

@@ -26,6 +26,8 @@ mod no_steps_calls;
 mod offsets;
 mod paper;
 mod parents;
+mod permuted;
+mod permuted_plans;
 mod rows;
 mod short_adding;
 mod short_hall;
@@ -75,6 +77,7 @@ pub fn all() -> Vec<Vector> {
     vectors.extend(short_books());
     vectors.extend(no_steps::all());
     vectors.extend(no_steps_calls::all());
+    vectors.extend(permuted::all());
     vectors
 }
 

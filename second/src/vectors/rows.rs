@@ -3,7 +3,7 @@
 
 use super::hall::{
     empty_end, end_sheet, filed, one_fact, order, sheet, small_hall, story, unbound, with, AT_2,
-    AT_4, ROLL_2_3, ROLL_3_4, START, START_2_CLEAR,
+    AT_4, DOWN, ROLL_2_3, ROLL_3_4, START, START_2_CLEAR, STAYS, STAYS_OUT, UP,
 };
 use super::paper::{check, learn, m1_sheet, missed, unmet};
 use super::Vector;
@@ -109,12 +109,6 @@ fn unbound_among_others() -> Vec<Vector> {
         ),
     ]
 }
-
-/// Whether the one fact holds before a step and after it.
-const UP: &[bool] = &[false, true];
-const DOWN: &[bool] = &[true, false];
-const STAYS: &[bool] = &[true, true];
-const STAYS_OUT: &[bool] = &[false, false];
 
 /// Row 12 at move `number` of so many. A record is told by whether the fact holds in
 /// each of its states and by the move of all its steps.
