@@ -1,6 +1,6 @@
 -- The bytes and the header of the new book, by those of the old one and of the record.
 use Prim.Native.Nat.{ℕ, _+_, _≤_, _<_}
-use mathlib.Core.Path.{_≡_, refl, _∙_}
+use mathlib.Core.Path.{_≡_, _∙_}
 use mathlib.Core.Bool.{false}
 use mathlib.Core.List.{List, _++_}
 use native.Mathlib.Omega.{arith}
@@ -13,19 +13,19 @@ use Rattle.input.specs.Bytes.{byteAt, two}
 use Rattle.terms.specs.Sections.{sectionsOf}
 use Rattle.limits.specs.Limits.{headerSize}
 use Rattle.jobs.specs.Add.{added}
+use Rattle.format.proofs.Reading.{two-by}
+use Rattle.format.proofs.Front.{header-kept}
 use Rattle.adding.specs.ReadBack.{renewed, oneMore}
 use Rattle.output.proofs.Two.{two-elsewhere, two-there}
 use Rattle.adding.proofs.Formed.{added-written, counted, length-counted, length-added}
 
--- after the header nothing is renewed
-pub not-renewed : (i : ℕ) → headerSize ≤ i → renewed i ≡ false
+-- only the bytes of the record count and of the end are renewed, and so none after the header
+not-of-them : (i : ℕ) → (i ≡ 6 → ⊥) → (i ≡ 7 → ⊥) → (i ≡ 14 → ⊥) → (i ≡ 15 → ⊥) → renewed i ≡ false
 unfolding renewed
-not-renewed i h =
-    rw (ne-eqb i 6 (λ e. omega arith), ne-eqb i 7 (λ e. omega arith), ne-eqb i 14 (λ e. omega arith), ne-eqb i 15 (λ e. omega arith))
+not-of-them i a b c d = rw (ne-eqb i 6 a, ne-eqb i 7 b, ne-eqb i 14 c, ne-eqb i 15 d)
 
-two-by : (t s : List ℕ) (at : ℕ) → byteAt t at ≡ byteAt s at → byteAt t (at + 1) ≡ byteAt s (at + 1) → two t at ≡ two s at
-unfolding two
-two-by t s at p q = rw (p, q)
+pub not-renewed : (i : ℕ) → headerSize ≤ i → renewed i ≡ false
+not-renewed i h = not-of-them i (λ e. omega arith) (λ e. omega arith) (λ e. omega arith) (λ e. omega arith)
 
 module _ (s r : List ℕ) (h : headerSize ≤ length s) where
   whole-length : length (s ++ r) ≡ length s + length r
@@ -57,9 +57,6 @@ module _ (s r : List ℕ) (h : headerSize ≤ length s) where
       let l = length-added s r h in
       ext-getD 0 (drop (length s) (added s r)) r (simp length-drop (omega arith)) (λ i k. getD-drop (length s) (added s r) i 0 ∙ byte-added i)
 
-  two-kept : (at : ℕ) → at + 2 ≤ headerSize → renewed at ≡ false → renewed (at + 1) ≡ false → two (added s r) at ≡ two s at
-  two-kept at l e f = two-by (added s r) s at (byte-kept at (omega arith) e) (byte-kept (at + 1) (omega arith) f)
-
   two-count : two s 6 < 65535 → two (added s r) 6 ≡ two s 6 + 1
   two-count l =
       let w = whole-length in
@@ -73,15 +70,9 @@ module _ (s r : List ℕ) (h : headerSize ≤ length s) where
   two-end l = let m = length-counted s r h in rw (← added-written s r h) (two-there (counted s r h) 14 (length s + length r) (omega arith) l)
 
   pub header-added : two s 6 < 65535 → length s + length r < 65536 → sectionsOf (added s r) ≡ oneMore (sectionsOf s) (length s + length r)
-  unfolding sectionsOf oneMore renewed
+  unfolding sectionsOf oneMore
   header-added l m =
-      rw (
-        two-kept 0 (omega arith) refl refl,
-        two-kept 2 (omega arith) refl refl,
-        two-kept 4 (omega arith) refl refl,
-        two-kept 8 (omega arith) refl refl,
-        two-kept 10 (omega arith) refl refl,
-        two-kept 12 (omega arith) refl refl,
-        two-count l,
-        two-end m,
-      )
+      header-kept s (added s r)
+      (λ i k. byte-kept i (omega arith) (not-of-them i (λ e. omega arith) (λ e. omega arith) (λ e. omega arith) (λ e. omega arith)))
+      (λ i low k. byte-kept i (omega arith) (not-of-them i (λ e. omega arith) (λ e. omega arith) (λ e. omega arith) (λ e. omega arith)))
+      ∙ rw (two-count l, two-end m)

@@ -7,19 +7,17 @@ use native.Mathlib.Nat.{zero-add}
 use native.Mathlib.Omega.{arith}
 use lib.ListN.{length, take, length-append}
 use lib.Seq.{length-take-le, getD-take}
-use Rattle.input.specs.Bytes.{byteAt, two}
+use Rattle.input.specs.Bytes.{byteAt}
 use Rattle.output.specs.Written.{twoBytes}
 use Rattle.limits.specs.Limits.{headerSize}
 use Rattle.terms.specs.Sections.{sectionsOf}
 use Rattle.format.specs.Form.{Form}
+use Rattle.format.proofs.Reading.{two-by}
+use Rattle.format.proofs.Front.{header-kept}
 use Rattle.jobs.specs.Convert.{bytesAt, allRecordsBytes, converted}
 use Rattle.converted.specs.Converted.{endingAt}
 use Rattle.converted.proofs.Stands.{Stands, stands-at, stands-own, stands-left, stands-right, length-part, part-read}
 use Rattle.converted.proofs.Rendered.{length-two, two-read}
-
-two-by : (t s : List ℕ) (at : ℕ) → byteAt t at ≡ byteAt s at → byteAt t (at + 1) ≡ byteAt s (at + 1) → two t at ≡ two s at
-unfolding two
-two-by t s at p q = rw (p, q)
 
 -- where the records begin behind the header, and within the book
 module _ (to : Form) (s : List ℕ) (behind : headerSize ≤ sectionsOf s .records .at) (within : sectionsOf s .records .at ≤ length s) where
@@ -90,21 +88,10 @@ module _ (to : Form) (s : List ℕ) (behind : headerSize ≤ sectionsOf s .recor
       go (no k) (no m) = rest-kept i (omega arith) l
       go (no k) (yes m) = absurd (q (omega arith))
 
-  two-kept : (at : ℕ) → at + 2 ≤ 14 → two (converted to s) at ≡ two s at
-  two-kept at l = two-by (converted to s) s at (front-kept at (omega arith)) (front-kept (at + 1) (omega arith))
-
   -- The header says the same but for the end.
   pub header-converted : length (converted to s) < 65536 → sectionsOf (converted to s) ≡ endingAt (sectionsOf s) (length (converted to s))
   unfolding sectionsOf endingAt
   header-converted l =
       let e = parts .size in
-      rw (
-        two-kept 0 (omega arith),
-        two-kept 2 (omega arith),
-        two-kept 4 (omega arith),
-        two-kept 6 (omega arith),
-        two-kept 8 (omega arith),
-        two-kept 10 (omega arith),
-        two-kept 12 (omega arith),
-        two-read end (converted to s) 14 (omega arith) (parts .ending) ∙ sym e,
-      )
+      header-kept s (converted to s) (λ i k. front-kept i (omega arith)) (λ i low k. front-kept i k)
+      ∙ rw (two-by (converted to s) s 6 (front-kept 6 (omega arith)) (front-kept 7 (omega arith)), two-read end (converted to s) 14 (omega arith) (parts .ending) ∙ sym e)

@@ -43,7 +43,7 @@ unfolding placedBy
 placed-same [] = refl
 placed-same (f ∷ fs) = ap (λ gs. f ∷ gs) (placed-same fs)
 
-placed-append : (to : ℕ → ℕ) (fs gs : List RecordedStep) → placedBy to (fs ++ gs) ≡ placedBy to fs ++ placedBy to gs
+pub placed-append : (to : ℕ → ℕ) (fs gs : List RecordedStep) → placedBy to (fs ++ gs) ≡ placedBy to fs ++ placedBy to gs
 unfolding placedBy
 placed-append to [] gs = refl
 placed-append to (f ∷ fs) gs = rw (placed-append to fs gs)

@@ -2,7 +2,7 @@
 -- headers that say the same of kinds, relations and moves, their schemas say the same; and if rows 1 to 5 are not met by the one, then by the other
 -- only for its record count.
 use Prim.Native.Nat.{ℕ, _+_, _-_, _*_, _≤_, _<_}
-use mathlib.Core.Path.{_≡_, refl, sym, _∙_}
+use mathlib.Core.Path.{_≡_, refl, sym, ap₂, _∙_}
 use mathlib.Core.Logic.{_⊎_, inl, inr}
 use mathlib.Core.Bool.{true, false, _||_}
 use mathlib.Core.List.{List}
@@ -28,28 +28,38 @@ use Rattle.terms.proofs.Atoms.{parent-some, parent-none}
 use Rattle.terms.proofs.Agree.{same-by-bytes}
 use Rattle.format.specs.Header.{lengthBad, countsBad, offsetsBad, parentBad, relationBad, moveBad, parent, relation, move, sections}
 use Rattle.format.proofs.Header.{SectionsGood, parent-entry, relation-entry, move-entry}
-use Rattle.format.proofs.Reading.{Copied, byte-copied, relation-copied, move-copied}
+use Rattle.format.proofs.Reading.{two-by, Copied, byte-copied, relation-copied, move-copied}
+
+-- the header h with another record section and another end
+abbrev pub withRecords : Sections → Section → ℕ → Sections
+withRecords h records end = record { kinds = h .kinds; relations = h .relations; moves = h .moves; records = records; end = end }
 
 -- ---- the header
 
-module _ (s t : List ℕ) (same : (i : ℕ) → i < headerSize → byteAt t i ≡ byteAt s i) where
-  two-same : (i : ℕ) → i + 1 < headerSize → two t i ≡ two s i
-  unfolding two
-  two-same i l = rw (same i (omega arith), same (i + 1) l)
+-- with the same bytes but for those of the record count and of the end, which it has from its own
+pub header-kept : (s t : List ℕ) → ((i : ℕ) → i < 6 → byteAt t i ≡ byteAt s i) → ((i : ℕ) → 8 ≤ i → i < 14 → byteAt t i ≡ byteAt s i)
+    → sectionsOf t ≡ withRecords (sectionsOf s) (record { count = two t 6; at = sectionsOf s .records .at }) (two t 14)
+unfolding sectionsOf
+header-kept s t counts offsets =
+    let count : (i : ℕ) → i + 1 < 6 → two t i ≡ two s i = λ i l. two-by t s i (counts i (omega arith)) (counts (i + 1) l) in
+    let offset : (i : ℕ) → 8 ≤ i → i + 1 < 14 → two t i ≡ two s i = λ i low l. two-by t s i (offsets i low (omega arith)) (offsets (i + 1) (omega arith) l) in
+    rw (
+      count 0 (omega arith),
+      count 2 (omega arith),
+      count 4 (omega arith),
+      offset 8 (omega arith) (omega arith),
+      offset 10 (omega arith) (omega arith),
+      offset 12 (omega arith) (omega arith),
+    )
 
-  pub header-same : sectionsOf t ≡ sectionsOf s
-  unfolding sectionsOf
-  header-same =
-      rw (
-        two-same 0 (omega arith),
-        two-same 2 (omega arith),
-        two-same 4 (omega arith),
-        two-same 6 (omega arith),
-        two-same 8 (omega arith),
-        two-same 10 (omega arith),
-        two-same 12 (omega arith),
-        two-same 14 (omega arith),
-      )
+-- with the same bytes
+pub header-same : (s t : List ℕ) → ((i : ℕ) → i < headerSize → byteAt t i ≡ byteAt s i) → sectionsOf t ≡ sectionsOf s
+unfolding sectionsOf
+header-same s t same =
+    header-kept s t (λ i l. same i (omega arith)) (λ i low l. same i (omega arith))
+    ∙ ap₂ (λ (count end : ℕ). withRecords (sectionsOf s) (record { count = count; at = sectionsOf s .records .at }) end)
+    (two-by t s 6 (same 6 (omega arith)) (same 7 (omega arith)))
+    (two-by t s 14 (same 14 (omega arith)) (same 15 (omega arith)))
 
 -- ---- what lies between header and records
 
@@ -57,10 +67,6 @@ module _ (s t : List ℕ) (same : (i : ℕ) → i < headerSize → byteAt t i �
 start-in : (at kinds : ℕ) → (at ≡ headerSize) ⊎ (at ≡ headerSize + kinds) → (eqb at headerSize || eqb at (headerSize + kinds)) ≡ true
 start-in at kinds (inl e) = rw (eq-eqb at headerSize e)
 start-in at kinds (inr e) = or-right (eqb at headerSize) _ (eq-eqb at (headerSize + kinds) e)
-
--- the header h with another record section and another end
-abbrev pub withRecords : Sections → Section → ℕ → Sections
-withRecords h records end = record { kinds = h .kinds; relations = h .relations; moves = h .moves; records = records; end = end }
 
 module _ (h : Sections) (s : List ℕ) (n : ℕ) (was : SectionsGood h s n) (records : Section) (end : ℕ) (t : List ℕ) (same : (i : ℕ) → headerSize ≤ i → i < h .records .at → byteAt t i ≡ byteAt s i) where
   -- the relations start where they did, so that as many parents stand before them

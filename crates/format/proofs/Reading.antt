@@ -14,6 +14,11 @@ use Rattle.format.specs.Header.{kindBad, relationBad, moveBad}
 use Rattle.format.specs.Records.{objectsIn, stepsIn, lengthIn}
 use Rattle.format.specs.Lists.{factsAt, listAt, listEnd}
 
+-- a number whose two bytes are the same
+pub two-by : (t s : List ℕ) (at : ℕ) → byteAt t at ≡ byteAt s at → byteAt t (at + 1) ≡ byteAt s (at + 1) → two t at ≡ two s at
+unfolding two
+two-by t s at p q = rw (p, q)
+
 -- so many bytes of s from `at` on stand in t from `at′` on
 pub record Copied (s : List ℕ) (at : ℕ) (t : List ℕ) (at′ size : ℕ) : Type 0 where
   pub within : at′ + size ≤ length t

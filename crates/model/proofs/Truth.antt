@@ -2,8 +2,6 @@
 use mathlib.Core.Path.{_≡_, refl, sym}
 use mathlib.Core.Bool.{Bool, true, false, not}
 use Rattle.model.specs.Quantify.{same}
-pub use mathlib.Core.Bool.{and-true}
-pub use Rattle.truth.specs.Bools.{clash, decide, is-false, bool-eq, and-out}
 
 pub same-in : (b c : Bool) → b ≡ c → same b c ≡ true
 unfolding same

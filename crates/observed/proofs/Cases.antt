@@ -10,7 +10,7 @@ use Rattle.mask.specs.Sets.{bytewise, intersection, union, difference, empty}
 use Rattle.terms.specs.declared.Binding.{Binding}
 use Rattle.terms.specs.declared.Fact.{Fact}
 use Rattle.terms.specs.Steps.{objectOf}
-use Rattle.observed.specs.Observed.{added, deleted, setAt, observedSet, onSet, noted}
+use Rattle.observed.specs.Observed.{everBefore, added, deleted, setAt, observedSet, onSet, noted}
 use Rattle.observed.specs.Inverse.{gives, paramOf, placeBound, factBound, atomOf, mark, marks, atomsIn, unbound, sameFact, sameFacts, unboundChanged}
 
 abbrev roll : ℕ → ℕ → ℕ → Binding
@@ -50,11 +50,13 @@ abbrev some : ℕ → List ℕ
 some bits = bits ∷ replicate 31 0
 
 -- One step changes bound fact 1 to holding, and does not have number 2. The other leaves number 1 as it is, holding, and removes number 2. Whichever comes
--- last, number 1 is added and number 2 removed.
+-- last, number 1 is added and number 2 removed, and both held before some step.
 sequence-right :
     (observedSet (noted 1 (some 6) (some 2) (noted 1 (some 0) (some 2) none)) 1 added ≡ some 2)
     × (observedSet (noted 1 (some 0) (some 2) (noted 1 (some 6) (some 2) none)) 1 added ≡ some 2)
     × (observedSet (noted 1 (some 6) (some 2) (noted 1 (some 0) (some 2) none)) 1 deleted ≡ some 4)
     × (observedSet (noted 1 (some 0) (some 2) (noted 1 (some 6) (some 2) none)) 1 deleted ≡ some 4)
+    × (observedSet (noted 1 (some 6) (some 2) (noted 1 (some 0) (some 2) none)) 1 everBefore ≡ some 6)
+    × (observedSet (noted 1 (some 0) (some 2) (noted 1 (some 6) (some 2) none)) 1 everBefore ≡ some 6)
 unfolding without bytewise intersection union difference setAt observedSet onSet noted
-sequence-right = (refl, refl, refl, refl)
+sequence-right = (refl, refl, refl, refl, refl, refl)

@@ -1,9 +1,9 @@
--- What good records in a row say, told by the bytes of each: their steps, how many these are, and that each stands somewhere.
-use Prim.Native.Nat.{ℕ, suc, _+_}
-use mathlib.Core.Path.{_≡_, refl, sym, ap, ap₂, _∙_, subst}
-use mathlib.Core.List.{List, [], _∷_, _++_, flatMap, map-append}
+-- What good records in a row say, told by the bytes of each: their steps, and how many these are.
+use Prim.Native.Nat.{ℕ, _+_}
+use mathlib.Core.Path.{_≡_, refl, sym, ap, ap₂, _∙_}
+use mathlib.Core.List.{List, [], _∷_, _++_, flatMap}
 use Rattle.answer.specs.declared.Answer.the-variants.{Good}
-use Rattle.answer.specs.Walk.{walk, walk-induction, walk-parted}
+use Rattle.answer.specs.Walk.{walk, walk-induction}
 use Rattle.terms.specs.declared.Sections.{Sections}
 use Rattle.format.specs.Form.{Form}
 use Rattle.format.specs.Records.{stepsIn, lengthIn, recordAt}
@@ -11,18 +11,14 @@ use Rattle.format.specs.LookOver.{stepTotal}
 use Rattle.format.specs.Decode.{RecordedStep, stepsOfRecord, stepsOfRecords, movedBy}
 use Rattle.format.specs.Parts.{recordPart, recordsAt}
 use Rattle.format.proofs.Records.{record-within}
+use Rattle.format.proofs.Copies.{placedBy, placed-append}
 use Rattle.format.proofs.Parts.{record-alone, steps-alone}
-use Rattle.model.specs.Quantify.{Mem, here, there}
 use Rattle.converted.specs.Converted.{unplaced}
 use Rattle.permuted.proofs.Sequences.{total}
 
 -- the steps that the bytes of a record say by themselves, without their places
 unfoldable pub stepsAlone : Form → List ℕ → List RecordedStep
 stepsAlone form r = unplaced (stepsOfRecord form r 0)
-
-unplaced-append : (fs gs : List RecordedStep) → unplaced (fs ++ gs) ≡ unplaced fs ++ unplaced gs
-unfolding unplaced
-unplaced-append fs gs = map-append _ fs gs
 
 unplaced-moved : (k : ℕ) (fs : List RecordedStep) → unplaced (movedBy k fs) ≡ unplaced fs
 unfolding unplaced movedBy
@@ -31,11 +27,11 @@ unplaced-moved k (f ∷ fs) = ap (λ (gs : List RecordedStep). record { place = 
 
 module _ (form : Form) (h : Sections) (s : List ℕ) where
   pub steps-by-records : (n at last : ℕ) → walk (recordAt form h s) n at ≡ Good last → unplaced (stepsOfRecords form s n at) ≡ flatMap (stepsAlone form) (recordsAt s n at)
-  unfolding stepsOfRecords recordsAt flatMap stepsAlone unplaced
+  unfolding stepsOfRecords recordsAt flatMap stepsAlone unplaced placedBy
   steps-by-records =
       walk-induction (recordAt form h s) (λ n at last. unplaced (stepsOfRecords form s n at) ≡ flatMap (stepsAlone form) (recordsAt s n at)) (λ at. refl)
       (λ n at next last good rest.
-      unplaced-append (stepsOfRecord form s at) (stepsOfRecords form s n (at + lengthIn s at))
+      placed-append (λ p. 0) (stepsOfRecord form s at) (stepsOfRecords form s n (at + lengthIn s at))
       ∙ ap₂ (λ (fs gs : List RecordedStep). fs ++ gs)
       (ap unplaced (record-alone form h s at next good) ∙ unplaced-moved at (stepsOfRecord form (recordPart s at) 0))
       (rw (record-within form h s at next good .0) at rest))
@@ -46,14 +42,3 @@ module _ (form : Form) (h : Sections) (s : List ℕ) where
       walk-induction (recordAt form h s) (λ n at last. stepTotal s n at ≡ total (λ r. stepsIn r 0) (recordsAt s n at)) (λ at. refl)
       (λ n at next last good rest.
       ap₂ (λ (x y : ℕ). x + y) (sym (steps-alone form h s at next good)) (rw (record-within form h s at next good .0) at rest))
-
-  -- the record stands somewhere in the book, and is of good form there
-  abbrev pub Stands : List ℕ → Type 0
-  Stands r = (at next : ℕ) × (recordAt form h s at ≡ Good next) × (recordPart s at ≡ r)
-
-  pub each-stands : (n at last : ℕ) → walk (recordAt form h s) n at ≡ Good last → {r : List ℕ} → Mem r (recordsAt s n at) → Stands r
-  unfolding recordsAt
-  each-stands (suc n) at last e here = let (next, good, rest) = walk-parted (recordAt form h s) n at last e in (at, next, good, refl)
-  each-stands (suc n) at last e (there m) =
-      let (next, good, rest) = walk-parted (recordAt form h s) n at last e in
-      each-stands n (at + lengthIn s at) last (subst (λ (x : ℕ). walk (recordAt form h s) n x ≡ Good last) (record-within form h s at next good .0) rest) m

@@ -30,9 +30,10 @@ use Rattle.format.proofs.LookOver.{LookedOver, look-over-good, look-over-in}
 use Rattle.format.proofs.Parts.{record-length, part-alone, parts-joined, byte-before}
 use Rattle.model.specs.Quantify.{Mem, here, there}
 use Rattle.jobs.specs.Planning.{schemaOf}
-use Rattle.permuted.specs.Permuted.{Permutation, refiled, Refiled}
+use Rattle.wellformed.proofs.Parts.{RecordOf, each-record}
+use Rattle.permuted.specs.Permuted.{Permutation, refiled, RefiledGood}
 use Rattle.permuted.proofs.Sequences.{members-kept, total, total-kept, length-kept, length-flatten}
-use Rattle.permuted.proofs.Records.{total-by-records, Stands, each-stands}
+use Rattle.permuted.proofs.Records.{total-by-records}
 use Rattle.permuted.proofs.Sections.{FrontGood, length-before, one-header, one-schema, one-count}
 
 -- ---- one record
@@ -81,7 +82,7 @@ length-records s (suc n) at = ap suc (length-records s n (at + lengthIn s at))
 
 -- records of s, put one behind the other to the end of t
 module _ (form : Form) (h k : Sections) (s t : List ℕ) (kinds : h .kinds ≡ k .kinds) (same : SameSchema (schema h s) (schema k t)) (fall : Falling (schema h s)) where
-  pub row-good : (us : List (List ℕ)) (front : List ℕ) → t ≡ front ++ flatten us → ((r : List ℕ) → Mem r us → Stands form h s r)
+  pub row-good : (us : List (List ℕ)) (front : List ℕ) → t ≡ front ++ flatten us → ((r : List ℕ) → Mem r us → RecordOf form h s r)
       → (walk (recordAt form k t) (length us) (length front) ≡ Good (length t)) × (recordsAt t (length us) (length front) ≡ us)
   unfolding flatten walk recordsAt
   row-good [] front e each = (ap Good (ap length (sym (e ∙ append-nil front))), refl)
@@ -149,7 +150,7 @@ module _ (form : Form) (s : List ℕ) (n : ℕ) (looked : lookOver form s ≡ Go
   row =
       let (walked, records) =
       row-good form (sectionsOf s) (sectionsOf t) s t (one-count s t front before) (one-schema s t front before) (schema-right (sectionsOf s) s _ front .falling) rs (sectionsPart s) refl
-      (λ r m. each-stands form (sectionsOf s) s _ _ _ (was .records) (members-kept permutation r .1 m)) in (
+      (λ r m. each-record form (sectionsOf s) s _ _ _ (was .records) (members-kept permutation r .1 m)) in (
         ap₂ (λ (m at : ℕ). walk (recordAt form (sectionsOf t) t) m at) (sym count-same) (sym start-same) ∙ walked,
         ap₂ (λ (m at : ℕ). recordsAt t m at) (sym count-same) (sym start-same) ∙ records,
       )
@@ -161,7 +162,7 @@ module _ (form : Form) (s : List ℕ) (n : ℕ) (looked : lookOver form s ≡ Go
       total-by-records form (sectionsOf t) t _ _ _ (row .0) ∙ ap (total steps) (row .1) ∙ sym (total-kept steps permutation)
       ∙ sym (total-by-records form (sectionsOf s) s _ _ _ (was .records)) ∙ sym (was .total)
 
-  pub refiled-good : Refiled form s n rs
+  pub refiled-good : RefiledGood form s n rs
   unfolding t recordsOf sectionsPart
   refiled-good =
       record {

@@ -31,12 +31,12 @@ abbrev pub refiled : List ℕ → List (List ℕ) → List ℕ
 refiled s rs = sectionsPart s ++ flatten rs
 
 -- it is a book of good form, with as many steps, whose sections are those of the book, and whose records are the ones given, in their sequence
-pub record Refiled (form : Form) (s : List ℕ) (n : ℕ) (rs : List (List ℕ)) : Type 0 where
+pub record RefiledGood (form : Form) (s : List ℕ) (n : ℕ) (rs : List (List ℕ)) : Type 0 where
   pub good : lookOver form (refiled s rs) ≡ Good n
   pub sections : sectionsPart (refiled s rs) ≡ sectionsPart s
   pub records : recordsOf (refiled s rs) ≡ rs
 
--- The records of a good book in any sequence make such a book, so that there is one for each sequence, and it gets the answers of the first.
+-- The records of a good book in any sequence make such a book, and it gets the answers that the good book gets.
 abbrev pub AnySequenceIsGood : Type 0
 AnySequenceIsGood = (form : Form) (s : List ℕ) (n : ℕ) → lookOver form s ≡ Good n → (rs : List (List ℕ)) → Permutation (recordsOf s) rs
-    → Refiled form s n rs × SameAnswers form form s (refiled s rs)
+    → RefiledGood form s n rs × SameAnswers form form s (refiled s rs)

@@ -4,6 +4,7 @@ pub mod Lists
 pub mod States
 pub mod Headers
 pub mod Records
+pub mod Parts
 pub mod Stepped
 pub mod Suits
 pub mod Numbers
