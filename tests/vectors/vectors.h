@@ -20,8 +20,8 @@ static const char *const job_names[JOBS] = {"look_over", "learn",    "check",
 
 enum { ROOM = 1 << 17, LINE = 1 << 12 };
 struct bytes {
-    size_t len, len_before; /* of this vector, and of the one before it */
-    uint8_t at[ROOM];
+    size_t len, len_before; /* of this vector, and of the last one before it that has some */
+    uint8_t *at, *before;
 };
 
 /* The vector that was read last. */
@@ -53,6 +53,8 @@ static const struct {
 
 enum { BYTE_KEYS = sizeof byte_keys / sizeof *byte_keys };
 enum { NUMBER_KEYS = sizeof number_keys / sizeof *number_keys };
+
+static uint8_t rooms[BYTE_KEYS][2][ROOM];
 
 /* ---- the calls */
 
@@ -114,6 +116,19 @@ static void end_vector(void)
     take_vector();
 }
 
+/* Those of the vector that ended are the ones before, if it had some. */
+static void begin_bytes(struct bytes *bytes)
+{
+    if (bytes->len > 0) {
+        uint8_t *free_room = bytes->before;
+
+        bytes->before = bytes->at;
+        bytes->len_before = bytes->len;
+        bytes->at = free_room;
+    }
+    bytes->len = 0;
+}
+
 static void begin_vector(const char *name)
 {
     if (vector.name[0] != '\0')
@@ -121,10 +136,8 @@ static void begin_vector(const char *name)
     strcpy(vector.name, name);
     for (int job = 0; job < JOBS; job++)
         vector.wanted[job] = 0;
-    for (int i = 0; i < BYTE_KEYS; i++) {
-        byte_keys[i].to->len_before = byte_keys[i].to->len;
-        byte_keys[i].to->len = 0;
-    }
+    for (int i = 0; i < BYTE_KEYS; i++)
+        begin_bytes(byte_keys[i].to);
     for (int i = 0; i < NUMBER_KEYS; i++)
         *number_keys[i].to = number_keys[i].left_out;
 }
@@ -148,8 +161,15 @@ static void end_file(const char *count)
         stop("another number of vectors");
 }
 
-/* One part: hexadecimal digits, then perhaps `*n`. */
-static void append_part(struct bytes *to, const char *part)
+static void append_byte(struct bytes *to, uint8_t byte)
+{
+    if (to->len == ROOM)
+        stop("too many bytes");
+    to->at[to->len++] = byte;
+}
+
+/* Hexadecimal digits, then perhaps `*n`. */
+static void append_written(struct bytes *to, const char *part)
 {
     size_t digits = strspn(part, "0123456789abcdefABCDEF");
     unsigned long times = part[digits] == '*' ? decimal(part + digits + 1, ROOM) : 1;
@@ -159,18 +179,34 @@ static void append_part(struct bytes *to, const char *part)
     for (; times > 0; times--)
         for (size_t i = 0; i < digits; i += 2) {
             char byte[3] = {part[i], part[i + 1], '\0'};
-            if (to->len == ROOM)
-                stop("too many bytes");
-            to->at[to->len++] = (uint8_t)strtoul(byte, NULL, 16);
+            append_byte(to, (uint8_t)strtoul(byte, NULL, 16));
         }
 }
 
-/* The bytes of the vector before, which still stand there if none has come for this one. */
-static void keep_bytes(struct bytes *to)
+/* The bytes before, `len` of them. */
+static void append_copied(struct bytes *to, size_t from, size_t len)
 {
-    if (to->len > 0 || to->len_before == 0)
-        stop("no bytes of the vector before");
-    to->len = to->len_before;
+    if (len == 0 || from > to->len_before || len > to->len_before - from)
+        stop("no such bytes before");
+    for (size_t i = from; i < from + len; i++)
+        append_byte(to, to->before[i]);
+}
+
+/* One part: `same`, `@a+n`, or written out. */
+static void append_part(struct bytes *to, char *part)
+{
+    char *plus = strchr(part, '+');
+
+    if (strcmp(part, "same") == 0)
+        append_copied(to, 0, to->len_before);
+    else if (part[0] != '@')
+        append_written(to, part);
+    else if (plus == NULL)
+        stop("no length to copy");
+    else {
+        *plus = '\0';
+        append_copied(to, decimal(part + 1, ROOM), decimal(plus + 1, ROOM));
+    }
 }
 
 static void want(const char *word)
@@ -216,8 +252,6 @@ static void read_value(const char *key, char *value)
         end_file(value);
     else if (vector.name[0] == '\0')
         stop("a line before the first vector");
-    else if (to != NULL && strcmp(value, "same") == 0)
-        keep_bytes(to);
     else if (to != NULL || strcmp(key, "jobs") == 0)
         for (char *word = strtok(value, " "); word != NULL; word = strtok(NULL, " "))
             if (to != NULL)
@@ -256,6 +290,10 @@ static void read_vectors(int count, char **words, void (*take)(void))
     if (file == NULL) {
         fprintf(stderr, "usage: %s FILE, a file of vectors that can be read\n", words[0]);
         exit(2);
+    }
+    for (int i = 0; i < BYTE_KEYS; i++) {
+        byte_keys[i].to->at = rooms[i][0];
+        byte_keys[i].to->before = rooms[i][1];
     }
     take_vector = take;
     while (fgets(line, sizeof line, file) != NULL)

@@ -13,27 +13,34 @@ const HEAD: &str = "\
 # Written by `second/target/release/vectors print`.
 ";
 const WIDTH: usize = 100;
-/// For bytes that are those of the vector before.
-const SAME: &str = "same";
 /// Of a vector that has no number yet.
 const NO_ANSWER: Answer = Answer { number: u32::MAX, place: 0, position: 0 };
+
+/// The bytes that each key had last.
+#[derive(Default)]
+struct Before {
+    book: Vec<u8>,
+    order: Vec<u8>,
+    record: Vec<u8>,
+    after: Vec<u8>,
+}
 
 #[must_use]
 pub fn print(vectors: &[Vector]) -> String {
     let mut text = String::from(HEAD);
-    let none = Vector::new("", &[], Vec::new(), NO_ANSWER);
-    for (vector, before) in vectors.iter().zip([&none].into_iter().chain(vectors)) {
+    let mut before = Before::default();
+    for vector in vectors {
         let jobs: Vec<&str> = vector.jobs.iter().map(|job| job.name()).collect();
         write!(text, "\nvector {}\njobs {}\n", vector.name, jobs.join(" ")).expect(WRITES);
-        print_bytes(&mut text, "book", &vector.book, &before.book);
+        print_bytes(&mut text, "book", &vector.book, &mut before.book);
         print_unless_0(&mut text, "form", vector.form);
-        print_bytes(&mut text, "order", &vector.order, &before.order);
-        print_bytes(&mut text, "record", &vector.record, &before.record);
+        print_bytes(&mut text, "order", &vector.order, &mut before.order);
+        print_bytes(&mut text, "record", &vector.record, &mut before.record);
         print_unless_0(&mut text, "output", vector.output as u32);
         let Answer { number, place, position } = vector.answer;
         writeln!(text, "number {number}\nplace {place}").expect(WRITES);
         print_unless_0(&mut text, "position", position);
-        print_bytes(&mut text, "after", &vector.after, &before.after);
+        print_bytes(&mut text, "after", &vector.after, &mut before.after);
     }
     writeln!(text, "\nend {}", vectors.len()).expect(WRITES);
     text
@@ -47,27 +54,30 @@ fn print_unless_0(text: &mut String, key: &str, number: u32) {
     }
 }
 
-/// Parts on lines of at most [`WIDTH`], but for parts that are longer; a line
-/// that goes on begins with a blank.
-fn print_bytes(text: &mut String, key: &str, bytes: &[u8], before: &[u8]) {
+/// The bytes of a key, if it has any; the next one that has some is told them as
+/// those before.
+fn print_bytes(text: &mut String, key: &str, bytes: &[u8], before: &mut Vec<u8>) {
     if bytes.is_empty() {
         return;
     }
-    if bytes == before {
-        writeln!(text, "{key} {SAME}").expect(WRITES);
-        return;
-    }
     text.push_str(key);
-    let mut column = key.len();
-    for part in encode(bytes) {
-        // A part that does not repeat may be broken between any two bytes.
+    print_parts(text, key.len(), &encode(bytes, before));
+    *before = bytes.to_vec();
+}
+
+/// Parts on lines of at most [`WIDTH`], but for parts that are longer; a line
+/// that goes on begins with a blank.
+fn print_parts(text: &mut String, mut column: usize, parts: &[String]) {
+    for part in parts {
+        // A part that is plain hexadecimal may be broken between any two bytes.
+        let whole = !part.bytes().all(|digit| digit.is_ascii_hexdigit());
         let mut rest = part.as_str();
         while !rest.is_empty() {
-            if column + 3 > WIDTH || (rest.contains('*') && column + 1 + rest.len() > WIDTH) {
+            if column + 3 > WIDTH || (whole && column + 1 + rest.len() > WIDTH) {
                 text.push('\n');
                 column = 0;
             }
-            let room = if rest.contains('*') { rest.len() } else { (WIDTH - column - 1) / 2 * 2 };
+            let room = if whole { rest.len() } else { (WIDTH - column - 1) / 2 * 2 };
             let (now, later) = rest.split_at(room.min(rest.len()));
             text.push(' ');
             text.push_str(now);
@@ -81,6 +91,7 @@ fn print_bytes(text: &mut String, key: &str, bytes: &[u8], before: &[u8]) {
 /// The vectors of a file, or what is wrong with it.
 pub fn parse(text: &str) -> Result<Vec<Vector>, String> {
     let mut vectors: Vec<Vector> = Vec::new();
+    let mut before = Before::default();
     let mut entries = entries(text)?;
     // A file that was cut has lost its last line.
     let (last, count) = entries.pop().ok_or("no line")?;
@@ -89,8 +100,8 @@ pub fn parse(text: &str) -> Result<Vec<Vector>, String> {
             vectors.push(Vector::new(value, &[], Vec::new(), NO_ANSWER));
             continue;
         }
-        let (vector, before) = vectors.split_last_mut().ok_or("a line before the first vector")?;
-        take(vector, before.last(), &key, &value)
+        let vector = vectors.last_mut().ok_or("a line before the first vector")?;
+        take(vector, &mut before, &key, &value)
             .map_err(|error| format!("vector {}, {key}: {error}", vector.name))?;
     }
     if last != "end" || count != vectors.len().to_string() {
@@ -103,31 +114,31 @@ pub fn parse(text: &str) -> Result<Vec<Vector>, String> {
 }
 
 /// One line of a vector.
-fn take(
-    vector: &mut Vector,
-    before: Option<&Vector>,
-    key: &str,
-    value: &str,
-) -> Result<(), String> {
+fn take(vector: &mut Vector, before: &mut Before, key: &str, value: &str) -> Result<(), String> {
     let number = || value.parse::<u32>().map_err(|error| error.to_string());
-    let bytes = |of: fn(&Vector) -> &Vec<u8>| match before {
-        Some(before) if value == SAME => Ok(of(before).clone()),
-        _ => decode(value),
-    };
     match key {
         "jobs" => vector.jobs = parse_jobs(value)?,
-        "book" => vector.book = bytes(|before| &before.book)?,
+        "book" => vector.book = take_bytes(value, &mut before.book)?,
         "form" => vector.form = number()?,
-        "order" => vector.order = bytes(|before| &before.order)?,
-        "record" => vector.record = bytes(|before| &before.record)?,
+        "order" => vector.order = take_bytes(value, &mut before.order)?,
+        "record" => vector.record = take_bytes(value, &mut before.record)?,
         "output" => vector.output = number()? as usize,
         "number" => vector.answer.number = number()?,
         "place" => vector.answer.place = number()?,
         "position" => vector.answer.position = number()?,
-        "after" => vector.after = bytes(|before| &before.after)?,
+        "after" => vector.after = take_bytes(value, &mut before.after)?,
         _ => return Err("no such key".into()),
     }
     Ok(())
+}
+
+/// The bytes of a key, and if there are any, these as the ones before.
+fn take_bytes(value: &str, before: &mut Vec<u8>) -> Result<Vec<u8>, String> {
+    let bytes = decode(value, before)?;
+    if !bytes.is_empty() {
+        before.clone_from(&bytes);
+    }
+    Ok(bytes)
 }
 
 /// Each key with its value, the lines that go on put together.
