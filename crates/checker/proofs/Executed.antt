@@ -44,7 +44,7 @@ use Rattle.statemask.specs.Executing.{Under, Ruled, Executing, executedAnswer}
 use Rattle.statemask.proofs.Plan.{execute-start, execute-answer, agrees-sheet}
 use Rattle.format.proofs.OrderForm.{order-good}
 use Rattle.execution.specs.Execution.{Executable}
-use Rattle.checker.specs.Checker.{executedFrom, answerFrom, StartsGood}
+use Rattle.starts.specs.Starts.{executedFrom, answerFrom, StartsGood}
 
 -- the sets of a move's rules are its learned ones
 ruled : (sch : Schema) (ts : List Transition) (l : List ℕ) → Seen sch ts l → (a : ℕ) → 1 ≤ a → a ≤ 32 → Ruled (learned (domain sch) ts) a (ruleSet l a)

@@ -1,5 +1,5 @@
 -- The rows of a check one after the other, by what the calls return, and what the lent end sheet holds.
-use Prim.Native.Nat.{ℕ, _+_}
+use Prim.Native.Nat.{ℕ}
 use mathlib.Core.Path.{_≡_, refl, sym, ap, _∙_}
 use mathlib.Core.Bool.{Bool, true, false, not}
 use mathlib.Core.List.{List, [], _∷_}
@@ -12,40 +12,27 @@ use Rattle.answer.specs.Answer.{_>>=_, refuse, isRefused, valueOf, unpositioned
 use Rattle.answer.specs.Laws.{stays, bind-good, refuse-unmet, refused-kept}
 use Rattle.answer.specs.Turns.{is-good}
 use Rattle.answer.specs.Positions.{then-refused, then-by}
-use Rattle.input.specs.Bytes.{two}
-use Rattle.limits.specs.Limits.{countSize, endSheetSize, observedSize}
+use Rattle.limits.specs.Limits.{endSheetSize, observedSize}
 use Rattle.terms.specs.declared.Sections.{Sections}
 use Rattle.terms.specs.declared.Fact.{Fact}
 use Rattle.terms.specs.Sections.{sectionsOf}
-use Rattle.terms.specs.Schema.{Schema, schema}
+use Rattle.terms.specs.Schema.{schema}
 use Rattle.format.specs.Form.{Form}
 use Rattle.format.specs.LookOver.{lookOver}
-use Rattle.format.specs.Lists.{factsAt, listAt}
-use Rattle.format.specs.Order.{startCount, startAt, stepCount, stepsAt, orderForm, starts, goal, plan}
+use Rattle.format.specs.Order.{startCount, startAt, stepCount, stepsAt, orderForm, starts}
 use Rattle.model.specs.Quantify.{here}
 use Rattle.jobs.specs.Planning.{schemaOf, holding, startStates}
 use Rattle.jobs.specs.Learn.{learnable}
 use Rattle.jobs.specs.Check.{orderRun, startAnswer, firstFailing, startsAnswer, beforePlan, check, endSheet, endAfter, checkBytes}
 use Rattle.jobs.proofs.Starts.{failing-same, failing-map, end-map}
-use Rattle.statemask.specs.Statemask.{execute, startMask}
 use Rattle.execution.specs.Execution.{Executable}
 use Rattle.observed.specs.Observed.{observedOf}
 use Rattle.learner.specs.Learner.{BookObserved}
 use Rattle.learner.proofs.Book.{schema-own, form-good}
-use Rattle.checker.specs.Checker.{PlanExecuted, executedFrom, answerFrom, StartsGood, answerEach, StartsOutcome, fromOrder, Ready, OrderOutcome, CheckOutcome}
+use Rattle.starts.specs.Starts.{executedFrom, answerFrom, StartsGood, answerEach, StartsOutcome}
+use Rattle.starts.proofs.Starts.{only-goes}
+use Rattle.checker.specs.Checker.{fromOrder, Ready, OrderOutcome, CheckOutcome}
 use Rattle.checker.proofs.Executed.{executable, starts-good, start-executed, start-sheet}
-use Rattle.checker.proofs.Starts.{only-goes}
-
--- the start as the code reads it
-pub start-by : (o : List ℕ) (n at : ℕ) {m : List ℕ} → n ≡ two o at → m ≡ startMask (factsAt o n (at + countSize)) → m ≡ startMask (listAt o at)
-unfolding listAt
-start-by o n at p e = rw p at e
-
--- rows 19 and 20 from it
-pub answer-by : (sch : Schema) (l o state new : List ℕ) (start : List Fact) (r : Answer) → state ≡ startMask start
-    → PlanExecuted (execute sch l (plan o) state 1) (stepCount o) (goal o) new r → r ≡ answerFrom sch l o start
-unfolding answerFrom executedFrom
-answer-by sch l o state new start r e out = rw e at (out .says)
 
 -- ---- rows 14 to 20
 module _ (form : Form) (s o old : List ℕ) (h : Sections) (observed : List ℕ) (ready : Ready form s h observed old) (a : Answer) (b : Bool) (ordered : a ≡ orderForm (schema h s) o) (told : b ≡ isRefused a) where

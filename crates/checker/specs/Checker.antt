@@ -1,57 +1,20 @@
--- What the functions of the checker say: rows 19 and 20 from a start and from each start with the state masks, rows 14 to 20 and the whole
--- check with the lent end sheet.
-use Prim.Native.Nat.{ℕ, _≤_}
+-- What the functions of the checker say: rows 14 to 20 and the whole check with the lent end sheet.
+use Prim.Native.Nat.{ℕ}
 use mathlib.Core.Path.{_≡_}
 use mathlib.Core.List.{List}
 use lib.ListN.{length}
-use Rattle.answer.specs.declared.Answer.{Answer}
 use Rattle.answer.specs.declared.Answer.the-variants.{Good}
 use Rattle.answer.specs.declared.Positioned.{Positioned}
 use Rattle.answer.specs.Answer.{valueOf, thenAt, kept}
-use Rattle.answer.specs.Walk.{walk}
-use Rattle.limits.specs.Limits.{maxLength, endSheetSize, observedSize}
+use Rattle.limits.specs.Limits.{endSheetSize, observedSize}
 use Rattle.terms.specs.declared.Sections.{Sections}
-use Rattle.terms.specs.declared.Fact.{Fact}
 use Rattle.terms.specs.Sections.{sectionsOf}
-use Rattle.terms.specs.Schema.{Schema, TypedObjects}
 use Rattle.format.specs.Form.{Form}
-use Rattle.format.specs.States.{state}
-use Rattle.format.specs.Order.{GoalEntry, goalAt, stepCount, orderForm, starts, goal, plan}
+use Rattle.format.specs.Order.{orderForm}
 use Rattle.jobs.specs.Planning.{schemaOf, startStates}
 use Rattle.jobs.specs.Learn.{learnable}
-use Rattle.jobs.specs.Check.{orderRun, firstFailing, startsAnswer, check, endSheet, endAfter, checkBytes}
+use Rattle.jobs.specs.Check.{orderRun, startsAnswer, check, endSheet, endAfter, checkBytes}
 use Rattle.observed.specs.Observed.{observedOf}
-use Rattle.statemask.specs.Statemask.{Executed, execute, startMask}
-use Rattle.statemask.specs.Executing.{executedAnswer}
-
--- a plan executed over a mask, and its goal: the answer, and the mask
-pub record PlanExecuted (c : Executed) (steps : ℕ) (goal : List GoalEntry) (new : List ℕ) (r : Answer) : Type 0 where
-  pub says : r ≡ executedAnswer steps goal c
-  pub mask : new ≡ c .mask
-
--- what an order's plan comes to over masks from a start, by what is observed, and rows 19 and 20 of it
-unfoldable pub executedFrom : Schema → List ℕ → List ℕ → List Fact → Executed
-executedFrom sch l o start = execute sch l (plan o) (startMask start) 1
-
-unfoldable pub answerFrom : Schema → List ℕ → List ℕ → List Fact → Answer
-answerFrom sch l o start = executedAnswer (stepCount o) (goal o) (executedFrom sch l o start)
-
--- a number of starts from an offset on are good, for some schema and objects, and end where the goal entries begin
-pub record StartsGood (o : List ℕ) (n at : ℕ) : Type 0 where
-  pub sch : Schema
-  pub ob : TypedObjects
-  pub good : walk (state 16 sch ob o (goalAt o)) n at ≡ Good (goalAt o)
-  pub near : goalAt o ≤ maxLength
-  pub within : goalAt o ≤ length o
-
--- rows 19 and 20 from each start
-unfoldable pub answerEach : Schema → List ℕ → List ℕ → Positioned
-answerEach sch l o = firstFailing (answerFrom sch l o) (stepCount o) 1 (starts o)
-
--- the same with a lent end sheet: the answer with its position, and every byte of the sheet afterwards
-pub record StartsOutcome (sch : Schema) (l o old new : List ℕ) (r : Positioned) : Type 0 where
-  pub says : r ≡ answerEach sch l o
-  pub bytes : new ≡ kept (r .answer) (endAfter (λ start. executedFrom sch l o start .mask) (starts o) old) old
 
 -- rows 14 to 20
 unfoldable pub fromOrder : Form → List ℕ → List ℕ → Positioned

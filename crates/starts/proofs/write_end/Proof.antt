@@ -1,12 +1,12 @@
--- `checker::write_end` meets its contract: the state has the length of the sheet, so nothing of the old sheet is left.
+-- `starts::write_end` meets its contract: the state has the length of the sheet, so nothing of the old sheet is left.
 use mathlib.Core.Path.{_≡_, _∙_}
 use native.Mathlib.Omega.{arith}
 use denote.Ref.{now}
 use lib.ListN.{length}
 use Rattle.output.proofs.Written.{written-whole}
 use borrow.Author.Needs.{needs}
-use Rattle.checker.proofs.write_end.Statement.{statement}
-use Rattle.checker.proofs.write_end.Tie as tie
+use Rattle.starts.proofs.write_end.Statement.{statement}
+use Rattle.starts.proofs.write_end.Tie as tie
 
 pub write-end-spec : {M : Type 1} → statement M
 write-end-spec =

@@ -1,10 +1,10 @@
--- `checker::start_of` meets its contract: the facts of the start as its count says.
+-- `starts::start_of` meets its contract: the facts of the start as its count says.
 use native.Mathlib.Omega.{arith}
 use Rattle.format.specs.Lists.{listEnd}
-use Rattle.checker.proofs.Rows.{start-by}
+use Rattle.starts.proofs.Starts.{start-by}
 use borrow.Author.Needs.{needs}
-use Rattle.checker.proofs.start_of.Statement.{statement}
-use Rattle.checker.proofs.start_of.Tie as tie
+use Rattle.starts.proofs.start_of.Statement.{statement}
+use Rattle.starts.proofs.start_of.Tie as tie
 
 two-at-requires : tie.Need-two-at-requires
 unfolding listEnd

@@ -9,7 +9,7 @@ use Rattle.jobs.specs.Check.{goalAnswer}
 use Rattle.statemask.specs.Statemask.{Executed, execute, missed}
 use Rattle.statemask.specs.Executing.{executedAnswer}
 use Rattle.execution.specs.Execution.{Executes}
-use Rattle.checker.specs.Checker.{PlanExecuted}
+use Rattle.starts.specs.Starts.{PlanExecuted}
 
 stop-answer : (c : Executed) (steps : ℕ) (g : List GoalEntry) (k : ℕ) → c .stop ≡ k → (k ≡ 0 → ⊥) → Refused 19 k ≡ executedAnswer steps g c
 unfolding executedAnswer

@@ -1,9 +1,9 @@
--- `checker::run_only` meets its contract: the plan from the only start, and the sheet of a pass.
+-- `starts::run_only` meets its contract: the plan from the only start, and the sheet of a pass.
 use native.Mathlib.Omega.{arith}
-use Rattle.checker.proofs.Starts.{next-start, only-fails, only-ends}
+use Rattle.starts.proofs.Starts.{next-start, only-fails, only-ends}
 use borrow.Author.Needs.{needs}
-use Rattle.checker.proofs.run_only.Statement.{statement}
-use Rattle.checker.proofs.run_only.Tie as tie
+use Rattle.starts.proofs.run_only.Statement.{statement}
+use Rattle.starts.proofs.run_only.Tie as tie
 
 start-of-requires : tie.Need-start-of-requires
 start-of-requires c κs =

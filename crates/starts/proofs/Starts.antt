@@ -15,19 +15,31 @@ use Rattle.truth.specs.Bools.{clash, decide}
 use Rattle.answer.specs.Laws.{kept-same, refused-good, refused-kept}
 use Rattle.answer.specs.Turns.{is-good}
 use Rattle.answer.specs.Walk.{walk, walk-parted}
-use Rattle.limits.specs.Limits.{maxLength, maxFacts}
+use Rattle.input.specs.Bytes.{two}
+use Rattle.limits.specs.Limits.{maxLength, maxFacts, countSize}
 use Rattle.terms.specs.declared.Fact.{Fact}
 use Rattle.terms.specs.Schema.{Schema}
 use Rattle.format.specs.States.{state}
-use Rattle.format.specs.Lists.{listAt, listEnd}
+use Rattle.format.specs.Lists.{factsAt, listAt, listEnd}
 use Rattle.format.specs.Order.{goalAt, startCount, startAt, stepCount, startsFrom, starts, goal, plan}
 use Rattle.format.proofs.States.{list-ends}
 use Rattle.jobs.specs.Check.{firstFailing, endAfter}
 use Rattle.jobs.proofs.Starts.{failing-none, failing-here, failing-later, end-several}
 use Rattle.statemask.specs.Statemask.{execute, startMask}
 use Rattle.wellformed.proofs.Orders.{length-starts}
-use Rattle.checker.specs.Checker.{PlanExecuted, executedFrom, answerFrom, StartsGood, answerEach, StartsOutcome}
-use Rattle.checker.proofs.Laws.{executed-ends}
+use Rattle.starts.specs.Starts.{PlanExecuted, executedFrom, answerFrom, StartsGood, answerEach, StartsOutcome}
+use Rattle.starts.proofs.Laws.{executed-ends}
+
+-- the start as the code reads it
+pub start-by : (o : List ℕ) (n at : ℕ) {m : List ℕ} → n ≡ two o at → m ≡ startMask (factsAt o n (at + countSize)) → m ≡ startMask (listAt o at)
+unfolding listAt
+start-by o n at p e = rw p at e
+
+-- rows 19 and 20 from it
+pub answer-by : (sch : Schema) (l o state new : List ℕ) (start : List Fact) (r : Answer) → state ≡ startMask start
+    → PlanExecuted (execute sch l (plan o) state 1) (stepCount o) (goal o) new r → r ≡ answerFrom sch l o start
+unfolding answerFrom executedFrom
+answer-by sch l o state new start r e out = rw e at (out .says)
 
 -- ---- a start, and those after it
 starts-more : (o : List ℕ) (n at : ℕ) → 0 < n → startsFrom o n at ≡ listAt o at ∷ startsFrom o (n - 1) (listEnd o at)

@@ -1,8 +1,8 @@
--- `checker::run_order` meets its contract: the only start, or each of several.
-use Rattle.checker.proofs.Starts.{several-by}
+-- `starts::run_order` meets its contract: the only start, or each of several.
+use Rattle.starts.proofs.Starts.{several-by}
 use borrow.Author.Needs.{needs}
-use Rattle.checker.proofs.run_order.Statement.{statement}
-use Rattle.checker.proofs.run_order.Tie as tie
+use Rattle.starts.proofs.run_order.Statement.{statement}
+use Rattle.starts.proofs.run_order.Tie as tie
 
 returns-2 : tie.Need-returns-2
 returns-2 c =

@@ -1,4 +1,4 @@
--- `checker::run_each` meets its contract: the starts still left answer as all of them do.
+-- `starts::run_each` meets its contract: the starts still left answer as all of them do.
 use Prim.Native.Nat.{_+_, _≤_}
 use mathlib.Core.Path.{_≡_}
 use native.Mathlib.Omega.{arith}
@@ -7,11 +7,11 @@ use Rattle.terms.specs.Schema.{schema}
 use Rattle.format.specs.Lists.{listEnd}
 use Rattle.format.specs.Order.{stepCount, startsFrom}
 use Rattle.jobs.specs.Check.{firstFailing}
-use Rattle.checker.specs.Checker.{answerFrom, StartsGood, answerEach}
-use Rattle.checker.proofs.Starts.{next-start, each-begins, each-ends, each-fails, each-goes}
+use Rattle.starts.specs.Starts.{answerFrom, StartsGood, answerEach}
+use Rattle.starts.proofs.Starts.{next-start, each-begins, each-ends, each-fails, each-goes}
 use borrow.Author.Needs.{needs}
-use Rattle.checker.proofs.run_each.Statement.{statement}
-use Rattle.checker.proofs.run_each.Tie as tie
+use Rattle.starts.proofs.run_each.Statement.{statement}
+use Rattle.starts.proofs.run_each.Tie as tie
 
 abbrev Inv-loop : tie.InvT-loop
 Inv-loop book h observed o left₀ at₀ k₀ left at k =
