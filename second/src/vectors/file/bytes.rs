@@ -20,7 +20,7 @@ fn hex(bytes: &[u8]) -> String {
 /// The parts of `bytes`: what is copied from `before`, what repeats, and what
 /// stands between.
 pub fn encode(bytes: &[u8], before: &[u8]) -> Vec<String> {
-    if bytes == before {
+    if bytes == before && !bytes.is_empty() {
         return vec![SAME.into()];
     }
     let copies = Copies::of(before);
@@ -157,6 +157,7 @@ mod tests {
         }
         assert!(decode("same", &[]).is_err());
         assert_eq!(decode("  ", &[]), Ok(Vec::new()));
+        assert_eq!(encode(&[], &[]), Vec::<String>::new());
         assert_eq!(decode("same @1+1 09*2", &[7, 8]), Ok(vec![7, 8, 8, 9, 9]));
     }
 }
