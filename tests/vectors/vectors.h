@@ -183,7 +183,7 @@ static void append_written(struct bytes *to, const char *part)
         }
 }
 
-/* The bytes before, `len` of them. */
+/* Some of the bytes before. */
 static void append_copied(struct bytes *to, size_t from, size_t len)
 {
     if (len == 0 || from > to->len_before || len > to->len_before - from)
