@@ -1,6 +1,6 @@
 /*
- * Builds the bytes of full books, their records, and orders (docs/FORMAT.md) in
- * memory that the caller lends. Counts, offsets and lengths are set here, and facts
+ * Builds the bytes of full books, their records, and orders (FORMAT.md) in memory
+ * that the caller lends. Counts, offsets and lengths are set here, and facts
  * may be given in any order. After builder_begin the parts come in the order of
  * their bytes:
  *   book    book_begin, book_parents if kinds have any, relations, moves, records,

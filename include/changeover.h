@@ -10,7 +10,7 @@
  *
  * Stack. A thread with a stack of 80 KiB can make every call, one of 32 KiB
  * every call but the three that write a book, which add a record and convert. In
- * these figures is what a call uses (at most some 19 KiB, those three some 66
+ * these figures is what a call uses (at most some 18 KiB, those three some 67
  * KiB), and what the C library takes of the same stack: for the thread itself
  * (some 4.5 KiB), and for the dynamic linker, which with lazy binding looks a
  * function up when it is first called, however deep in the call that is (some
@@ -38,7 +38,8 @@
  * An order has one plan and 1 to 16 starts, each a state that the hall may be in
  * when the plan begins. MEANING.md says all of this at length, FORMAT.md has the
  * bytes of books, orders and sheets; they are in share/doc/changeover, in the
- * sources in docs.
+ * sources in docs. Beside them, in examples, are programs and builder.h, which
+ * makes the bytes of books and orders.
  *
  * Forms. A book is full or short. In a full book each state lists the facts that
  * hold. In a short one a record's first state does so too, and each later one
