@@ -35,12 +35,10 @@ static const uint8_t order[45] = {
 /* Says what a call answered; 1 for success. */
 static int show(const char *job, uint64_t answer)
 {
-    uint32_t place = changeover_place(answer);
+    char message[CHANGEOVER_MESSAGE_MAX];
 
-    if (changeover_ok(answer))
-        printf("%s: good, %" PRIu32 "\n", job, place);
-    else
-        printf("%s: refused %u %" PRIu32 "\n", job, changeover_number(answer), place);
+    changeover_message(answer, message, sizeof message);
+    printf("%s: %s\n", job, message);
     return changeover_ok(answer);
 }
 

@@ -53,6 +53,14 @@ static void make_order(struct bytes *order, const struct plan *plan)
     order->len = order_end(&b);
 }
 
+static void print_answer(const char *before, uint64_t answer)
+{
+    char message[CHANGEOVER_MESSAGE_MAX];
+
+    changeover_message(answer, message, sizeof message);
+    printf("%s%s\n", before, message);
+}
+
 /* Whether an answer is the one that was to come; prints it if not. */
 static int expect(uint64_t answer, enum changeover_numbers number, uint32_t place,
                   unsigned position)
@@ -60,9 +68,7 @@ static int expect(uint64_t answer, enum changeover_numbers number, uint32_t plac
     if (changeover_number(answer) == number && changeover_place(answer) == place &&
         changeover_position(answer) == position)
         return 1;
-    printf("WRONG: %u %" PRIu32 ", start %u, %s\n", (unsigned)changeover_number(answer),
-           changeover_place(answer), changeover_position(answer),
-           changeover_words(changeover_number(answer)));
+    print_answer("WRONG: ", answer);
     return 0;
 }
 
@@ -176,9 +182,11 @@ static int checked(const struct bytes *book, const uint8_t *sheet, const struct 
                    enum changeover_numbers number, uint32_t place, unsigned position)
 {
     uint8_t end[CHANGEOVER_END_LEN];
+    uint64_t answer;
 
     print_plan(plan);
-    if (!expect(check(book, plan, end), number, place, position))
+    answer = check(book, plan, end);
+    if (!expect(answer, number, place, position))
         return 0;
     if (number == CHANGEOVER_SUCCESS) {
         printf("  passes, %" PRIu32 " steps\n", place);
@@ -188,9 +196,7 @@ static int checked(const struct bytes *book, const uint8_t *sheet, const struct 
             print_ends(book, plan);
         return 1;
     }
-    printf("  refused %u, %s %" PRIu32 ", start %u: %s\n", (unsigned)number,
-           number == CHANGEOVER_NEED_UNMET ? "step" : "entry", place, position,
-           changeover_words(number));
+    print_answer("  ", answer);
     if (number == CHANGEOVER_NEED_UNMET)
         print_unmet(book, sheet, plan, place, position);
     else

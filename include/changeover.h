@@ -133,9 +133,9 @@
  * answer mean; the shared library's soname has its number.
  */
 #define CHANGEOVER_VERSION_MAJOR 4
-#define CHANGEOVER_VERSION_MINOR 0
+#define CHANGEOVER_VERSION_MINOR 1
 #define CHANGEOVER_VERSION_PATCH 0
-#define CHANGEOVER_VERSION_STRING "4.0.0"
+#define CHANGEOVER_VERSION_STRING "4.1.0"
 /* One number that grows with the version, for #if. */
 #define CHANGEOVER_VERSION                                                    \
     (CHANGEOVER_VERSION_MAJOR * 1000000 + CHANGEOVER_VERSION_MINOR * 1000 +   \
@@ -198,7 +198,8 @@ enum changeover_lengths {
     CHANGEOVER_SHEET_MAX = 4096,
     CHANGEOVER_STARTS_MAX = 16,
     CHANGEOVER_ORDER_MAX = 12928,
-    CHANGEOVER_END_LEN = 512
+    CHANGEOVER_END_LEN = 512,
+    CHANGEOVER_MESSAGE_MAX = 256
 };
 
 /* Bytes of stack for a thread that neither adds nor converts, one that adds, one that converts. */
@@ -324,7 +325,7 @@ static inline const char *changeover_words(enum changeover_numbers number)
     case CHANGEOVER_OBJECT_TWICE:
         return "step with an object twice";
     case CHANGEOVER_UNBOUND_CHANGE:
-        return "a changed fact is no bound fact of its step";
+        return "a changed fact is no bound fact of its step; the book may be of the other form";
     case CHANGEOVER_CONFLICT:
         return "a bound fact was changed to one value, and after another step has the other";
     case CHANGEOVER_OUTPUT_LENGTH:
@@ -353,6 +354,109 @@ static inline const char *changeover_words(enum changeover_numbers number)
         return "record without steps";
     }
     return "no such number";
+}
+
+/*
+ * What the place of a number is, a # standing for the place; empty where that is
+ * always 0. Names that end in an underscore are for this header alone.
+ */
+static inline const char *changeover_place_words_(enum changeover_numbers number)
+{
+    switch (number) {
+    case CHANGEOVER_SUCCESS:
+        return ", #";
+    case CHANGEOVER_BOOK_LENGTH:
+    case CHANGEOVER_HEADER_COUNT:
+    case CHANGEOVER_HEADER_OFFSET:
+    case CHANGEOVER_OUTPUT_LENGTH:
+    case CHANGEOVER_ORDER_HEADER:
+    case CHANGEOVER_START_COUNT:
+    case CHANGEOVER_CONVERTED_LENGTH:
+        return "";
+    case CHANGEOVER_PARENT:
+    case CHANGEOVER_RELATION:
+    case CHANGEOVER_MOVE:
+    case CHANGEOVER_RECORD:
+    case CHANGEOVER_NO_STEPS:
+    case CHANGEOVER_OBJECT:
+    case CHANGEOVER_STATE:
+    case CHANGEOVER_STEP:
+    case CHANGEOVER_OBJECT_TWICE:
+    case CHANGEOVER_UNBOUND_CHANGE:
+        return ", offset # in the book";
+    case CHANGEOVER_CONFLICT:
+        return ", move #";
+    case CHANGEOVER_ORDER_OBJECT:
+    case CHANGEOVER_START:
+    case CHANGEOVER_GOAL_ENTRY:
+    case CHANGEOVER_PLAN_STEP:
+        return ", offset # in the order";
+    case CHANGEOVER_NEED_UNMET:
+        return ", step #";
+    case CHANGEOVER_GOAL_MISSED:
+        return ", goal entry #";
+    }
+    return ", place #";
+}
+
+/*
+ * Puts a text into a message that has so many bytes already (at), the value for a
+ * #. What would leave no byte for the closing 0 is counted and not written. Returns
+ * how many bytes the message has then.
+ */
+static inline size_t changeover_put_(char *buffer, size_t length, size_t at, const char *text,
+                                     uint32_t value)
+{
+    for (; *text != '\0'; text++) {
+        uint32_t unit = 1; /* of the digit that is put; any other byte is put once */
+
+        while (*text == '#' && value / unit >= 10)
+            unit *= 10;
+        for (; unit != 0; unit /= 10) {
+            if (at + 1 < length)
+                buffer[at] = *text == '#' ? (char)('0' + value / unit % 10) : *text;
+            at++;
+        }
+    }
+    return at;
+}
+
+/*
+ * Writes an answer as a text for messages: the number, the place as what it is,
+ * by 19 and 20 the start, and the words of the number:
+ *   refused 19, step 2, start 1: a learned need is unmet in the plan
+ *   refused 20, goal entry 4, start 3: a goal entry is false at the end
+ *   refused 7, offset 34 in the book: object cut, or of no such kind
+ *   refused 15, offset 16 in the order: order object of no such kind
+ *   refused 13: lent output of wrong length
+ *   success, 58
+ * A place that is always 0 is left out. The answer does not say which call gave
+ * it: so on success the place stands alone, and each call says what it counts;
+ * and where a record was added, the book is the new one. The place of a number
+ * that this header does not have is called "place".
+ * As snprintf does it, this writes at most length bytes, the last of them 0, and
+ * returns how long the whole text is without that 0; if this is not less than
+ * length, the text was cut. CHANGEOVER_MESSAGE_MAX bytes are enough for every
+ * answer. If length is 0, nothing is written, and the buffer may be NULL.
+ */
+static inline size_t changeover_message(uint64_t answer, char *buffer, size_t length)
+{
+    enum changeover_numbers number = changeover_number(answer);
+    const char *words = changeover_words(number);
+    const char *place = changeover_place_words_(number);
+    const char *front = changeover_ok(answer) ? words : "refused #";
+    size_t at = changeover_put_(buffer, length, 0, front, (uint32_t)number);
+
+    at = changeover_put_(buffer, length, at, place, changeover_place(answer));
+    if (changeover_position(answer) != 0)
+        at = changeover_put_(buffer, length, at, ", start #", changeover_position(answer));
+    if (!changeover_ok(answer)) {
+        at = changeover_put_(buffer, length, at, ": ", 0);
+        at = changeover_put_(buffer, length, at, words, 0);
+    }
+    if (length != 0)
+        buffer[at < length ? at : length - 1] = '\0';
+    return at;
 }
 
 /*
