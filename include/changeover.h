@@ -60,14 +60,15 @@
  *   bits 48 to 63   number: 0 success, else the refusal below
  *   bits 32 to 47   by 19 and 20 the position of the start, from 1; else 0
  *   bits  0 to 31   place
- * A refusal leaves all lent memory as it was. The rows are tested in the order of
- * the table, in which 21 stands after 3, 24 after the first 6, 23 before 13 and 22
- * between the two of 14, each thing of a row in file order; "rows 1 to 10" are
- * those from 1 to 10 in it, 21 and 24 among them. But 6 to 10 as they come up in
- * the records: a record's head (6, then 24), objects, state, step (9, then 10),
- * state and so on, its tail, then the next record. And 19 and 20 for one start
- * after the other: 19, 20, then the next start. The answer is the first that is
- * met.
+ * A refusal leaves all lent memory as it was. The answer is the first row of the
+ * table that is met. The table is in the order of the tests: 21, 24, 23 and 22
+ * stand where they are tested, and "rows 1 to 10" are those from 1 to 10 in it, 21
+ * and 24 among them. A row is tested for all that it speaks of, in file order,
+ * before the next row is, except that
+ *   - the records are read one after the other, each to its end: its head (6, then
+ *     24), its objects (7), a state (8), a step (9, then 10), a state and so on,
+ *     and bytes left in it (6); then come bytes left after the last record (6)
+ *   - the starts are tried one after the other, each by 19, then by 20
  *
  *   No.  met when                                          place
  *    0   success                                           see each call

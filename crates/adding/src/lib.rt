@@ -1,4 +1,4 @@
-// Adding a record to a book of either form, the record being in the book's form: the fourth job. The new book is formed beside the lent output and its record looked over there, so that a refusal
+// Adding a record to a book of either form, the record being in the book's form. The new book is formed beside the lent output and its record looked over there, so that a refusal
 // leaves the output untouched. Uses answer, input, limits, output, terms, lookover and the definitions of jobs. Each record of the new book is read once.
 use answer::Answer;
 use terms::Sections;

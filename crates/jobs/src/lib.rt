@@ -1,4 +1,4 @@
-// The four jobs as definitions: what each answers and which bytes it leaves, and what the judge says. No code but
+// Learning, checking, adding and converting as definitions: what each answers and which bytes it leaves, and what the judge says. No code but
 // the numbers of a move's sets.
 
 // The four sets of a move on a rule sheet, in their order, as specs/SheetBits.antt has them: needed to hold, needed not to hold, added, removed.

@@ -37,7 +37,8 @@ pub record SameBooks (f g : Form) (s t : List ℕ) (n : ℕ) : Type 0 where
   pub comparable : Comparable f g s t n
   pub steps : unplaced (stepsOfBook f s) ≡ unplaced (stepsOfBook g t)
 
--- they have the same transitions: a step, states included, that is recorded in the one is recorded in the other, in whatever sequence and however often
+-- they have the same transitions: a step, states included, that is recorded in the one is recorded in the other. The sequence may differ, and how often
+-- a step is recorded; but both books have as many steps in all, since the place of success is their number
 pub record SameTransitions (f g : Form) (s t : List ℕ) (n : ℕ) : Type 0 where
   pub comparable : Comparable f g s t n
   pub steps : (x : RecordedStep) → Mem x (unplaced (stepsOfBook f s)) ↔ Mem x (unplaced (stepsOfBook g t))

@@ -11,7 +11,7 @@ use std::process::ExitCode;
 #[path = "shared/library.rs"]
 mod library;
 
-/// Of the cases run, at least this many in 24,000 must be books that learn.
+/// Of 48,000 cases of learning, at least this many must be books that learn.
 #[cfg(archive)]
 const LEARNING: usize = 20_000;
 
@@ -72,7 +72,7 @@ fn compare_job(
             println!("{call}: no difference in {} cases, {seconds:.1} s", run.count);
             println!("{tally}");
             let mut missing = tally.missing(job.numbers());
-            if job == Job::Learn && 2 * 24_000 * tally.times(0) < LEARNING * run.count {
+            if job == Job::Learn && 48_000 * tally.times(0) < LEARNING * run.count {
                 missing.push(format!("books that learn: {}", tally.times(0)));
             }
             for line in &missing {
