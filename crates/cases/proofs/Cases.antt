@@ -1,5 +1,7 @@
 -- Every case is as the paper says: the checker computes them, but for the two books at the limit of 60,000 bytes.
+use Prim.Native.Nat.{ℕ}
 use mathlib.Core.Path.{refl}
+use mathlib.Core.List.{List, [], _∷_, _++_}
 use Rattle.answer.specs.Answer.{_>>=_, refuse, isRefused, number, place, unpositioned, thenAt, kept}
 use Rattle.answer.specs.Walk.{walk}
 use Rattle.input.specs.Bytes.{byteAt, two}
@@ -28,9 +30,57 @@ use Rattle.jobs.specs.Check.{planRun, orderRun, goalAnswer, runAnswer, startAns
 use Rattle.jobs.specs.Add.{added, add, addBytes}
 use Rattle.jobs.specs.Convert.{factsBytes, listBytes, stepBytes, listed, stepsBytes, bytesAt, bodyBytes, recordBytes, recordsBytes, allRecordsBytes, converted, convert, convertBytes}
 use Rattle.jobs.specs.Listing.{digits, decimal, refusedLine, needLetter, effectLetter, paramShown, atomFront, atomLine, lineIfAtom, atomLines, moveLines, countsLine, rulesLines, rulesPrinted, planLine, planPrinted}
+use Rattle.cases.specs.Marked.{Case, marked}
+use Rattle.cases.specs.Further.{kindsUnder, severalStarts}
+use Rattle.cases.specs.Shorts.{shortBooks}
+use Rattle.cases.specs.Adding.{recordsAdded}
+use Rattle.cases.specs.Stepless.{recordsOfNothing}
+use Rattle.cases.specs.Sequences.{filedLate}
 use Rattle.cases.specs.Cases.{cases, AllRight}
 use Rattle.cases.proofs.LongBook.{long-right, longer-right}
 
-pub cases-right : AllRight cases
+-- The definitions that are computed: `unfolding opened` opens them all. Its value is not used.
+unfoldable opened : ℕ
 unfolding _>>=_ refuse number place walk byteAt two sectionsOf outOfRange parentAt relationAt moveAt schema typedObjects suitsWithin kindSuits objectBad factAt factBad precedes noFact factNumber objectOf stepAt argumentBad stepBad samePair repeats atomRelation atomFirst atomSecond parameterFills isAtom placed ground lengthBad countsBad offsetsBad parentBad kindBad relationBad moveBad parent relation move sections cut countBad factRefused facts list nextState mostListed stateAfter toggle toggled objectsIn stepsIn lengthIn headBad recordHead object stepRefused step steps objectsOf trajectory closed body recordAt stepTotal allRecords lookOverBy lookOver factsAt listAt listEnd recordedStep recordedStepsAt stepsOfRecord stepsOfRecords recordedSteps objectCount startCount goalCount stepCount startAt goalAt stepsAt orderCountsBad orderOffsetsBad orderHeader orderObjects orderObject entryBad entries planStepBad planStep fromGoal startsForm fromStart orderForm startsFrom starts entryAt goalFrom goal planFrom plan maskOf same below any has later first least image inapplicable next run wrong saw before after turned learned unboundEffect conflicting domain holding groundAction transition goalEntry schemaOf stepsOfBook transitionsOf startStates planOf goalOf unboundEffects conflictAnswer conflictingMove learnable ruleRow ruleRows learnedFrom ruleSheet learn kept learnBytes planRun orderRun goalAnswer runAnswer startAnswer firstFailing startsAnswer beforePlan check endSheet endAfter checkBytes isRefused unpositioned thenAt twoBytes added add addBytes factsBytes listBytes stepBytes listed stepsBytes bytesAt bodyBytes recordBytes recordsBytes allRecordsBytes converted convert convertBytes digits decimal refusedLine needLetter effectLetter paramShown atomFront atomLine lineIfAtom atomLines moveLines countsLine rulesLines rulesPrinted planLine planPrinted
-cases-right = (refl, (refl, (refl, (refl, (refl, (refl, (refl, (refl, (refl, (refl, (refl, (refl, (refl, (refl, (refl, (refl, (refl, (refl, (refl, (refl, (long-right, (longer-right, (refl, (refl, (refl, (refl, (refl, (refl, (refl, (refl, (refl, (refl, (refl, (refl, (refl, (refl, (refl, (refl, (refl, (refl, (refl, (refl, (refl, (refl, (refl, (refl, (refl, (refl, (refl, (refl, (refl, (refl, (refl, (refl, (refl, (refl, (refl, (refl, (refl, (refl, (refl, (refl, (refl, (refl, (refl, (refl, (refl, (refl, (refl, (refl, (refl, (refl, (refl, (refl, (refl, (refl, (refl, (refl, (refl, (refl, (refl, (refl, (refl, (refl, (refl, (refl, (refl, (refl, (refl, (refl, (refl, (refl, (refl, (refl, (refl, (refl, (refl, (refl, (refl, (refl, (refl, (refl, (refl, (refl, (refl, (refl, (refl, (refl, (refl, (refl, (refl, tt)))))))))))))))))))))))))))))))))))))))))))))))))))))))))))))))))))))))))))))))))))))))))))))))))))))))))))))))
+opened = 0
+
+-- One declaration for each list that `cases` joins: the checker computes at most 50,000,000 steps in one.
+marked-right : AllRight marked
+unfolding AllRight opened
+marked-right = (refl, (refl, (refl, (refl, (refl, (refl, (refl, (refl, (refl, (refl, (refl, (refl, (refl, (refl, (refl, (refl, (refl, (refl, (refl, (refl, (long-right, (longer-right, tt))))))))))))))))))))))
+
+kinds-under-right : AllRight kindsUnder
+unfolding AllRight opened
+kinds-under-right = (refl, (refl, (refl, (refl, (refl, (refl, (refl, (refl, (refl, (refl, (refl, (refl, (refl, (refl, (refl, (refl, (refl, (refl, tt))))))))))))))))))
+
+several-starts-right : AllRight severalStarts
+unfolding AllRight opened
+several-starts-right = (refl, (refl, (refl, (refl, (refl, (refl, (refl, (refl, (refl, (refl, (refl, (refl, (refl, (refl, (refl, tt)))))))))))))))
+
+short-books-right : AllRight shortBooks
+unfolding AllRight opened
+short-books-right = (refl, (refl, (refl, (refl, (refl, (refl, (refl, (refl, (refl, (refl, (refl, (refl, (refl, (refl, (refl, (refl, (refl, (refl, tt))))))))))))))))))
+
+records-added-right : AllRight recordsAdded
+unfolding AllRight opened
+records-added-right = (refl, (refl, (refl, (refl, (refl, tt)))))
+
+records-of-nothing-right : AllRight recordsOfNothing
+unfolding AllRight opened
+records-of-nothing-right = (refl, (refl, (refl, (refl, (refl, (refl, (refl, (refl, (refl, (refl, (refl, (refl, (refl, (refl, tt))))))))))))))
+
+filed-late-right : AllRight filedLate
+unfolding AllRight opened
+filed-late-right = (refl, (refl, (refl, (refl, (refl, (refl, (refl, (refl, (refl, (refl, (refl, (refl, (refl, (refl, (refl, (refl, (refl, (refl, (refl, tt)))))))))))))))))))
+
+joined : (cs ds : List Case) → AllRight cs → AllRight ds → AllRight (cs ++ ds)
+unfolding AllRight
+joined [] ds l r = r
+joined (c ∷ cs) ds (h, l) r = (h, joined cs ds l r)
+
+pub cases-right : AllRight cases
+cases-right =
+    joined _ _ marked-right
+    (joined _ _ kinds-under-right
+    (joined _ _ several-starts-right
+    (joined _ _ short-books-right (joined _ _ records-added-right (joined _ _ records-of-nothing-right filed-late-right)))))

@@ -12,6 +12,6 @@ use Rattle.cases.specs.Sequences.{filedLate}
 abbrev pub cases : List Case
 cases = marked ++ (kindsUnder ++ (severalStarts ++ (shortBooks ++ (recordsAdded ++ (recordsOfNothing ++ filedLate)))))
 
-abbrev pub AllRight : List Case → Type 0
+unfoldable pub AllRight : List Case → Type 0
 AllRight [] = Unit {0}
 AllRight (c ∷ cs) = (c .gives ≡ c .wanted) × AllRight cs
