@@ -1,16 +1,15 @@
 -- Demand 3, proved: bytes of good form meet the hypotheses of `model`, whose verdict theorem says what the plan comes to from each start.
--- The check's answer is then that of the first start that fails.
-use Prim.Native.Nat.{ℕ, suc, _+_, _*_, _≤_, _<_}
-use mathlib.Core.Path.{_≡_, refl, sym, ap, _∙_, subst}
+-- The check's answer is then what these verdicts come to.
+use Prim.Native.Nat.{ℕ, _*_, _≤_, _<_}
+use mathlib.Core.Path.{_≡_, refl, sym, ap, ap₂, _∙_}
 use mathlib.Core.Logic.{_⊎_, inl, inr, _↔_}
 use mathlib.Core.Bool.{true, false}
-use mathlib.Core.List.{List, [], _∷_, _++_}
+use mathlib.Core.List.{List, [], _∷_, map}
 use native.Mathlib.Omega.{arith}
 use lib.ListN.{length}
 use Rattle.limits.specs.Limits.{stateSize, endSheetSize, maxFactNumbers, maxStarts}
 use Rattle.answer.specs.declared.Answer.{Answer}
 use Rattle.answer.specs.declared.Answer.the-variants.{Good, Refused}
-use Rattle.answer.specs.declared.Positioned.{Positioned}
 use Rattle.answer.specs.Answer.{_>>=_, isRefused, number, unpositioned, kept}
 use Rattle.truth.specs.Bools.{clash, decide, is-true}
 use Rattle.answer.specs.Laws.{kept-same, bind-good, bind-refused, bind-assoc, refuse-unmet}
@@ -26,7 +25,6 @@ use Rattle.model.specs.Domain.{State, GroundAction, GoalLiteral}
 use Rattle.model.specs.Judge.{Verdict, impossible, passes}
 use Rattle.model.specs.Check.{judgedRun, checked}
 use Rattle.model.specs.Formed.{Grounded}
-use Rattle.model.proofs.Members.{some-member}
 use Rattle.model.proofs.Judge.{unique}
 use Rattle.model.proofs.Impossible.{learned-valid}
 use Rattle.model.specs.Exact.{Exact}
@@ -42,8 +40,8 @@ use Rattle.wellformed.proofs.Formed.{formed}
 use Rattle.wellformed.proofs.Orders.{grounded, plan-under, length-start-states, start-under}
 use Rattle.wellformed.proofs.Ends.{Under, run-under}
 use Rattle.wellformed.proofs.Learnable.{inconsistentIn, learnable-clean, learnable-inconsistent}
-use Rattle.demand.proofs.Failing.{comes, pass-comes, AllRunsPass, from-failing, failing-answers, past, none-fails, all-pass}
-use Rattle.demand.specs.Demand3.{NoneFits, Impossible, Answers, Passed, AllPass, Shows, Demand3}
+use Rattle.demand.proofs.Failing.{comes, pass-comes, from-failing, failing-by}
+use Rattle.demand.specs.Demand3.{NoneFits, Impossible, Verdicts, none, more, answerBy, Shows, Demand3}
 
 -- ---- answers
 refused-impossible : (a : Answer) (num p : ℕ) → a ≡ Refused num p → (num ≡ 11) ⊎ (num ≡ 12) → Impossible a
@@ -51,7 +49,7 @@ unfolding number
 refused-impossible a num p e h = rw e h
 
 -- neither 11 nor 12 is 0
-not-passed : (a : Answer) → Impossible a → number a ≡ 0 → ⊥
+pub not-passed : (a : Answer) → Impossible a → number a ≡ 0 → ⊥
 not-passed a (inl e) z = omega arith
 not-passed a (inr e) z = omega arith
 
@@ -88,13 +86,13 @@ module _ (form : Form) (s : List ℕ) (n : ℕ) (good : lookOver form s ≡ Good
         (from-bind 13 _ _ (from-row 13 _ 13 0 _ refl (from-earlier 13 14 _ refl (order-met (schemaOf s) o)))
         (λ y. from-failing (stepCount o) (goalOf o) (orderRun form s o) 1 (startStates o)))
 
-    -- and where checking answers so, it is about no start
-    inconsistent-check : inconsistentIn form s ≡ true → Impossible (check form s o size .answer) × (check form s o size .position ≡ 0)
-    unfolding check beforePlan unpositioned isRefused
+    -- and where checking answers so, it answers as learning does, about no start
+    inconsistent-check : inconsistentIn form s ≡ true → check form s o size ≡ unpositioned (learnable form s)
+    unfolding check beforePlan isRefused
     inconsistent-check e =
         let (num, p, q, h) = learnable-inconsistent form s n good e in
-        let refused = then-refused (beforePlan form s o size) (startsAnswer form s o) (rw (bind-refused (learnable form s) _ num p q)) in
-        (checking .1 (judge .unfit .0 e), sym (ap (λ (r : Positioned). r .position) refused))
+        let refused = bind-refused (learnable form s) _ num p q in
+        sym (then-refused (beforePlan form s o size) (startsAnswer form s o) (rw refused)) ∙ ap unpositioned (refused ∙ sym q)
 
   -- ---- a plan from any start, with any goal
   module _ (start : State) (plan : List GroundAction) (goal : List GoalLiteral) (grounded : Grounded (domain (schemaOf s)) plan) where
@@ -157,44 +155,30 @@ module _ (form : Form) (s : List ℕ) (n : ℕ) (good : lookOver form s ≡ Good
       unfolding orderRun
       start-verdict start = run-verdict start (planOf (schemaOf s) o) (goalOf o) proper clean
 
-      runs-pass : (starts : List State) → AllPass form s o starts ↔ AllRunsPass (stepCount o) (goalOf o) (orderRun form s o) starts
-      runs-pass starts = (
-        λ all start i. let (end, h) = all start i in (end, start-verdict start (passes end) .0 h),
-        λ all start i. let (end, h) = all start i in (end, start-verdict start (passes end) .1 h),
-      )
+      run-verdicts : (starts : List State) (vs : List Verdict) → Verdicts form s o starts vs
+          → map (λ start. judgedRun (goalOf o) (orderRun form s o start)) starts ≡ vs
+      run-verdicts [] [] none = refl
+      run-verdicts (start ∷ starts) (v ∷ vs) (more h each) =
+          ap₂ (λ (x : Verdict) (xs : List Verdict). x ∷ xs) (start-verdict start v .0 h) (run-verdicts starts vs each)
 
-    verdict : (before : List State) (start : State) (rest : List State) → startStates o ≡ before ++ (start ∷ rest) → AllPass form s o before
-        → (v : Verdict) → StartVerdict form s o start v → Answers (suc (length before)) v (check form s o endSheetSize)
+    -- where no model fits, the first verdict is impossible
+    inconsistent-first : inconsistentIn form s ≡ true → (refusal : Answer) (starts : List State) (vs : List Verdict) → 1 ≤ length starts → Verdicts form s o starts vs
+        → unpositioned refusal ≡ answerBy refusal (stepCount o) 1 vs
+    unfolding answerBy
+    inconsistent-first e refusal [] vs some each = absurd (omega arith)
+    inconsistent-first e refusal (start ∷ starts) (v ∷ vs) some (more h each) =
+        ap (λ (x : Verdict). answerBy refusal (stepCount o) 1 (x ∷ vs)) (inconsistent-verdict start (planOf (schemaOf s) o) (goalOf o) proper e v h)
+
+    verdicts : (vs : List Verdict) → Verdicts form s o (startStates o) vs → check form s o endSheetSize ≡ answerBy (learnable form s) (stepCount o) 1 vs
     unfolding startsAnswer startAnswer
-    verdict before start rest parts all v h = go (decide (inconsistentIn form s))
+    verdicts vs each = go (decide (inconsistentIn form s))
       where
-        go : (inconsistentIn form s ≡ true) ⊎ (inconsistentIn form s ≡ false) → Answers (suc (length before)) v (check form s o endSheetSize)
-        go (inl e) =
-            subst (λ (w : Verdict). Answers (suc (length before)) w (check form s o endSheetSize))
-            (inconsistent-verdict start (planOf (schemaOf s) o) (goalOf o) proper e v h) (inconsistent-check o endSheetSize e)
+        go : (inconsistentIn form s ≡ true) ⊎ (inconsistentIn form s ≡ false) → check form s o endSheetSize ≡ answerBy (learnable form s) (stepCount o) 1 vs
+        go (inl e) = inconsistent-check o endSheetSize e ∙ inconsistent-first e (learnable form s) (startStates o) vs (some-starts .0) each
         go (inr e) =
-            let same = start-verdict e start v .0 h in
-            let moved = past (stepCount o) (goalOf o) (orderRun form s o) before (start ∷ rest) 1 (suc (length before)) (omega arith) (runs-pass e before .0 all) in
-            rw (check-starts e, parts, moved, ← same) (failing-answers (stepCount o) (goalOf o) (orderRun form s o) (suc (length before)) start rest)
-
-    pass : AllPass form s o (startStates o) → Passed (stepCount o) (check form s o endSheetSize)
-    unfolding startsAnswer startAnswer
-    pass all = go (decide (inconsistentIn form s))
-      where
-        go : (inconsistentIn form s ≡ true) ⊎ (inconsistentIn form s ≡ false) → Passed (stepCount o) (check form s o endSheetSize)
-        go (inl e) =
-            let (start, i) = some-member (startStates o) (some-starts .0) in
-            let (end, h) = all start i in
-            absurd (inconsistent-fails start (planOf (schemaOf s) o) (goalOf o) proper e end h)
-        go (inr e) = rw (check-starts e) (none-fails (stepCount o) (goalOf o) (orderRun form s o) (startStates o) 1 (runs-pass e (startStates o) .0 all))
-
-    only : number (check form s o endSheetSize .answer) ≡ 0 → AllPass form s o (startStates o)
-    unfolding startsAnswer startAnswer
-    only z = go (decide (inconsistentIn form s))
-      where
-        go : (inconsistentIn form s ≡ true) ⊎ (inconsistentIn form s ≡ false) → AllPass form s o (startStates o)
-        go (inl e) = absurd (not-passed (check form s o endSheetSize .answer) (inconsistent-check o endSheetSize e .0) z)
-        go (inr e) = runs-pass e (startStates o) .1 (all-pass (stepCount o) (goalOf o) (orderRun form s o) (startStates o) 1 (rw (check-starts e) at z))
+            check-starts e
+            ∙ failing-by (stepCount o) (goalOf o) (orderRun form s o) (learnable form s) 1 (startStates o)
+            ∙ ap (answerBy (learnable form s) (stepCount o) 1) (run-verdicts e (startStates o) vs each)
 
     sheet : (start : State) → startStates o ≡ start ∷ [] → (end : State) → StartVerdict form s o start (passes end)
         → (lent : List ℕ) → length lent ≡ endSheetSize → Shows (checkBytes form s o lent) end
@@ -221,9 +205,7 @@ demand3 form s n good =
       unfit = λ o start. (λ h. h, λ h. h);
       learning = learning form s n good;
       checking = checking form s n good;
-      verdict = verdict form s n good;
-      pass = pass form s n good;
-      only = only form s n good;
+      verdicts = verdicts form s n good;
       sheet = sheet form s n good;
       unwritten = unwritten form s n good;
       starts = some-starts form s n good;

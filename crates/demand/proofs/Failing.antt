@@ -1,24 +1,23 @@
 -- What a plan comes to from one start, as a verdict and as an answer, and from a list of starts: the first that fails. No book is asked.
-use Prim.Native.Nat.{ℕ, zero, suc, _+_}
+use Prim.Native.Nat.{ℕ, zero, suc}
 use mathlib.Core.Path.{_≡_, refl, sym, ap, _∙_}
 use mathlib.Core.Bool.{true, false}
-use mathlib.Core.List.{List, [], _∷_, _++_, append-nil}
+use mathlib.Core.List.{List, [], _∷_, map}
 use native.Mathlib.Omega.{arith}
-use lib.ListN.{length}
 use Rattle.answer.specs.declared.Answer.{Answer}
 use Rattle.answer.specs.declared.Answer.the-variants.{Good, Refused}
 use Rattle.answer.specs.declared.Positioned.{Positioned}
-use Rattle.answer.specs.Answer.{isRefused, number, place, unpositioned}
+use Rattle.answer.specs.Answer.{isRefused, unpositioned}
 use Rattle.answer.specs.Table.{table, rowFrom, row, upTo, MetFrom}
 use Rattle.answer.specs.Refusals.{from-good, from-refused}
-use Rattle.model.specs.Quantify.{Mem, here, there, first}
+use Rattle.model.specs.Quantify.{first}
 use Rattle.model.specs.Domain.{State, GoalLiteral}
 use Rattle.model.specs.Model.{Run, stopped, ended}
 use Rattle.model.specs.Judge.{Verdict, stops, misses, passes, wrong}
 use Rattle.model.specs.Check.{reached, judgedRun}
 use Rattle.jobs.specs.Check.{goalAnswer, runAnswer, firstFailing}
 use Rattle.jobs.proofs.Starts.{failing-none, failing-here, failing-later}
-use Rattle.demand.specs.Demand3.{Answers, Passed}
+use Rattle.demand.specs.Demand3.{answerBy}
 
 -- ---- one start
 -- what a run comes to, with the goal: as a verdict, and as an answer
@@ -59,21 +58,17 @@ unfolding isRefused
 from-turn k (Good n) next whole t from later = rw (t .1 refl) later
 from-turn k (Refused num p) next whole t from later = rw (t .0 refl) from
 
-module _ (steps k : ℕ) (next whole : Positioned) where
-  -- a verdict that is no pass is the answer, at the position of its start
-  turn-answers : (r : Run) (v : Verdict) (a : Answer) → Comes steps r v a → Turn k a next whole → Answers k v whole
-  unfolding isRefused number place
-  turn-answers r v a (stopping j) t = rw (t .0 refl) (refl, refl, refl)
-  turn-answers r v a (missing end i) t = rw (t .0 refl) (refl, refl, refl)
-  turn-answers r v a (passing end) t = tt
+by-none : (refusal : Answer) (steps k : ℕ) → answerBy refusal steps k [] ≡ unpositioned (Good steps)
+unfolding answerBy
+by-none refusal steps k = refl
 
-  -- number 0 is that of a pass, with no failure after it
-  turn-passes : (r : Run) (v : Verdict) (a : Answer) → Comes steps r v a → Turn k a next whole
-      → number (whole .answer) ≡ 0 → ((end : State) × (v ≡ passes end)) × (number (next .answer) ≡ 0)
-  unfolding isRefused number
-  turn-passes r v a (stopping j) t e = absurd (let z : 19 ≡ 0 = rw (t .0 refl) at e in omega arith)
-  turn-passes r v a (missing end i) t e = absurd (let z : 20 ≡ 0 = rw (t .0 refl) at e in omega arith)
-  turn-passes r v a (passing end) t e = ((end, refl), rw (t .1 refl) at e)
+-- what a start's verdict and those after it come to is the answer, too
+turn-by : (refusal : Answer) (steps k : ℕ) (next whole : Positioned) (r : Run) (v : Verdict) (a : Answer) (vs : List Verdict)
+    → Comes steps r v a → Turn k a next whole → next ≡ answerBy refusal steps (suc k) vs → whole ≡ answerBy refusal steps k (v ∷ vs)
+unfolding isRefused answerBy
+turn-by refusal steps k next whole r v a vs (stopping j) t e = t .0 refl
+turn-by refusal steps k next whole r v a vs (missing end i) t e = t .0 refl
+turn-by refusal steps k next whole r v a vs (passing end) t e = t .1 refl ∙ e
 
 module _ (steps : ℕ) (goal : List GoalLiteral) (runs : State → Run) where
   -- the answer of each start alone, and that of the first in a list that fails
@@ -82,13 +77,6 @@ module _ (steps : ℕ) (goal : List GoalLiteral) (runs : State → Run) where
 
   abbrev pub failing : ℕ → List State → Positioned
   failing = firstFailing alone steps
-
-  -- the run from the start comes to a pass; so does each run from a list
-  abbrev pub RunPasses : State → Type 0
-  RunPasses start = (end : State) × (judgedRun goal (runs start) ≡ passes end)
-
-  abbrev pub AllRunsPass : List State → Type 0
-  AllRunsPass starts = (start : State) → Mem start starts → RunPasses start
 
   first-turn : (k : ℕ) (start : State) (rest : List State) → Turn k (alone start) (failing (suc k) rest) (failing k (start ∷ rest))
   first-turn k start rest = (failing-here alone steps k start rest, failing-later alone steps k start rest)
@@ -99,30 +87,8 @@ module _ (steps : ℕ) (goal : List GoalLiteral) (runs : State → Run) where
   from-failing k (start ∷ rest) =
       from-turn k _ _ _ (first-turn k start rest) (from-comes steps _ _ _ (comes steps goal (runs start))) (from-failing (suc k) rest)
 
-  -- the first start of a list: its verdict, and what number 0 says of it
-  pub failing-answers : (k : ℕ) (start : State) (rest : List State) → Answers k (judgedRun goal (runs start)) (failing k (start ∷ rest))
-  failing-answers k start rest = turn-answers steps k _ _ _ _ _ (comes steps goal (runs start)) (first-turn k start rest)
-
-  failing-passes : (k : ℕ) (start : State) (rest : List State) → number (failing k (start ∷ rest) .answer) ≡ 0
-      → RunPasses start × (number (failing (suc k) rest .answer) ≡ 0)
-  failing-passes k start rest e = turn-passes steps k _ _ _ _ _ (comes steps goal (runs start)) (first-turn k start rest) e
-
-  -- starts that pass only move the position on
-  pub past : (before rest : List State) (k at : ℕ) → at ≡ k + length before → AllRunsPass before → failing k (before ++ rest) ≡ failing at rest
-  unfolding isRefused
-  past [] rest k at e all = ap (λ (x : ℕ). failing x rest) (omega arith)
-  past (start ∷ before) rest k at e all =
-      let (end, passed) = all start here in
-      let good = pass-comes steps _ _ _ (comes steps goal (runs start)) end passed .1 in
-      failing-later alone steps k start _ (rw good) ∙ past before rest (suc k) at (omega arith) (λ other m. all other (there m))
-
-  -- where all pass the answer is the step count, at no position
-  pub none-fails : (starts : List State) (k : ℕ) → AllRunsPass starts → Passed steps (failing k starts)
-  unfolding unpositioned number place
-  none-fails starts k all =
-      rw (ap (failing k) (sym (append-nil starts)) ∙ past starts [] k (k + length starts) refl all ∙ failing-none alone steps _) (refl, refl, refl)
-
-  -- and they all pass where the number is 0
-  pub all-pass : (starts : List State) (k : ℕ) → number (failing k starts .answer) ≡ 0 → AllRunsPass starts
-  all-pass (start ∷ rest) k e other here = failing-passes k start rest e .0
-  all-pass (start ∷ rest) k e other (there m) = all-pass rest (suc k) (failing-passes k start rest e .1) other m
+  -- The first start that fails gives what the verdicts come to.
+  pub failing-by : (refusal : Answer) (k : ℕ) (starts : List State) → failing k starts ≡ answerBy refusal steps k (map (λ start. judgedRun goal (runs start)) starts)
+  failing-by refusal k [] = failing-none alone steps k ∙ sym (by-none refusal steps k)
+  failing-by refusal k (start ∷ rest) =
+      turn-by refusal steps k _ _ _ _ _ _ (comes steps goal (runs start)) (first-turn k start rest) (failing-by refusal (suc k) rest)

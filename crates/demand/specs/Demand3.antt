@@ -1,27 +1,26 @@
 -- Demand 3, whole: what learning and checking say of a book of good form is what the judge says, who never sees the rule sheet.
 -- The judge is `FitsBook` and `StartVerdict` of jobs/specs/Judge.antt; `learn`, `check` and `checkBytes` are what the calls return and leave
--- behind. His verdict is on one start of an order alone; an order has some starts, and the check answers for the first that fails.
+-- behind. His verdict is on one start of an order alone; the check's answer is made of his verdicts on all of its starts (`answerBy`).
 use Prim.Native.Nat.{ℕ, suc, _≤_, _<_}
 use mathlib.Core.Path.{_≡_}
 use mathlib.Core.Logic.{_⊎_, _↔_}
 use mathlib.Core.Bool.{false}
-use mathlib.Core.List.{List, [], _∷_, _++_}
+use mathlib.Core.List.{List, [], _∷_}
 use lib.ListN.{length}
 use Rattle.limits.specs.Limits.{endSheetSize, maxFactNumbers, maxStarts}
 use Rattle.answer.specs.declared.Answer.{Answer}
-use Rattle.answer.specs.declared.Answer.the-variants.{Good}
+use Rattle.answer.specs.declared.Answer.the-variants.{Good, Refused}
 use Rattle.answer.specs.declared.Positioned.{Positioned}
-use Rattle.answer.specs.Answer.{number, place}
+use Rattle.answer.specs.Answer.{number, unpositioned}
 use Rattle.mask.specs.Bits.{testBit}
 use Rattle.format.specs.Form.{Form}
 use Rattle.format.specs.LookOver.{lookOver}
 use Rattle.format.specs.Order.{stepCount, orderForm}
-use Rattle.model.specs.Quantify.{Mem}
 use Rattle.model.specs.Domain.{State}
 use Rattle.model.specs.Model.{Model}
 use Rattle.model.specs.Judge.{Verdict, impossible, stops, misses, passes}
 use Rattle.jobs.specs.Planning.{schemaOf, startStates}
-use Rattle.jobs.specs.Learn.{learn}
+use Rattle.jobs.specs.Learn.{learnable, learn}
 use Rattle.jobs.specs.Check.{check, checkBytes}
 use Rattle.jobs.specs.Judge.{FitsBook, StartVerdict}
 
@@ -33,20 +32,21 @@ NoneFits form s = (M : Model) → FitsBook form s M → ⊥
 abbrev pub Impossible : Answer → Type 0
 Impossible a = (number a ≡ 11) ⊎ (number a ≡ 12)
 
--- the number, the place and the position that a verdict on the start at position k gives; a pass gives none by itself, since a later start may fail
-abbrev pub Answers : ℕ → Verdict → Positioned → Type 0
-Answers k impossible r = Impossible (r .answer) × (r .position ≡ 0)
-Answers k (stops j) r = (number (r .answer) ≡ 19) × (place (r .answer) ≡ j) × (r .position ≡ k)
-Answers k (misses i) r = (number (r .answer) ≡ 20) × (place (r .answer) ≡ i) × (r .position ≡ k)
-Answers k (passes end) r = Unit {0}
+-- each of the starts has its verdict, in the same sequence
+pub data Verdicts (form : Form) (s o : List ℕ) : List State → List Verdict → Type 0 where
+  none : Verdicts form s o [] []
+  more : {start : State} {v : Verdict} {starts : List State} {vs : List Verdict} → StartVerdict form s o start v → Verdicts form s o starts vs
+      → Verdicts form s o (start ∷ starts) (v ∷ vs)
 
--- those of a plan of so many steps that passes
-abbrev pub Passed : ℕ → Positioned → Type 0
-Passed steps r = (number (r .answer) ≡ 0) × (place (r .answer) ≡ steps) × (r .position ≡ 0)
-
--- each of the starts has a pass
-abbrev pub AllPass : Form → List ℕ → List ℕ → List State → Type 0
-AllPass form s o starts = (start : State) → Mem start starts → (end : State) × StartVerdict form s o start (passes end)
+-- A check's number, place and position by the verdicts on its starts, the first of which has position k: the first verdict that is no pass gives
+-- them, at the position of its start; if all are passes, the place is the plan's step count. Where no model fits, they are those of `refusal`, which is
+-- about no start.
+unfoldable pub answerBy : Answer → ℕ → ℕ → List Verdict → Positioned
+answerBy refusal steps k [] = unpositioned (Good steps)
+answerBy refusal steps k (impossible ∷ vs) = unpositioned refusal
+answerBy refusal steps k (stops j ∷ vs) = record { answer = Refused 19 j; position = k }
+answerBy refusal steps k (misses i ∷ vs) = record { answer = Refused 20 i; position = k }
+answerBy refusal steps k (passes end ∷ vs) = answerBy refusal steps (suc k) vs
 
 -- the end sheet holds the state: 512 bytes, the bits set being just the facts that hold
 pub record Shows (sheet : List ℕ) (end : State) : Type 0 where
@@ -63,14 +63,10 @@ pub record JudgeAgrees (form : Form) (s : List ℕ) : Type 0 where
   pub learning : (size : ℕ) → Impossible (learn form s size) ↔ NoneFits form s
   -- And so does checking, whatever order and lent output come with the book.
   pub checking : (o : List ℕ) (size : ℕ) → Impossible (check form s o size .answer) ↔ NoneFits form s
-  -- For every order of good form with an end sheet of 512 bytes: of the starts in file order, the first whose verdict is no pass gives the
-  -- check's number and place, and its position.
-  pub verdict : (o : List ℕ) (n : ℕ) → orderForm (schemaOf s) o ≡ Good n
-      → (before : List State) (start : State) (rest : List State) → startStates o ≡ before ++ (start ∷ rest) → AllPass form s o before
-      → (v : Verdict) → StartVerdict form s o start v → Answers (suc (length before)) v (check form s o endSheetSize)
-  -- The plan passes exactly if it passes from each start alone; then the place is its step count, and the position 0.
-  pub pass : (o : List ℕ) (n : ℕ) → orderForm (schemaOf s) o ≡ Good n → AllPass form s o (startStates o) → Passed (stepCount o) (check form s o endSheetSize)
-  pub only : (o : List ℕ) (n : ℕ) → orderForm (schemaOf s) o ≡ Good n → number (check form s o endSheetSize .answer) ≡ 0 → AllPass form s o (startStates o)
+  -- For every order of good form with an end sheet of 512 bytes: the check's number, place and position are what his verdicts on the order's starts, in
+  -- file order, give. Where he says impossible, the check answers what learning answers (11 or 12, by the lines above).
+  pub verdicts : (o : List ℕ) (n : ℕ) → orderForm (schemaOf s) o ≡ Good n
+      → (vs : List Verdict) → Verdicts form s o (startStates o) vs → check form s o endSheetSize ≡ answerBy (learnable form s) (stepCount o) 1 vs
   -- On a pass of an order with one start the bits set in the end sheet are just the facts of his end state.
   pub sheet : (o : List ℕ) (n : ℕ) → orderForm (schemaOf s) o ≡ Good n
       → (start : State) → startStates o ≡ start ∷ [] → (end : State) → StartVerdict form s o start (passes end)
