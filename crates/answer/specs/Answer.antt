@@ -1,7 +1,7 @@
 -- An answer's number and place as the paper has them, the order of rows (the first refusal met is the answer), and what a call leaves behind.
 use Prim.Native.Nat.{ℕ, _+_, _*_}
 use mathlib.Core.Bool.{Bool, true, false}
-use mathlib.Core.List.{List}
+use mathlib.Core.List.{List, [], _∷_}
 use Rattle.answer.specs.declared.Answer.{Answer}
 use Rattle.answer.specs.declared.Answer.the-variants.{Good, Refused}
 use Rattle.answer.specs.declared.Positioned.{Positioned}
@@ -16,6 +16,13 @@ Refused n p >>= k = Refused n p
 unfoldable pub refuse : Bool → ℕ → ℕ → Answer
 refuse true n p = Refused n p
 refuse false n p = Good 0
+
+-- a row over a list: the first member for which the test holds is refused with the number, at its own place
+unfoldable pub firstRefused : {A : Type 0} → (A → Bool) → ℕ → (A → ℕ) → List A → Answer
+firstRefused bad num placed [] = Good 0
+firstRefused bad num placed (x ∷ xs) = do
+  _ ← refuse (bad x) num (placed x)
+  firstRefused bad num placed xs
 
 unfoldable pub isRefused : Answer → Bool
 isRefused (Good n) = false

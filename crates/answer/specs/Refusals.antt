@@ -1,14 +1,18 @@
 -- Where a refusal comes from, and from which row of the table on it is met: laws of rows in order, for answers that are not good.
 use Prim.Native.Nat.{ℕ}
-use mathlib.Core.Path.{_≡_, refl}
-use mathlib.Core.Bool.{Bool, true, false}
+use mathlib.Core.Path.{_≡_, refl, subst}
+use mathlib.Core.Logic.{_⊎_, inl, inr}
+use mathlib.Core.Bool.{Bool, true, false, _&&_, not}
+use mathlib.Core.List.{List, [], _∷_}
 use native.Mathlib.Omega.{arith}
-use borrow.Author.Tests.{leb-true, le-leb}
+use borrow.Author.Tests.{eqb-true, leb-true, le-leb}
+use lib.Dec.{eqb}
 use Rattle.answer.specs.declared.Answer.{Answer}
 use Rattle.answer.specs.declared.Answer.the-variants.{Good, Refused}
 use Rattle.answer.specs.Answer.{_>>=_, refuse}
 use Rattle.answer.specs.Laws.{good-refused}
-use Rattle.answer.specs.Table.{row, upTo, Between, MetFrom}
+use Rattle.answer.specs.Table.{table, rowFrom, row, upTo, Between, MetFrom, among, impossibleRows, isImpossible}
+use Rattle.truth.specs.Bools.{clash, and-out, or-out}
 
 -- a refusal comes from the first part, or from what follows it
 pub refused-cases : {C : Type 0} (a : Answer) (k : ℕ → Answer) (n p : ℕ)
@@ -57,3 +61,28 @@ module _ (m : ℕ) where
 
   pub from-row : (b : Bool) (n p : ℕ) (k : ℕ → Answer) → upTo m n ≡ true → MetFrom m (k 0) → MetFrom m (refuse b n p >>= k)
   from-row b n p k h rest num q e = row-cases b n p k num q e (λ same place. rw same h) (λ unmet. rest num q)
+
+-- ---- rows that are alike
+
+-- the test holds of each number in the list
+unfoldable pub every : (ℕ → Bool) → List ℕ → Bool
+every test [] = true
+every test (n ∷ ns) = test n && every test ns
+
+pub among-every : (test : ℕ → Bool) (ns : List ℕ) (num : ℕ) → every test ns ≡ true → among ns num ≡ true → test num ≡ true
+unfolding every among
+among-every test [] num all e = clash false e refl
+among-every test (n ∷ ns) num all e = go (or-out (eqb n num) (among ns num) e) (among-every test ns num (and-out (test n) _ all .1))
+  where
+    go : (eqb n num ≡ true) ⊎ (among ns num ≡ true) → (among ns num ≡ true → test num ≡ true) → test num ≡ true
+    go (inl h) rest = subst (λ (k : ℕ). test k ≡ true) (eqb-true n num h) (and-out (test n) _ all .0)
+    go (inr h) rest = rest h
+
+-- what is met from row 13 on does not say that no model fits, and neither does success
+pub impossible-early : (num : ℕ) → isImpossible num ≡ true → not (upTo 13 num) ≡ true
+unfolding table rowFrom row upTo impossibleRows isImpossible every
+impossible-early num e = among-every (λ n. not (upTo 13 n)) impossibleRows num refl e
+
+pub impossible-refused : isImpossible 0 ≡ false
+unfolding impossibleRows isImpossible among
+impossible-refused = refl

@@ -1,7 +1,8 @@
--- The refusal table as data: its numbers in the paper's order, and where in it an answer is met. Nothing may assume that numbers grow along it.
+-- The refusal table as data: its numbers in the paper's order, where in it an answer is met, and which of its rows are alike in what they say or in
+-- what their place is. Nothing may assume that numbers grow along it.
 use Prim.Native.Nat.{ℕ, suc}
 use mathlib.Core.Path.{_≡_}
-use mathlib.Core.Bool.{Bool, true, false}
+use mathlib.Core.Bool.{Bool, true, false, _||_}
 use mathlib.Core.List.{List, [], _∷_}
 use lib.Dec.{leb, eqb}
 use Rattle.answer.specs.declared.Answer.{Answer}
@@ -32,3 +33,24 @@ Between m n num = (upTo m num ≡ true) × (upTo num n ≡ true)
 -- every refusal of the answer is met at the row of m or later
 abbrev pub MetFrom : ℕ → Answer → Type 0
 MetFrom m a = (num p : ℕ) → a ≡ Refused num p → upTo m num ≡ true
+
+-- ---- rows that are alike
+
+-- the number is in the list
+unfoldable pub among : List ℕ → ℕ → Bool
+among [] num = false
+among (n ∷ ns) num = eqb n num || among ns num
+
+-- no model (rule list) fits the book
+unfoldable pub impossibleRows : List ℕ
+impossibleRows = 11 ∷ 12 ∷ []
+
+unfoldable pub isImpossible : ℕ → Bool
+isImpossible num = among impossibleRows num
+
+-- the place is an offset in the book: of a parent, a relation, a move, a record, an object, a fact or its list's count, a step
+unfoldable pub bookOffsetRows : List ℕ
+bookOffsetRows = 21 ∷ 4 ∷ 5 ∷ 6 ∷ 24 ∷ 7 ∷ 8 ∷ 9 ∷ 10 ∷ 11 ∷ []
+
+unfoldable pub isBookOffset : ℕ → Bool
+isBookOffset num = among bookOffsetRows num

@@ -2,7 +2,7 @@
 use Prim.Native.Nat.{ℕ}
 use mathlib.Core.Path.{refl}
 use mathlib.Core.List.{List, [], _∷_, _++_}
-use Rattle.answer.specs.Answer.{_>>=_, refuse, isRefused, number, place, unpositioned, thenAt, kept}
+use Rattle.answer.specs.Answer.{_>>=_, refuse, isRefused, number, place, unpositioned, thenAt, kept, firstRefused}
 use Rattle.answer.specs.Walk.{walk}
 use Rattle.input.specs.Bytes.{byteAt, two}
 use Rattle.output.specs.Written.{twoBytes}
@@ -25,7 +25,7 @@ use Rattle.model.specs.Model.{image, inapplicable, next, run}
 use Rattle.model.specs.Judge.{wrong}
 use Rattle.model.specs.Learned.{saw, before, after, turned, learned, unboundEffect, conflicting}
 use Rattle.jobs.specs.Planning.{domain, holding, groundAction, transition, goalEntry, schemaOf, stepsOfBook, transitionsOf, startStates, planOf, goalOf}
-use Rattle.jobs.specs.Learn.{unboundEffects, conflictAnswer, conflictingMove, learnable, ruleRow, ruleRows, learnedFrom, ruleSheet, learn, learnBytes}
+use Rattle.jobs.specs.Learn.{unboundEffects, conflictAnswer, conflictingMove, learnable, ruleRow, ruleRows, learnedFrom, ruleSheet, learn, learnBytes, inconsistency}
 use Rattle.jobs.specs.Check.{planRun, orderRun, goalAnswer, runAnswer, startAnswer, firstFailing, startsAnswer, beforePlan, check, endSheet, endAfter, checkBytes}
 use Rattle.jobs.specs.Add.{added, add, addBytes}
 use Rattle.jobs.specs.Convert.{factsBytes, listBytes, stepBytes, listed, stepsBytes, bytesAt, bodyBytes, recordBytes, recordsBytes, allRecordsBytes, converted, convert, convertBytes}
@@ -41,7 +41,7 @@ use Rattle.cases.proofs.LongBook.{long-right, longer-right}
 
 -- The definitions that are computed: `unfolding opened` opens them all. Its value is not used.
 unfoldable opened : ℕ
-unfolding _>>=_ refuse number place walk byteAt two sectionsOf outOfRange parentAt relationAt moveAt schema typedObjects suitsWithin kindSuits objectBad factAt factBad precedes noFact factNumber objectOf stepAt argumentBad stepBad samePair repeats atomRelation atomFirst atomSecond parameterFills isAtom placed ground lengthBad countsBad offsetsBad parentBad kindBad relationBad moveBad parent relation move sections cut countBad factRefused facts list nextState mostListed stateAfter toggle toggled objectsIn stepsIn lengthIn headBad recordHead object stepRefused step steps objectsOf trajectory closed body recordAt stepTotal allRecords lookOverBy lookOver factsAt listAt listEnd recordedStep recordedStepsAt stepsOfRecord stepsOfRecords recordedSteps objectCount startCount goalCount stepCount startAt goalAt stepsAt orderCountsBad orderOffsetsBad orderHeader orderObjects orderObject entryBad entries planStepBad planStep fromGoal startsForm fromStart orderForm startsFrom starts entryAt goalFrom goal planFrom plan maskOf same below any has later first least image inapplicable next run wrong saw before after turned learned unboundEffect conflicting domain holding groundAction transition goalEntry schemaOf stepsOfBook transitionsOf startStates planOf goalOf unboundEffects conflictAnswer conflictingMove learnable ruleRow ruleRows learnedFrom ruleSheet learn kept learnBytes planRun orderRun goalAnswer runAnswer startAnswer firstFailing startsAnswer beforePlan check endSheet endAfter checkBytes isRefused unpositioned thenAt twoBytes added add addBytes factsBytes listBytes stepBytes listed stepsBytes bytesAt bodyBytes recordBytes recordsBytes allRecordsBytes converted convert convertBytes digits decimal refusedLine needLetter effectLetter paramShown atomFront atomLine lineIfAtom atomLines moveLines countsLine rulesLines rulesPrinted planLine planPrinted
+unfolding _>>=_ refuse number place walk byteAt two sectionsOf outOfRange parentAt relationAt moveAt schema typedObjects suitsWithin kindSuits objectBad factAt factBad precedes noFact factNumber objectOf stepAt argumentBad stepBad samePair repeats atomRelation atomFirst atomSecond parameterFills isAtom placed ground lengthBad countsBad offsetsBad parentBad kindBad relationBad moveBad parent relation move sections cut countBad factRefused facts list nextState mostListed stateAfter toggle toggled objectsIn stepsIn lengthIn headBad recordHead object stepRefused step steps objectsOf trajectory closed body recordAt stepTotal allRecords lookOverBy lookOver factsAt listAt listEnd recordedStep recordedStepsAt stepsOfRecord stepsOfRecords recordedSteps objectCount startCount goalCount stepCount startAt goalAt stepsAt orderCountsBad orderOffsetsBad orderHeader orderObjects orderObject entryBad entries planStepBad planStep fromGoal startsForm fromStart orderForm startsFrom starts entryAt goalFrom goal planFrom plan maskOf same below any has later first least image inapplicable next run wrong saw before after turned learned unboundEffect conflicting domain holding groundAction transition goalEntry schemaOf stepsOfBook transitionsOf startStates planOf goalOf unboundEffects conflictAnswer conflictingMove learnable ruleRow ruleRows learnedFrom ruleSheet learn kept learnBytes planRun orderRun goalAnswer runAnswer startAnswer firstFailing startsAnswer beforePlan check endSheet endAfter checkBytes isRefused unpositioned thenAt twoBytes added add addBytes factsBytes listBytes stepBytes listed stepsBytes bytesAt bodyBytes recordBytes recordsBytes allRecordsBytes converted convert convertBytes digits decimal refusedLine needLetter effectLetter paramShown atomFront atomLine lineIfAtom atomLines moveLines countsLine rulesLines rulesPrinted planLine planPrinted firstRefused inconsistency
 opened = 0
 
 -- One declaration for each list that `cases` joins: the checker computes at most 50,000,000 steps in one.

@@ -3,7 +3,7 @@ use Prim.Native.Nat.{ℕ, zero, suc, _+_, _≤_, _<_}
 use mathlib.Core.Path.{_≡_, refl, sym, ap, subst}
 use mathlib.Core.Logic.{_⊎_, inl, inr}
 use mathlib.Core.Bool.{true, false, not}
-use mathlib.Core.List.{List, [], _∷_}
+use mathlib.Core.List.{List}
 use native.Mathlib.Omega.{arith}
 use lib.ListN.{length, length-map}
 use borrow.Author.Tests.{ltb-false}
@@ -36,10 +36,11 @@ use Rattle.model.specs.Learned.{conflicting}
 use Rattle.model.proofs.Quantify.{first-most, least-law}
 use Rattle.model.proofs.Lockstep.{run-within}
 use Rattle.jobs.specs.Planning.{domain, schemaOf, stepsOfBook, transitionsOf, startStates, goalOf, planOf}
-use Rattle.jobs.specs.Learn.{unboundEffects, conflictAnswer, conflictingMove, learnable, learn}
+use Rattle.jobs.specs.Learn.{unboundEffects, conflictAnswer, conflictingMove, inconsistency, learnable, learn}
 use Rattle.jobs.specs.Add.{add}
 use Rattle.jobs.specs.Convert.{converted, convert}
 use Rattle.jobs.specs.Check.{planRun, orderRun, goalAnswer, runAnswer, startAnswer, startsAnswer, beforePlan, check}
+use Rattle.jobs.proofs.FirstRefused.{first-refused-bounded}
 use Rattle.jobs.proofs.Starts.{failing-all, failing-some, failing-position}
 use Rattle.wellformed.proofs.Headers.{moves-few}
 use Rattle.wellformed.proofs.Records.{recorded-somewhere}
@@ -56,12 +57,6 @@ steps-placed form sch ob s end (suc n) before at last e here = omega (arith, ste
 steps-placed form sch ob s end (suc n) before at last e (there m) =
     steps-placed form sch ob s end n (stateAfter form s before (at + stepSize)) (listEnd s (at + stepSize)) last (steps-parted form sch ob s end n before at last e .1) m
 
-unbound-effects-bounded : (sch : Schema) (fs : List RecordedStep) → ((f : RecordedStep) → Mem f fs → f .place ≤ maxLength) → Bounded maxLength (unboundEffects sch fs)
-unfolding unboundEffects
-unbound-effects-bounded sch [] all = bounded-good maxLength 0 (omega arith)
-unbound-effects-bounded sch (f ∷ fs) all =
-    bounded-row maxLength _ 11 (f .place) _ (omega arith) (all f here) (λ e. unbound-effects-bounded sch fs (λ g m. all g (there m)))
-
 -- ---- row 12: the move is one of the book's
 conflicting-bounded : (sch : Schema) (ts : List Transition) → sch .moves ≤ maxMoves → Bounded maxLength (conflictingMove sch ts)
 unfolding conflictingMove conflictAnswer Bounded
@@ -72,20 +67,20 @@ conflicting-bounded sch ts few = go (least (sch .moves) (conflicting (domain sch
     go (suc a) law = (omega arith, omega (arith, law .0))
 
 learnable-bounded : (form : Form) (s : List ℕ) → Bounded maxLength (learnable form s)
-unfolding learnable stepsOfRecord
+unfolding learnable inconsistency unboundEffects stepsOfRecord
 learnable-bounded form s =
     bounded-then maxLength _ _ (look-over-bounded form s)
     (λ total e l.
     let g = look-over-good form s total e in
     bounded-then maxLength _ _
-    (unbound-effects-bounded (schemaOf s) (stepsOfBook form s)
+    (bounded-then maxLength _ _
+    (first-refused-bounded _ 11 _ maxLength (omega arith) (stepsOfBook form s)
     (λ f m.
     let (from, next, good, k) = recorded-somewhere form s total e m in
     let r = record-good form (sectionsOf s) s from next good in
     omega (arith, steps-placed form _ _ s (from + lengthIn s from) _ _ _ _ (r .steps) k, head-limits s from (r .head) .2, g .sections .size .most)))
-    (λ n i j.
-    bounded-then maxLength _ _ (conflicting-bounded (schemaOf s) (transitionsOf form s) (moves-few form s total e))
-    (λ n i j. bounded-good maxLength total l)))
+    (λ n i j. conflicting-bounded (schemaOf s) (transitionsOf form s) (moves-few form s total e)))
+    (λ n i j. bounded-good maxLength total l))
 
 learn-bounded : (form : Form) (s : List ℕ) (size : ℕ) → Bounded maxLength (learn form s size)
 unfolding learn

@@ -3,7 +3,7 @@
 use Prim.Native.Nat.{ℕ, _*_, _≤_, _<_}
 use mathlib.Core.Path.{_≡_, refl, sym, ap, ap₂, _∙_}
 use mathlib.Core.Logic.{_⊎_, inl, inr, _↔_}
-use mathlib.Core.Bool.{true, false}
+use mathlib.Core.Bool.{true, false, not}
 use mathlib.Core.List.{List, [], _∷_, map}
 use native.Mathlib.Omega.{arith}
 use lib.ListN.{length}
@@ -14,8 +14,8 @@ use Rattle.answer.specs.Answer.{_>>=_, isRefused, number, unpositioned, kept}
 use Rattle.truth.specs.Bools.{clash, decide, is-true}
 use Rattle.answer.specs.Laws.{kept-same, bind-good, bind-refused, bind-assoc, refuse-unmet}
 use Rattle.answer.specs.Positions.{then-refused, then-by, then-answer}
-use Rattle.answer.specs.Table.{table, rowFrom, row, upTo, MetFrom}
-use Rattle.answer.specs.Refusals.{from-earlier, from-good, from-row, from-bind}
+use Rattle.answer.specs.Table.{table, rowFrom, row, upTo, MetFrom, isImpossible}
+use Rattle.answer.specs.Refusals.{from-earlier, from-good, from-row, from-bind, impossible-early, impossible-refused}
 use Rattle.mask.proofs.Whole.{length-maskOf, test-maskOf}
 use Rattle.format.specs.Form.{Form}
 use Rattle.format.specs.LookOver.{lookOver}
@@ -44,21 +44,19 @@ use Rattle.demand.proofs.Failing.{comes, pass-comes, from-failing, fail
 use Rattle.demand.specs.Demand3.{NoneFits, Impossible, Verdicts, none, more, answerBy, Shows, Demand3}
 
 -- ---- answers
-refused-impossible : (a : Answer) (num p : ℕ) → a ≡ Refused num p → (num ≡ 11) ⊎ (num ≡ 12) → Impossible a
+refused-impossible : (a : Answer) (num p : ℕ) → a ≡ Refused num p → isImpossible num ≡ true → Impossible a
 unfolding number
 refused-impossible a num p e h = rw e h
 
--- neither 11 nor 12 is 0
+-- success is not impossible
 pub not-passed : (a : Answer) → Impossible a → number a ≡ 0 → ⊥
-not-passed a (inl e) z = omega arith
-not-passed a (inr e) z = omega arith
+not-passed a h z = clash (isImpossible 0) (rw z at h) impossible-refused
 
--- an answer that refuses only with later rows is not 11 or 12
+-- an answer that refuses only with later rows is not, either
 late : (a : Answer) → MetFrom 13 a → Impossible a → ⊥
-unfolding number table rowFrom row upTo
+unfolding number
 late (Good n) from h = not-passed (Good n) h refl
-late (Refused num p) from (inl e) = clash (upTo 13 11) (rw e at (from num p refl)) refl
-late (Refused num p) from (inr e) = clash (upTo 13 12) (rw e at (from num p refl)) refl
+late (Refused num p) from h = clash (not (upTo 13 num)) (impossible-early num h) (rw (from num p refl))
 
 module _ (form : Form) (s : List ℕ) (n : ℕ) (good : lookOver form s ≡ Good n) where
   judge : Exact (domain (schemaOf s)) (FitsBook form s) (inconsistentIn form s) (checked (domain (schemaOf s)) (transitionsOf form s))

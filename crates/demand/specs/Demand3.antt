@@ -3,8 +3,8 @@
 -- behind. His verdict is on one start of an order alone; the check's answer is made of his verdicts on all of its starts (`answerBy`).
 use Prim.Native.Nat.{ℕ, suc, _≤_, _<_}
 use mathlib.Core.Path.{_≡_}
-use mathlib.Core.Logic.{_⊎_, _↔_}
-use mathlib.Core.Bool.{false}
+use mathlib.Core.Logic.{_↔_}
+use mathlib.Core.Bool.{true, false}
 use mathlib.Core.List.{List, [], _∷_}
 use lib.ListN.{length}
 use Rattle.limits.specs.Limits.{endSheetSize, maxFactNumbers, maxStarts}
@@ -12,6 +12,7 @@ use Rattle.answer.specs.declared.Answer.{Answer}
 use Rattle.answer.specs.declared.Answer.the-variants.{Good, Refused}
 use Rattle.answer.specs.declared.Positioned.{Positioned}
 use Rattle.answer.specs.Answer.{number, unpositioned}
+use Rattle.answer.specs.Table.{isImpossible}
 use Rattle.mask.specs.Bits.{testBit}
 use Rattle.format.specs.Form.{Form}
 use Rattle.format.specs.LookOver.{lookOver}
@@ -28,9 +29,9 @@ use Rattle.jobs.specs.Judge.{FitsBook, StartVerdict}
 abbrev pub NoneFits : Form → List ℕ → Type 0
 NoneFits form s = (M : Model) → FitsBook form s M → ⊥
 
--- the number is that of row 11 or row 12
+-- the number is that of a row by which no model fits, 11 or 12
 abbrev pub Impossible : Answer → Type 0
-Impossible a = (number a ≡ 11) ⊎ (number a ≡ 12)
+Impossible a = isImpossible (number a) ≡ true
 
 -- each of the starts has its verdict, in the same sequence
 pub data Verdicts (form : Form) (s o : List ℕ) : List State → List Verdict → Type 0 where

@@ -1,12 +1,12 @@
 -- Learning: rows 11 to 13, the rule sheet, and what the lent sheet holds afterwards.
 use Prim.Native.Nat.{ℕ, zero, suc, _*_}
 use mathlib.Core.Bool.{true, false, not}
-use mathlib.Core.List.{List, [], _∷_, _++_}
+use mathlib.Core.List.{List, [], _++_}
 use lib.ListN.{length}
 use lib.Dec.{eqb}
 use Rattle.answer.specs.declared.Answer.{Answer}
 use Rattle.answer.specs.declared.Answer.the-variants.{Good, Refused}
-use Rattle.answer.specs.Answer.{_>>=_, refuse, kept}
+use Rattle.answer.specs.Answer.{_>>=_, refuse, firstRefused, kept}
 use Rattle.limits.specs.Limits.{setSize, ruleSize}
 use Rattle.mask.specs.Sets.{maskOf}
 use Rattle.terms.specs.Schema.{Schema}
@@ -21,10 +21,7 @@ use Rattle.jobs.specs.Planning.{domain, transition, schemaOf, stepsOfBoo
 
 -- row 11: the first step that changed a fact that is no bound fact of it
 unfoldable pub unboundEffects : Schema → List RecordedStep → Answer
-unboundEffects sch [] = Good 0
-unboundEffects sch (f ∷ fs) = do
-  _ ← refuse (unboundEffect (domain sch) (transition sch f)) 11 (f .place)
-  unboundEffects sch fs
+unboundEffects sch fs = firstRefused (λ f. unboundEffect (domain sch) (transition sch f)) 11 (λ f. f .place) fs
 
 -- row 12: the smallest move with a bound fact changed to one value and left with the other
 unfoldable pub conflictAnswer : ℕ → Answer
@@ -34,12 +31,17 @@ conflictAnswer (suc a) = Refused 12 (suc a)
 unfoldable pub conflictingMove : Schema → List Transition → Answer
 conflictingMove sch ts = conflictAnswer (least (sch .moves) (conflicting (domain sch) ts))
 
+-- rows 11 and 12: the steps of the book are inconsistent
+unfoldable pub inconsistency : Form → List ℕ → Answer
+inconsistency form s = do
+  _ ← unboundEffects (schemaOf s) (stepsOfBook form s)
+  conflictingMove (schemaOf s) (transitionsOf form s)
+
 -- rows 1 to 12; success is the count of all steps
 unfoldable pub learnable : Form → List ℕ → Answer
 learnable form s = do
   total ← lookOver form s
-  _ ← unboundEffects (schemaOf s) (stepsOfBook form s)
-  _ ← conflictingMove (schemaOf s) (transitionsOf form s)
+  _ ← inconsistency form s
   Good total
 
 -- the four sets of one move

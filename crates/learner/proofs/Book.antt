@@ -9,7 +9,7 @@ use Rattle.answer.specs.declared.Answer.{Answer}
 use Rattle.answer.specs.declared.Answer.the-variants.{Good, Refused}
 use Rattle.answer.specs.Answer.{_>>=_, refuse, isRefused, valueOf, kept}
 use Rattle.truth.specs.Bools.{clash}
-use Rattle.answer.specs.Laws.{stays, follows, bind-good, parted, refused-kept}
+use Rattle.answer.specs.Laws.{stays, follows, bind-good, bind-assoc, parted, refused-kept}
 use Rattle.answer.specs.Turns.{is-good, part-stays, part-follows}
 use Rattle.terms.specs.declared.Sections.{Sections}
 use Rattle.terms.specs.Sections.{sectionsOf}
@@ -18,7 +18,7 @@ use Rattle.format.specs.Form.{Form}
 use Rattle.format.specs.Header.{sections}
 use Rattle.format.specs.LookOver.{lookOver, allRecords, lookOverBy}
 use Rattle.jobs.specs.Planning.{schemaOf, stepsOfBook, transitionsOf}
-use Rattle.jobs.specs.Learn.{unboundEffects, conflictingMove, learnable, learn, learnBytes, learnedFrom, ruleSheet}
+use Rattle.jobs.specs.Learn.{unboundEffects, conflictingMove, inconsistency, learnable, learn, learnBytes, learnedFrom, ruleSheet}
 use Rattle.observed.specs.Observed.{Observed, nothingSeen, heldAfter, observedOf}
 use Rattle.observed.specs.Rules.{unboundAnswer, conflictAmong, sheetObserved}
 use Rattle.observedright.proofs.Sections.{nothing-alone}
@@ -116,8 +116,8 @@ module _ (form : Form) (s bytes : List ℕ) (w : Walked) (looked′ : FormObserv
     conflicting _ = conflictingMove (schemaOf s) (transitionsOf form s) >>= λ _. Good total
 
     rest : learnable form s ≡ (unboundEffects (schemaOf s) (stepsOfBook form s) >>= conflicting)
-    unfolding learnable conflicting
-    rest = bind-good _ _ _ formed
+    unfolding learnable inconsistency conflicting
+    rest = bind-good _ _ _ formed ∙ bind-assoc (unboundEffects (schemaOf s) (stepsOfBook form s)) _ _
 
     module _ (c : Answer) (b₂ : Bool) (e₂ : c ≡ unboundAnswer (w .named)) (told₂ : b₂ ≡ isRefused c) where
       row11 : c ≡ unboundEffects (schemaOf s) (stepsOfBook form s)

@@ -8,15 +8,15 @@ use mathlib.Core.List.{List, [], _∷_, _++_}
 use borrow.Author.Tests.{ne-eqb}
 use Rattle.answer.specs.declared.Answer.the-variants.{Refused}
 use Rattle.truth.specs.Bools.{decide}
-use Rattle.answer.specs.Laws.{refuse-met, refuse-unmet}
 use Rattle.limits.specs.Limits.{maxMoves}
 use Rattle.terms.specs.Schema.{Schema}
 use Rattle.format.specs.Decode.{RecordedStep}
-use Rattle.model.specs.Quantify.{Mem, here, there}
+use Rattle.model.specs.Quantify.{any, Mem, here, there}
 use Rattle.model.specs.Domain.{Transition}
 use Rattle.model.specs.Learned.{unboundEffect}
 use Rattle.jobs.specs.Planning.{domain, transition}
 use Rattle.jobs.specs.Learn.{unboundEffects}
+use Rattle.jobs.proofs.FirstRefused.{first-refused-none, first-refused-here, first-refused-later}
 use Rattle.observed.specs.Inverse.{unboundChanged}
 use Rattle.observed.specs.Observed.{Observed, observeBy, observe, observeAll, firstNamed}
 use Rattle.observed.specs.Rules.{unboundAnswer}
@@ -51,8 +51,8 @@ module _ (sch : Schema) (few : sch .moves ≤ maxMoves) where
   pub unbound-observed : (fs : List RecordedStep) → ((f : RecordedStep) → Mem f fs → Faithful sch f)
       → (ts : List Transition) (h : Observed) → Seen sch ts (h .masks) → h .named ≡ 0
       → unboundAnswer (observeAll fs h .named) ≡ unboundEffects sch fs
-  unfolding observeAll unboundEffects unboundAnswer
-  unbound-observed [] all ts h seen n = rw n
+  unfolding observeAll unboundEffects unboundAnswer any
+  unbound-observed [] all ts h seen n = ap unboundAnswer n ∙ sym (first-refused-none _ 11 _ [] refl)
   unbound-observed (f ∷ fs) all ts h seen n =
       go (decide (unboundEffect (domain sch) (transition sch f)))
       (unbound-observed fs (λ g m. all g (there m)) (ts ++ transition sch f ∷ []) (observe f h) (seen-observe sch few ts h f (all f here) seen))
@@ -69,5 +69,5 @@ module _ (sch : Schema) (few : sch .moves ≤ maxMoves) where
       go (inl e) rest =
           let q : observe f h .named ≡ f .place = one ∙ rw e in
           ap unboundAnswer (all-named fs (observe f h) (omega (arith, faithful .placed)) ∙ q) ∙ named (f .place) (faithful .placed)
-          ∙ sym (refuse-met _ 11 (f .place) _ e)
-      go (inr e) rest = rest (one ∙ rw e) ∙ sym (refuse-unmet _ 11 (f .place) _ e)
+          ∙ sym (first-refused-here _ 11 _ f fs e)
+      go (inr e) rest = rest (one ∙ rw e) ∙ sym (first-refused-later _ 11 _ f fs e)

@@ -11,7 +11,7 @@ use lib.Seq.{take-at, getD-append-add}
 use Rattle.answer.specs.declared.Answer.{Answer}
 use Rattle.answer.specs.declared.Answer.the-variants.{Good}
 use Rattle.answer.specs.Answer.{_>>=_}
-use Rattle.answer.specs.Laws.{parted, bind-assoc, bind-cong}
+use Rattle.answer.specs.Laws.{parted}
 use Rattle.input.specs.Bytes.{byteAt, two}
 use Rattle.output.specs.Written.{twoBytes}
 use Rattle.limits.specs.Limits.{maxLength, stepSize, observedSize}
@@ -32,9 +32,9 @@ use Rattle.format.proofs.Parts.{parts-joined}
 use Rattle.model.specs.Quantify.{Mem, here, there}
 use Rattle.model.proofs.Members.{mem-left}
 use Rattle.jobs.specs.Planning.{schemaOf, stepsOfBook, transitionsOf}
-use Rattle.jobs.specs.Learn.{conflictingMove, learnable, learnedFrom, ruleSheet}
+use Rattle.jobs.specs.Learn.{conflictingMove, inconsistency, learnedFrom, ruleSheet}
 use Rattle.observed.specs.Observed.{Observed, observe, observeBy, firstNamed, observeAll, observedAfter, nothingSeen, heldAfter, observedOf}
-use Rattle.observed.specs.Rules.{unboundAnswer, conflictAmong}
+use Rattle.observed.specs.Rules.{conflictAmong}
 use Rattle.observed.specs.Seen.{Seen}
 use Rattle.observed.specs.Taught.{Taught}
 use Rattle.observed.proofs.Observe.{seen-observed}
@@ -156,15 +156,13 @@ module _ (form : Form) (s : List ℕ) (n : ℕ) (good : lookOver form s ≡ Good
       let near = named-within maxLength fs (λ f m. step-placed f (all f m)) (nothingSeen (schemaOf s)) (omega arith) in
       rw held (small-by (observeAll fs (nothingSeen (schemaOf s))) (seen .sized) (seen .bytes) (omega arith))
 
-  rows : learnable form s ≡ (lookOver form s >>= λ total. heldRows (sectionsPart s) (observedOf form s) >>= λ _. Good total)
-  unfolding learnable heldRows transitionsOf
+  rows : inconsistency form s ≡ heldRows (sectionsPart s) (observedOf form s)
+  unfolding inconsistency heldRows transitionsOf
   rows =
       let taught = observed-taught in
       let row12 : conflictAmong (observedOf form s .masks) (schemaOf (sectionsPart s) .moves) ≡ conflictingMove (schemaOf s) (transitionsOf form s) =
       rw (moves-alone s _ (sections-passed .1)) (taught .row12) in
-      bind-cong (lookOver form s) _ _
-      (λ total.
-      ap₂ (λ (a b : Answer). a >>= λ _. b >>= λ _. Good total) (sym (taught .row11)) (sym row12) ∙ sym (bind-assoc (unboundAnswer (observedOf form s .named)) _ _))
+      ap₂ (λ (a b : Answer). a >>= λ _. b) (sym (taught .row11)) (sym row12)
 
   sheet : ruleSheet form s ≡ heldSheet (sectionsPart s) (observedOf form s)
   unfolding ruleSheet heldSheet learnedFrom transitionsOf

@@ -17,7 +17,7 @@ use Rattle.format.specs.Form.{Form}
 use Rattle.format.specs.LookOver.{lookOver}
 use Rattle.format.specs.Parts.{recordPart, offsetAfter, sectionsPart, recordsOf}
 use Rattle.jobs.specs.Planning.{schemaOf}
-use Rattle.jobs.specs.Learn.{learnable, ruleSheet}
+use Rattle.jobs.specs.Learn.{inconsistency, ruleSheet}
 use Rattle.observed.specs.Observed.{Observed, observedAfter, nothingSeen, heldAfter, observedOf}
 use Rattle.observed.specs.Rules.{sheetObserved, unboundAnswer, conflictAmong}
 
@@ -65,7 +65,8 @@ pub record OneWalk (form : Form) (s : List ℕ) : Type 0 where
   pub next : (k : ℕ) → k < sectionsOf s .records .count
       → heldAfter form (suc k) s ≡ observedAfter form (recordPart s (recordOffset s k)) (recordOffset s k) (heldAfter form k s)
   pub small : (k : ℕ) → k ≤ sectionsOf s .records .count → Small (heldAfter form k s)
-  pub rows : learnable form s ≡ (lookOver form s >>= λ total. heldRows (sectionsPart s) (observedOf form s) >>= λ _. Good total)
+  -- rows 11 and 12, and the sheet, from the sections and what is held at the end
+  pub rows : inconsistency form s ≡ heldRows (sectionsPart s) (observedOf form s)
   pub sheet : ruleSheet form s ≡ heldSheet (sectionsPart s) (observedOf form s)
 
 abbrev pub LearnsInOneWalk : Type 0

@@ -3,12 +3,13 @@
 use Prim.Native.Nat.{ℕ, _≤_}
 use mathlib.Core.Path.{_≡_}
 use mathlib.Core.Logic.{_↔_}
-use mathlib.Core.Bool.{not}
+use mathlib.Core.Bool.{Bool, false, _&&_, not}
 use mathlib.Core.List.{List}
 use lib.ListN.{length}
 use Rattle.answer.specs.declared.Answer.{Answer}
 use Rattle.answer.specs.declared.Answer.the-variants.{Good}
 use Rattle.answer.specs.Answer.{number, place}
+use Rattle.answer.specs.Table.{isImpossible, isBookOffset}
 use Rattle.limits.specs.Limits.{maxLength}
 use Rattle.terms.specs.Agree.{SameSchema}
 use Rattle.format.specs.Form.{Form}
@@ -43,10 +44,14 @@ pub record SameTransitions (f g : Form) (s t : List ℕ) (n : ℕ) : Type 0 wher
   pub comparable : Comparable f g s t n
   pub steps : (x : RecordedStep) → Mem x (unplaced (stepsOfBook f s)) ↔ Mem x (unplaced (stepsOfBook g t))
 
--- the same number, and the same place unless the number is 11, whose place is a step's offset in its own book
+-- no model fits, and the place is an offset in the book: the number is 11
+abbrev pub placedApart : ℕ → Bool
+placedApart num = isImpossible num && isBookOffset num
+
+-- the same number; and the same place, unless that is an offset in its own book
 pub record SameAnswer (a b : Answer) : Type 0 where
   pub number-same : number a ≡ number b
-  pub place-same : (number a ≡ 11 → ⊥) → place a ≡ place b
+  pub place-same : placedApart (number a) ≡ false → place a ≡ place b
 
 -- what the calls and the judge say of the one book, they say of the other: learning into a sheet of any size, checking any order, whatever the
 -- bytes lent; the judge holds the same models, and says the same of any order's plan, right or not, from any start

@@ -1,8 +1,9 @@
--- Members of mapped lists.
-use mathlib.Core.Path.{_≡_, refl, subst}
+-- Members of mapped lists, and tests of some of them.
+use mathlib.Core.Path.{_≡_, refl, ap, subst}
 use mathlib.Core.Logic.{_↔_}
-use mathlib.Core.List.{List, _∷_, map}
-use Rattle.model.specs.Quantify.{Mem, here, there}
+use mathlib.Core.Bool.{Bool, _||_}
+use mathlib.Core.List.{List, [], _∷_, map}
+use Rattle.model.specs.Quantify.{any, Mem, here, there}
 
 -- a member of a list of values is the value of a member
 pub mem-map-out : {A B : Type 0} (f : A → B) (xs : List A) {y : B} → Mem y (map f xs) → (x : A) × Mem x xs × (f x ≡ y)
@@ -19,3 +20,9 @@ map-alike {A} {B} f xs ys same y = (over xs ys (λ x. same x .0), over ys xs (λ
   where
     over : (us vs : List A) → ((x : A) → Mem x us → Mem x vs) → Mem y (map f us) → Mem y (map f vs)
     over us vs h m = let (x, k, e) = mem-map-out f us m in subst (λ (z : B). Mem z (map f vs)) e (mem-map-in f vs (h x k))
+
+-- a test of some value is one of some member
+pub any-map : {A B : Type 0} (p : B → Bool) (f : A → B) (xs : List A) → any p (map f xs) ≡ any (λ x. p (f x)) xs
+unfolding any
+any-map p f [] = refl
+any-map p f (x ∷ xs) = ap (λ (b : Bool). p (f x) || b) (any-map p f xs)
