@@ -19,7 +19,7 @@ use Rattle.format.specs.Decode.{stepsOfRecord, movedBy}
 use Rattle.jobs.specs.Add.{added, add, addBytes}
 use Rattle.format.proofs.Records.{record-within}
 use Rattle.format.proofs.Reading.{Copied}
-use Rattle.format.proofs.Copies.{placedBy, placed-same, recorded-copied}
+use Rattle.format.proofs.Copies.{placed-same, recorded-copied}
 use Rattle.format.proofs.LookOver.{look-over-good}
 use Rattle.adding.specs.OneRecord.{lookRecord}
 use Rattle.adding.specs.ReadBack.{AddedIsReadBack, AddedIsStored, RefusedIsUntouched}
@@ -59,7 +59,7 @@ succeeded form s r size n e =
 -- the steps of the record are those that its bytes say by themselves
 as-recorded : (form : Form) (s r : List ℕ) → headerSize ≤ length s → recordAt form (sectionsOf (added s r)) (added s r) (length s) ≡ Good (length s + length r)
     → stepsOfRecord form (added s r) (length s) ≡ movedBy (length s) (stepsOfRecord form r 0)
-unfolding movedBy placedBy
+unfolding movedBy
 as-recorded form s r long good =
     let alone : Copied (added s r) (length s) r 0 (length r) = record { within = omega arith; bytes = λ i l. rw zero-add (sym (byte-added s r long i)) } in
     sym (placed-same (stepsOfRecord form (added s r) (length s)))

@@ -19,9 +19,8 @@ use Rattle.terms.specs.Schema.{schema}
 use Rattle.format.specs.Form.{Form}
 use Rattle.format.specs.Records.{recordAt}
 use Rattle.format.specs.LookOver.{lookOver}
-use Rattle.format.specs.Decode.{recordedSteps}
+use Rattle.format.specs.Decode.{recordedSteps, placedBy}
 use Rattle.format.proofs.Typing.{schema-right}
-use Rattle.format.proofs.Copies.{placedBy}
 use Rattle.format.proofs.LookOver.{LookedOver, look-over-good, look-over-in}
 use Rattle.jobs.specs.Planning.{schemaOf, stepsOfBook}
 use Rattle.jobs.specs.Convert.{bytesAt, allRecordsBytes, converted}
@@ -179,7 +178,7 @@ is-good false s n good most = good-converted true s n good most
 
 -- which say the same.
 pub says-the-same : ConvertedSaysTheSame
-unfolding unplaced placedBy
+unfolding unplaced
 says-the-same = same-steps
 
 -- Converting there and back restores the book.

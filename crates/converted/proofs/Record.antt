@@ -23,11 +23,10 @@ use Rattle.format.specs.Lists.{listAt, listEnd}
 use Rattle.format.specs.Form.{Form}
 use Rattle.format.specs.States.{cut, state}
 use Rattle.format.specs.Records.{objectsIn, stepsIn, lengthIn, headBad, recordHead, object, steps, objectsOf, recordAt}
-use Rattle.format.specs.Decode.{firstAt, recordedStepsAt, stepsOfRecord}
+use Rattle.format.specs.Decode.{firstAt, recordedStepsAt, stepsOfRecord, placedBy}
 use Rattle.format.proofs.States.{list-ends}
 use Rattle.format.proofs.Records.{RecordGood, head-passed, head-objects, head-limits, object-entry, record-good, record-in}
 use Rattle.format.proofs.Typing.{objects-known}
-use Rattle.format.proofs.Copies.{placedBy}
 use Rattle.jobs.specs.Convert.{bytesAt, listBytes, stepsBytes}
 use Rattle.wellformed.specs.Right.{RightState}
 use Rattle.wellformed.proofs.States.{state-right}

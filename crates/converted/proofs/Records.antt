@@ -2,7 +2,7 @@
 -- would be from the first book.
 use Prim.Native.Nat.{ℕ, zero, suc, _+_, _<_}
 use mathlib.Core.Path.{_≡_, refl, ap, _∙_}
-use mathlib.Core.List.{List, [], _∷_, _++_}
+use mathlib.Core.List.{List, _++_}
 use native.Mathlib.Omega.{arith}
 use lib.ListN.{length, length-append}
 use Rattle.answer.specs.declared.Answer.the-variants.{Good}
@@ -15,17 +15,12 @@ use Rattle.terms.specs.Agree.{SameSchema}
 use Rattle.format.specs.Form.{Form}
 use Rattle.format.specs.Records.{lengthIn, recordAt}
 use Rattle.format.specs.LookOver.{stepTotal}
-use Rattle.format.specs.Decode.{RecordedStep, stepsOfRecord, stepsOfRecords}
+use Rattle.format.specs.Decode.{stepsOfRecord, stepsOfRecords, placedBy}
 use Rattle.format.proofs.Records.{record-within}
-use Rattle.format.proofs.Copies.{placedBy}
+use Rattle.format.proofs.Copies.{placed-append}
 use Rattle.converted.proofs.Stands.{Stands, stands-left, stands-right}
 use Rattle.converted.proofs.Rendering.{recordIn, recordsIn}
 use Rattle.converted.proofs.Record.{head-read, record-rendered, record-told, record-again}
-
-placed-append : (to : ℕ → ℕ) (fs gs : List RecordedStep) → placedBy to (fs ++ gs) ≡ placedBy to fs ++ placedBy to gs
-unfolding placedBy
-placed-append to [] gs = refl
-placed-append to (f ∷ fs) gs = rw (placed-append to fs gs)
 
 -- what is so of records rendered from `at` on, which stand from `at′` on
 pub record RowAgain (form to : Form) (k : Sections) (s t : List ℕ) (n at at′ : ℕ) : Type 0 where

@@ -20,10 +20,9 @@ use Rattle.format.specs.Lists.{listAt, listEnd}
 use Rattle.format.specs.Form.{Form, mostListed, stateAfter}
 use Rattle.format.specs.States.{cut}
 use Rattle.format.specs.Records.{step, steps, stepRefused}
-use Rattle.format.specs.Decode.{RecordedStep, recordedStep, recordedStepsAt}
+use Rattle.format.specs.Decode.{RecordedStep, recordedStep, recordedStepsAt, placedAt, placedBy}
 use Rattle.format.proofs.States.{next-in}
 use Rattle.format.proofs.Records.{step-good, steps-parted}
-use Rattle.format.proofs.Copies.{placedBy}
 use Rattle.jobs.specs.Convert.{listBytes, stepBytes, listed, stepsBytes}
 use Rattle.wellformed.specs.Right.{RightState}
 use Rattle.wellformed.proofs.States.{next-right}
@@ -34,7 +33,7 @@ use Rattle.converted.proofs.Lists.{list-in}
 
 -- places apart, bytes do not tell recorded steps from others
 pub bytes-unplaced : (to : Form) (fs : List RecordedStep) → stepsBytes to (placedBy (λ p. 0) fs) ≡ stepsBytes to fs
-unfolding stepsBytes placedBy listed
+unfolding stepsBytes placedBy placedAt listed
 bytes-unplaced to [] = refl
 bytes-unplaced to (f ∷ fs) = rw (bytes-unplaced to fs)
 
@@ -89,7 +88,7 @@ module _ (form to : Form) (S T : Schema) (same : SameSchema S T) (fall : Falling
       → Stands (stepsBytes to (recordedStepsAt form s n before at)) t at′ → at′ + length (stepsBytes to (recordedStepsAt form s n before at)) ≤ end′
       → (steps to T K t end′ n before at′ ≡ Good (at′ + length (stepsBytes to (recordedStepsAt form s n before at))))
       × (placedBy (λ p. 0) (recordedStepsAt to t n before at′) ≡ placedBy (λ p. 0) (recordedStepsAt form s n before at))
-  unfolding steps recordedStepsAt stepsBytes placedBy recordedStep
+  unfolding steps recordedStepsAt stepsBytes placedBy placedAt recordedStep
   steps-rendered zero before at last at′ e right h l = (ap Good (omega arith), refl)
   steps-rendered (suc n) before at last at′ e right h l =
       let (good, rest) = steps-parted form S H s end n before at last e in

@@ -4,7 +4,7 @@ use Prim.Native.Nat.{ℕ, _≤_, _<_}
 use mathlib.Core.Path.{_≡_}
 use mathlib.Core.Logic.{_↔_}
 use mathlib.Core.Bool.{not}
-use mathlib.Core.List.{List, map}
+use mathlib.Core.List.{List}
 use lib.ListN.{length, take, drop}
 use Rattle.answer.specs.declared.Answer.the-variants.{Good, Refused}
 use Rattle.input.specs.Bytes.{byteAt}
@@ -15,7 +15,7 @@ use Rattle.terms.specs.Sections.{sectionsOf}
 use Rattle.terms.specs.Agree.{SameSchema}
 use Rattle.format.specs.Form.{Form}
 use Rattle.format.specs.LookOver.{lookOver}
-use Rattle.format.specs.Decode.{RecordedStep}
+use Rattle.format.specs.Decode.{RecordedStep, placedBy}
 use Rattle.jobs.specs.Planning.{schemaOf, stepsOfBook}
 use Rattle.jobs.specs.Convert.{converted, convert, convertBytes}
 
@@ -25,7 +25,7 @@ endingAt h end = record { kinds = h .kinds; relations = h .relations; moves = h 
 
 -- recorded steps without their places
 unfoldable pub unplaced : List RecordedStep → List RecordedStep
-unplaced = map (λ f. record { place = 0; step = f .step; pre = f .pre; post = f .post })
+unplaced = placedBy (λ at. 0)
 
 -- what stays: the header but for its end, and every byte before the records but for those of the end (14 and 15); so the schema
 pub record SectionsKept (s t : List ℕ) : Type 0 where

@@ -3,7 +3,7 @@
 use Prim.Native.Nat.{ℕ, zero, suc, _+_, _-_, _*_, _≤_}
 use mathlib.Core.Path.{_≡_, refl, sym, ap, _∙_}
 use mathlib.Core.Bool.{false}
-use mathlib.Core.List.{List, [], _∷_, _++_, map, append-nil, append-assoc}
+use mathlib.Core.List.{List, [], _∷_, _++_, append-nil, append-assoc}
 use native.Mathlib.Omega.{arith}
 use borrow.Author.Tests.{ltb-false, le-ltb}
 use lib.ListN.{length}
@@ -28,18 +28,14 @@ use Rattle.format.specs.States.{cut, countBad, factRefused, facts, list,
 use Rattle.format.specs.Records.{objectsIn, stepsIn, lengthIn, headBad, recordHead, object, step, steps, objectsOf, recordAt, stepRefused}
 use Rattle.format.specs.LookOver.{stepTotal}
 use Rattle.format.specs.Lists.{listAt, listEnd}
-use Rattle.format.specs.Decode.{RecordedStep, firstAt, recordedStep, recordedStepsAt, stepsOfRecord, stepsOfRecords}
+use Rattle.format.specs.Decode.{RecordedStep, firstAt, recordedStep, recordedStepsAt, stepsOfRecord, stepsOfRecords, placedAt, placedBy}
 use Rattle.format.proofs.States.{fact-good, count-within, list-ends, next-good, next-in}
 use Rattle.format.proofs.Records.{head-in-limits, head-passed, head-limits, object-entry, step-good, step-reach, step-ends, steps-parted, steps-within, record-good, record-in, record-within}
 use Rattle.format.proofs.Typing.{objects-known}
 use Rattle.format.proofs.Reading.{Copied, Facing, facing-on, byte-copied, two-copied, fact-copied, step-copied, head-copied, end-copied, list-copied}
 
--- recorded steps with other places
-unfoldable pub placedBy : (ℕ → ℕ) → List RecordedStep → List RecordedStep
-placedBy to = map (λ f. record { place = to (f .place); step = f .step; pre = f .pre; post = f .post })
-
 pub placed-same : (fs : List RecordedStep) → placedBy (λ p. p) fs ≡ fs
-unfolding placedBy
+unfolding placedBy placedAt
 placed-same [] = refl
 placed-same (f ∷ fs) = ap (λ gs. f ∷ gs) (placed-same fs)
 
@@ -219,7 +215,7 @@ module _ {s t : List ℕ} {at at′ size : ℕ} (c : Copied s at t at′ size) w
     module _ (form : Form) (S : Schema) (H : TypedObjects) (end : ℕ) (short : end ≤ at + size) where
       steps-recorded : (n : ℕ) (before : List Fact) (a b last : ℕ) → Facing at at′ a b → steps form S H s end n before a ≡ Good last
           → placedBy f (recordedStepsAt form s n before a) ≡ placedBy g (recordedStepsAt form t n before b)
-      unfolding recordedStepsAt recordedStep placedBy stateAfter
+      unfolding recordedStepsAt recordedStep placedBy placedAt stateAfter
       steps-recorded zero before a b last face e = refl
       steps-recorded (suc n) before a b last face e =
           let (good, rest) = steps-parted form S H s end n before a last e in

@@ -30,7 +30,7 @@ use Rattle.format.proofs.Typing.{schema-right}
 use Rattle.format.proofs.LookOver.{LookedOver}
 use Rattle.format.proofs.Reading.{Copied, head-copied}
 use Rattle.format.proofs.Front.{header-same, parents-same, schema-same}
-use Rattle.format.proofs.Copies.{placedBy, placed-same, recorded-copied}
+use Rattle.format.proofs.Copies.{placed-same, recorded-copied}
 
 module _ (form : Form) (h : Sections) (s : List ℕ) where
   module _ (at next : ℕ) (good : recordAt form h s at ≡ Good next) where
@@ -51,7 +51,7 @@ module _ (form : Form) (h : Sections) (s : List ℕ) where
 
     -- and its steps are those that its bytes say by themselves.
     pub record-alone : stepsOfRecord form s at ≡ movedBy at (stepsOfRecord form (recordPart s at) 0)
-    unfolding movedBy placedBy
+    unfolding movedBy
     record-alone =
         let (place, within) = record-within form h s at next good in
         sym (placed-same (stepsOfRecord form s at)) ∙ recorded-copied part-alone (λ p. p) (λ p. at + p) (λ i. omega arith) form h next good (omega arith)

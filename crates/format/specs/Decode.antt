@@ -44,6 +44,15 @@ stepsOfRecords form s (suc n) at = stepsOfRecord form s at ++ stepsOfRecords for
 unfoldable pub recordedSteps : Form → Sections → List ℕ → List RecordedStep
 recordedSteps form h s = stepsOfRecords form s (h .records .count) (h .records .at)
 
--- recorded steps whose places lie so many bytes further on
+-- ---- the same steps at other offsets
+
+unfoldable pub placedAt : ℕ → RecordedStep → RecordedStep
+placedAt at f = record { place = at; step = f .step; pre = f .pre; post = f .post }
+
+-- each at the offset that its own is taken to
+unfoldable pub placedBy : (ℕ → ℕ) → List RecordedStep → List RecordedStep
+placedBy to = map (λ f. placedAt (to (f .place)) f)
+
+-- so many bytes further on
 unfoldable pub movedBy : ℕ → List RecordedStep → List RecordedStep
-movedBy k = map (λ f. record { place = k + f .place; step = f .step; pre = f .pre; post = f .post })
+movedBy k = placedBy (λ at. k + at)

@@ -8,10 +8,10 @@ use Rattle.terms.specs.declared.Sections.{Sections}
 use Rattle.format.specs.Form.{Form}
 use Rattle.format.specs.Records.{stepsIn, lengthIn, recordAt}
 use Rattle.format.specs.LookOver.{stepTotal}
-use Rattle.format.specs.Decode.{RecordedStep, stepsOfRecord, stepsOfRecords, movedBy}
+use Rattle.format.specs.Decode.{RecordedStep, stepsOfRecord, stepsOfRecords, placedAt, placedBy, movedBy}
 use Rattle.format.specs.Parts.{recordPart, recordsAt}
 use Rattle.format.proofs.Records.{record-within}
-use Rattle.format.proofs.Copies.{placedBy, placed-append}
+use Rattle.format.proofs.Copies.{placed-append}
 use Rattle.format.proofs.Parts.{record-alone, steps-alone}
 use Rattle.converted.specs.Converted.{unplaced}
 use Rattle.permuted.proofs.Sequences.{total}
@@ -21,9 +21,9 @@ unfoldable pub stepsAlone : Form → List ℕ → List RecordedStep
 stepsAlone form r = unplaced (stepsOfRecord form r 0)
 
 unplaced-moved : (k : ℕ) (fs : List RecordedStep) → unplaced (movedBy k fs) ≡ unplaced fs
-unfolding unplaced movedBy
+unfolding unplaced movedBy placedBy placedAt
 unplaced-moved k [] = refl
-unplaced-moved k (f ∷ fs) = ap (λ (gs : List RecordedStep). record { place = 0; step = f .step; pre = f .pre; post = f .post } ∷ gs) (unplaced-moved k fs)
+unplaced-moved k (f ∷ fs) = ap (λ (gs : List RecordedStep). placedAt 0 f ∷ gs) (unplaced-moved k fs)
 
 module _ (form : Form) (h : Sections) (s : List ℕ) where
   pub steps-by-records : (n at last : ℕ) → walk (recordAt form h s) n at ≡ Good last → unplaced (stepsOfRecords form s n at) ≡ flatMap (stepsAlone form) (recordsAt s n at)

@@ -10,7 +10,7 @@ use Rattle.terms.specs.Steps.{isAtom, ground}
 use Rattle.terms.specs.Agree.{SameSchema}
 use Rattle.terms.proofs.Agree.{ground-same}
 use Rattle.format.specs.Form.{Form}
-use Rattle.format.specs.Decode.{RecordedStep}
+use Rattle.format.specs.Decode.{RecordedStep, placedAt, placedBy}
 use Rattle.format.specs.Order.{plan}
 use Rattle.model.specs.Quantify.{Mem, any}
 use Rattle.model.specs.Domain.{Domain, State, GroundAction, Transition}
@@ -56,7 +56,7 @@ module _ (S T : Schema) (same : SameSchema S T) where
 -- the transitions of recorded steps do not say where these stand
 unplaced-told : (D : Domain) (S : Schema) (fs : List RecordedStep)
     → map (trimmedTransition D) (map (transition S) fs) ≡ map (λ f. trimmedTransition D (transition S f)) (unplaced fs)
-unfolding unplaced transition
+unfolding unplaced placedBy placedAt transition
 unplaced-told D S [] = refl
 unplaced-told D S (f ∷ fs) = ap (λ (ys : List Transition). trimmedTransition D (transition S f) ∷ ys) (unplaced-told D S fs)
 
