@@ -20,16 +20,16 @@ use Rattle.format.specs.Form.{Form, stateAfter}
 use Rattle.format.specs.States.{cut, state, nextState}
 
 -- a record's head: object count, step count, length
-unfoldable pub objectsIn : List ℕ → ℕ → ℕ
+unfoldable pub objectsIn : (s : List ℕ) (at : ℕ) → ℕ
 objectsIn s at = byteAt s at
 
-unfoldable pub stepsIn : List ℕ → ℕ → ℕ
+unfoldable pub stepsIn : (s : List ℕ) (at : ℕ) → ℕ
 stepsIn s at = byteAt s (at + 1)
 
-unfoldable pub lengthIn : List ℕ → ℕ → ℕ
+unfoldable pub lengthIn : (s : List ℕ) (at : ℕ) → ℕ
 lengthIn s at = two s (at + 2)
 
-unfoldable pub headBad : List ℕ → ℕ → Bool
+unfoldable pub headBad : (s : List ℕ) (at : ℕ) → Bool
 headBad s at =
     cut (length s) at headSize
     || ltb maxObjects (objectsIn s at)
@@ -38,61 +38,61 @@ headBad s at =
     || cut (length s) at (lengthIn s at)
 
 -- the rows of a record's head, 6 and then 24: where the record ends
-unfoldable pub recordHead : List ℕ → ℕ → Answer
+unfoldable pub recordHead : (s : List ℕ) (at : ℕ) → Answer
 recordHead s at = do
   _ ← refuse (headBad s at) 6 at
   _ ← refuse (eqb (stepsIn s at) 0) 24 at
   Good (at + lengthIn s at)
 
 -- row 7
-unfoldable pub object : ℕ → List ℕ → ℕ → ℕ → Answer
+unfoldable pub object : (kinds : ℕ) (s : List ℕ) (end at : ℕ) → Answer
 object kinds s end at = do
   _ ← refuse (cut end at 1 || outOfRange kinds (byteAt s at)) 7 at
   Good (at + 1)
 
 -- row 9 of the step at an offset
-unfoldable pub stepRefused : Schema → TypedObjects → List ℕ → ℕ → ℕ → Bool
+unfoldable pub stepRefused : (sch : Schema) (ob : TypedObjects) (s : List ℕ) (end at : ℕ) → Bool
 stepRefused sch ob s end at = cut end at stepSize || stepBad sch ob (stepAt s at)
 
 -- rows 9 and 10, then row 8 for the state after the step, `before` being the facts that hold before it
-unfoldable pub step : Form → Schema → TypedObjects → List ℕ → ℕ → List Fact → ℕ → Answer
+unfoldable pub step : (form : Form) (sch : Schema) (ob : TypedObjects) (s : List ℕ) (end : ℕ) (before : List Fact) (at : ℕ) → Answer
 step form sch ob s end before at = do
   _ ← refuse (stepRefused sch ob s end at) 9 at
   _ ← refuse (repeats (stepAt s at)) 10 at
   nextState form sch ob s end before (at + stepSize)
 
 -- a number of steps, each from the state that the one before it leaves
-unfoldable pub steps : Form → Schema → TypedObjects → List ℕ → ℕ → ℕ → List Fact → ℕ → Answer
+unfoldable pub steps : (form : Form) (sch : Schema) (ob : TypedObjects) (s : List ℕ) (end n : ℕ) (before : List Fact) (at : ℕ) → Answer
 steps form sch ob s end zero before at = Good at
 steps form sch ob s end (suc n) before at = do
   next ← step form sch ob s end before at
   steps form sch ob s end n (stateAfter form s before (at + stepSize)) next
 
 -- the objects of the record at an offset
-unfoldable pub objectsOf : List ℕ → ℕ → Objects
+unfoldable pub objectsOf : (s : List ℕ) (at : ℕ) → Objects
 objectsOf s at = record { count = objectsIn s at; at = at + headSize }
 
 -- the part of a record after its objects: a state, then steps each with the state after it
-unfoldable pub trajectory : Form → Schema → TypedObjects → List ℕ → ℕ → ℕ → ℕ → Answer
+unfoldable pub trajectory : (form : Form) (sch : Schema) (ob : TypedObjects) (s : List ℕ) (end n at : ℕ) → Answer
 trajectory form sch ob s end n at = do
   next ← state 8 sch ob s end at
   steps form sch ob s end n (listAt s at) next
 
 -- the record at an offset, after what its trajectory answers: no bytes are left
-unfoldable pub closed : ℕ → ℕ → Answer → Answer
+unfoldable pub closed : (at end : ℕ) → Answer → Answer
 closed at end a = do
   last ← a
   _ ← refuse (ltb last end) 6 at
   Good end
 
 -- a record whose head is right: its objects, its trajectory, and no bytes left
-unfoldable pub body : Form → Sections → List ℕ → ℕ → ℕ → Answer
+unfoldable pub body : (form : Form) (h : Sections) (s : List ℕ) (at end : ℕ) → Answer
 body form h s at end = do
   first ← walk (object (h .kinds) s end) (objectsIn s at) (at + headSize)
   closed at end (trajectory form (schema h s) (typedObjects (objectsOf s at) s) s end (stepsIn s at) first)
 
 -- one record: where the next one starts
-unfoldable pub recordAt : Form → Sections → List ℕ → ℕ → Answer
+unfoldable pub recordAt : (form : Form) (h : Sections) (s : List ℕ) (at : ℕ) → Answer
 recordAt form h s at = do
   end ← recordHead s at
   body form h s at end

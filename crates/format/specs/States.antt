@@ -16,36 +16,36 @@ use Rattle.limits.specs.Limits.{countSize, maxFacts, factSize}
 use Rattle.format.specs.Form.{Form, mostListed, stateAfter}
 
 -- `size` bytes from `at` reach past the end
-unfoldable pub cut : ℕ → ℕ → ℕ → Bool
+unfoldable pub cut : (end at size : ℕ) → Bool
 cut end at size = ltb end (at + size)
 
 -- a count is cut, or over the most that there may be
-unfoldable pub countBad : ℕ → List ℕ → ℕ → ℕ → Bool
+unfoldable pub countBad : (most : ℕ) (s : List ℕ) (end at : ℕ) → Bool
 countBad most s end at = cut end at countSize || ltb most (two s at)
 
 -- the fact is cut, wrong, or not after the one before it
-unfoldable pub factRefused : Schema → TypedObjects → List ℕ → ℕ → Fact → ℕ → Bool
+unfoldable pub factRefused : (sch : Schema) (ob : TypedObjects) (s : List ℕ) (end : ℕ) (last : Fact) (at : ℕ) → Bool
 factRefused sch ob s end last at = cut end at factSize || factBad sch ob (factAt s at) || not (precedes last (factAt s at))
 
 -- a number of facts, each refused with the number given at its own offset
-unfoldable pub facts : ℕ → Schema → TypedObjects → List ℕ → ℕ → ℕ → Fact → ℕ → Answer
+unfoldable pub facts : (num : ℕ) (sch : Schema) (ob : TypedObjects) (s : List ℕ) (end n : ℕ) (last : Fact) (at : ℕ) → Answer
 facts num sch ob s end zero last at = Good at
 facts num sch ob s end (suc n) last at = do
   _ ← refuse (factRefused sch ob s end last at) num at
   facts num sch ob s end n (factAt s at) (at + factSize)
 
 -- a list of facts, refused with the number given at its count or at a fact
-unfoldable pub list : ℕ → ℕ → Schema → TypedObjects → List ℕ → ℕ → ℕ → Answer
+unfoldable pub list : (num most : ℕ) (sch : Schema) (ob : TypedObjects) (s : List ℕ) (end at : ℕ) → Answer
 list num most sch ob s end at = do
   _ ← refuse (countBad most s end at) num at
   facts num sch ob s end (two s at) noFact (at + countSize)
 
 -- a record's first state, and a start of an order
-abbrev pub state : ℕ → Schema → TypedObjects → List ℕ → ℕ → ℕ → Answer
+abbrev pub state : (num : ℕ) (sch : Schema) (ob : TypedObjects) (s : List ℕ) (end at : ℕ) → Answer
 state num sch ob s end at = list num maxFacts sch ob s end at
 
 -- a state after a step: its list, and at the list's count that it leaves no more facts than a state may have
-unfoldable pub nextState : Form → Schema → TypedObjects → List ℕ → ℕ → List Fact → ℕ → Answer
+unfoldable pub nextState : (form : Form) (sch : Schema) (ob : TypedObjects) (s : List ℕ) (end : ℕ) (before : List Fact) (at : ℕ) → Answer
 nextState form sch ob s end before at = do
   next ← list 8 (mostListed form) sch ob s end at
   _ ← refuse (ltb maxFacts (length (stateAfter form s before at))) 8 at
