@@ -11,7 +11,10 @@ use Rattle.terms.specs.declared.Fact.{Fact}
 use Rattle.terms.specs.Facts.{factAt}
 use Rattle.terms.specs.Steps.{objectOf, stepAt}
 use Rattle.format.specs.Lists.{factsAt, listAt, listEnd}
-use Rattle.jobs.specs.Convert.{factsBytes, listBytes, stepBytes}
+use Rattle.format.specs.Filed.{filedStepAt}
+use Rattle.format.specs.Form.{Form}
+use Rattle.format.specs.Decode.{recordedStep}
+use Rattle.jobs.specs.Convert.{factsBytes, listBytes, stepBytes, filedStepBytes}
 use Rattle.converted.proofs.Stands.{Stands, stands-first, stands-rest, stands-left, stands-right}
 
 -- ---- a two-byte number
@@ -92,13 +95,14 @@ module _ (fs : List Fact) (t : List ℕ) (at : ℕ) (few : length fs < 65536) (h
 -- ---- a step
 
 -- of a step that was read: its binding has four objects
-pub length-stepBytes : (s : List ℕ) (a : ℕ) → length (stepBytes (stepAt s a)) ≡ stepSize
-unfolding stepBytes
-length-stepBytes s a = refl
+pub length-filedStepBytes : (form : Form) (s : List ℕ) (before : List Fact) (a : ℕ) → length (filedStepBytes (recordedStep form s before a)) ≡ stepSize
+unfolding filedStepBytes stepBytes
+length-filedStepBytes form s before a = refl
 
-pub step-read : (s : List ℕ) (a : ℕ) (t : List ℕ) (at : ℕ) → Stands (stepBytes (stepAt s a)) t at → stepAt t at ≡ stepAt s a
-unfolding stepBytes stepAt objectOf
-step-read s a t at h =
+pub step-read : (form : Form) (s : List ℕ) (before : List Fact) (a : ℕ) (t : List ℕ) (at : ℕ) → Stands (filedStepBytes (recordedStep form s before a)) t at
+    → filedStepAt t at ≡ filedStepAt s a
+unfolding filedStepBytes recordedStep stepBytes filedStepAt stepAt objectOf
+step-read form s before a t at h =
     let h₁ = stands-rest _ _ t at h in
     let h₂ = stands-rest _ _ t (at + 1) h₁ in
     let h₃ = stands-rest _ _ t (at + 1 + 1) h₂ in

@@ -16,18 +16,18 @@ use Rattle.terms.specs.declared.Sections.{Sections}
 use Rattle.terms.specs.declared.Fact.{Fact}
 use Rattle.terms.specs.Schema.{Schema, TypedObjects}
 use Rattle.terms.specs.Facts.{factAt}
-use Rattle.terms.specs.Steps.{objectOf, stepAt}
 use Rattle.format.specs.Lists.{factsAt, listAt, listEnd}
 use Rattle.format.specs.Form.{Form, mostListed, stateAfter}
 use Rattle.format.specs.Records.{objectsIn, stepsIn, lengthIn, step, steps, recordAt}
 use Rattle.format.specs.Decode.{firstAt, recordedStep, recordedStepsAt, stepsOfRecord}
 use Rattle.format.proofs.States.{list-ends, next-good}
 use Rattle.format.proofs.Records.{head-limits, step-good, step-ends, steps-parted, steps-within, record-good, record-within}
-use Rattle.jobs.specs.Convert.{factsBytes, listBytes, stepBytes, listed, stepsBytes, bytesAt}
+use Rattle.jobs.specs.Convert.{factsBytes, listBytes, filedStepBytes, listed, stepsBytes, bytesAt}
+use Rattle.jobs.proofs.Bytes.{filed-step-again}
 use Rattle.wellformed.specs.Right.{RightState}
 use Rattle.wellformed.proofs.States.{length-facts, list-increasing, next-right, state-right}
 use Rattle.converted.proofs.Stands.{Stands, stands-at, stands-none, stands-more, stands-both, length-part, part-stands}
-use Rattle.converted.proofs.Rendered.{length-two, length-listBytes, length-stepBytes}
+use Rattle.converted.proofs.Rendered.{length-two, length-listBytes, length-filedStepBytes}
 use Rattle.converted.proofs.Listed.{listed-again}
 use Rattle.converted.proofs.Rendering.{bodyIn, recordIn, recordsIn, length-recordIn}
 use Rattle.converted.proofs.Record.{low-end}
@@ -51,18 +51,8 @@ facts-own s (suc n) at l =
     let rest : Stands (factsBytes (factsAt s n (at + 3))) s (at + 1 + 1 + 1) = rw f (facts-own s n (at + factSize) (omega arith)) in
     stands-more _ _ s at refl (stands-more _ _ s (at + 1) refl (stands-more _ _ s (at + 1 + 1) (ap (byteAt s) e) rest))
 
-step-own : (s : List ℕ) (at : ℕ) → at + stepSize ≤ length s → Stands (stepBytes (stepAt s at)) s at
-unfolding stepBytes stepAt objectOf
-step-own s at l =
-    let p₂ : at + 1 + 1 ≡ at + 2 = omega arith in
-    let p₃ : at + 1 + 1 + 1 ≡ at + 3 = omega arith in
-    let p₄ : at + 1 + 1 + 1 + 1 ≡ at + 4 = omega arith in
-    stands-more _ _ s at refl
-    (stands-more _ _ s (at + 1) refl
-    (stands-more _ _ s (at + 1 + 1) (ap (byteAt s) p₂)
-    (stands-more _ _ s (at + 1 + 1 + 1) (ap (byteAt s) p₃)
-    (stands-more _ _ s (at + 1 + 1 + 1 + 1) (ap (byteAt s) p₄)
-    (stands-none s (at + 1 + 1 + 1 + 1 + 1) (omega arith))))))
+step-own : (form : Form) (s : List ℕ) (before : List Fact) (at : ℕ) → at + stepSize ≤ length s → Stands (filedStepBytes (recordedStep form s before at)) s at
+step-own form s before at l = rw (filed-step-again form s before at l) (part-stands s at stepSize l s at l (λ i m. refl))
 
 module _ (s : List ℕ) (bytes : Bytes s) where
   -- a two-byte number
@@ -119,10 +109,10 @@ module _ (form : Form) (sch : Schema) (ob : TypedObjects) (s : List ℕ) (end : 
       let after = next-right form sch ob s end before (at + stepSize) _ right (step-good form sch ob s end before at _ good .2) in
       let (size, stand) = steps-own n (stateAfter form s before (at + stepSize)) (listEnd s (at + stepSize)) last rest after reach in
       let again : listed form (recordedStep form s before at) ≡ listAt s (at + stepSize) = list-again before at _ good right in
-      let a : List ℕ = stepBytes (stepAt s at) in
+      let a : List ℕ = filedStepBytes (recordedStep form s before at) in
       let b : List ℕ = listBytes (listAt s (at + stepSize)) in
       let c : List ℕ = stepsBytes form (recordedStepsAt form s n (stateAfter form s before (at + stepSize)) (listEnd s (at + stepSize))) in
-      let l₁ : length a ≡ stepSize = length-stepBytes s at in
+      let l₁ : length a ≡ stepSize = length-filedStepBytes form s before at in
       let l₂ : length (a ++ b) ≡ length a + length b = length-append a b in
       let l₃ : length (a ++ b ++ c) ≡ length (a ++ b) + length c = length-append (a ++ b) c in
       let l₄ : at + stepSize + length b ≡ listEnd s (at + stepSize) = length-list-own s (at + stepSize) in (
@@ -130,7 +120,7 @@ module _ (form : Form) (sch : Schema) (ob : TypedObjects) (s : List ℕ) (end : 
         λ bytes l.
             rw again
             (stands-both (a ++ b) c s at
-            (stands-both a b s at (step-own s at (omega arith)) (stands-at b s (at + stepSize) _ (omega arith) (list-own s bytes (at + stepSize) (omega arith))))
+            (stands-both a b s at (step-own form s before at (omega arith)) (stands-at b s (at + stepSize) _ (omega arith) (list-own s bytes (at + stepSize) (omega arith))))
             (stands-at c s (listEnd s (at + stepSize)) _ (omega arith) (stand bytes l))),
       )
 

@@ -11,29 +11,29 @@ use Rattle.answer.specs.Laws.{refuse-unmet, bind-good}
 use Rattle.terms.specs.declared.Fact.{Fact}
 use Rattle.terms.specs.Schema.{Schema, TypedObjects}
 use Rattle.terms.specs.Facts.{factBad}
-use Rattle.terms.specs.Steps.{stepAt}
 use Rattle.terms.specs.Typing.{Falling}
 use Rattle.terms.specs.Agree.{SameSchema}
 use Rattle.terms.proofs.Agree.{SameObjects, fact-over, step-over}
 use Rattle.limits.specs.Limits.{stepSize}
 use Rattle.format.specs.Lists.{listAt, listEnd}
+use Rattle.format.specs.Filed.{filedStepAt}
 use Rattle.format.specs.Form.{Form, mostListed, stateAfter}
 use Rattle.format.specs.States.{cut}
 use Rattle.format.specs.Records.{step, steps, stepRefused}
 use Rattle.format.specs.Decode.{RecordedStep, recordedStep, recordedStepsAt, placedAt, placedBy}
 use Rattle.format.proofs.States.{next-in}
 use Rattle.format.proofs.Records.{step-good, steps-parted}
-use Rattle.jobs.specs.Convert.{listBytes, stepBytes, listed, stepsBytes}
+use Rattle.jobs.specs.Convert.{listBytes, filedStepBytes, listed, stepsBytes}
 use Rattle.wellformed.specs.Right.{RightState}
 use Rattle.wellformed.proofs.States.{next-right}
 use Rattle.converted.proofs.Stands.{Stands, stands-at, stands-left, stands-right}
-use Rattle.converted.proofs.Rendered.{length-stepBytes, list-read, list-end-read, step-read}
+use Rattle.converted.proofs.Rendered.{length-filedStepBytes, list-read, list-end-read, step-read}
 use Rattle.converted.proofs.Listed.{most-told, listed-suits, listed-increasing, listed-few, listed-after}
 use Rattle.converted.proofs.Lists.{list-in}
 
 -- places apart, bytes do not tell recorded steps from others
 pub bytes-unplaced : (to : Form) (fs : List RecordedStep) → stepsBytes to (placedBy (λ p. 0) fs) ≡ stepsBytes to fs
-unfolding stepsBytes placedBy placedAt listed
+unfolding stepsBytes filedStepBytes placedBy placedAt listed
 bytes-unplaced to [] = refl
 bytes-unplaced to (f ∷ fs) = rw (bytes-unplaced to fs)
 
@@ -43,15 +43,15 @@ bytes-same to fs gs e = sym (bytes-unplaced to fs) ∙ ap (stepsBytes to) e ∙ 
 module _ (form to : Form) (S T : Schema) (same : SameSchema S T) (fall : Falling S) (kinds : S .kinds ≡ T .kinds) (H K : TypedObjects) (typed : SameObjects (S .kinds) H K) (s t : List ℕ) (end end′ : ℕ) where
   -- one step of good form, rendered
   module _ (before : List Fact) (at next at′ : ℕ) (good : step form S H s end before at ≡ Good next) (right : RightState S H before)
-      (h : Stands (stepBytes (stepAt s at) ++ listBytes (listed to (recordedStep form s before at))) t at′) where
+      (h : Stands (filedStepBytes (recordedStep form s before at) ++ listBytes (listed to (recordedStep form s before at))) t at′) where
     after-right : RightState S H (stateAfter form s before (at + stepSize))
     after-right = next-right form S H s end before (at + stepSize) next right (step-good form S H s end before at next good .2)
 
-    step-again : stepAt t at′ ≡ stepAt s at
-    step-again = step-read s at t at′ (stands-left _ (listBytes (listed to (recordedStep form s before at))) t at′ h)
+    step-again : filedStepAt t at′ ≡ filedStepAt s at
+    step-again = step-read form s before at t at′ (stands-left _ (listBytes (listed to (recordedStep form s before at))) t at′ h)
 
     list-stands : Stands (listBytes (listed to (recordedStep form s before at))) t (at′ + stepSize)
-    list-stands = rw (length-stepBytes s at) at (stands-right (stepBytes (stepAt s at)) (listBytes (listed to (recordedStep form s before at))) t at′ h)
+    list-stands = rw (length-filedStepBytes form s before at) at (stands-right (filedStepBytes (recordedStep form s before at)) (listBytes (listed to (recordedStep form s before at))) t at′ h)
 
     few : length (listed to (recordedStep form s before at)) < 65536
     unfolding recordedStep
@@ -79,7 +79,7 @@ module _ (form to : Form) (S T : Schema) (same : SameSchema S T) (fall : Falling
         let list = list-in 8 T K t end′ (mostListed to) (listed to g) (at′ + stepSize) list-stands
         (λ f m. over f (listed-suits S H g right after-right to f m))
         (listed-increasing S H g right after-right to) (listed-few S H g right after-right to) (omega (arith, most-told to)) l in
-        refuse-unmet _ _ _ _ (rw (step-again, le-ltb end′ (at′ + stepSize) (omega arith), step-over S T same fall (S .kinds) (omega arith) (omega (arith, kinds)) H K typed (stepAt s at) suits))
+        refuse-unmet _ _ _ _ (rw (step-again, le-ltb end′ (at′ + stepSize) (omega arith), step-over S T same fall (S .kinds) (omega arith) (omega (arith, kinds)) H K typed (filedStepAt s at) suits))
         ∙ refuse-unmet _ _ _ _ (rw step-again different)
         ∙ next-in to T K t end′ before (at′ + stepSize) _ list (rw after-same (after-right .few))
 
@@ -92,10 +92,10 @@ module _ (form to : Form) (S T : Schema) (same : SameSchema S T) (fall : Falling
   steps-rendered zero before at last at′ e right h l = (ap Good (omega arith), refl)
   steps-rendered (suc n) before at last at′ e right h l =
       let (good, rest) = steps-parted form S H s end n before at last e in
-      let a : List ℕ = stepBytes (stepAt s at) in
+      let a : List ℕ = filedStepBytes (recordedStep form s before at) in
       let b : List ℕ = listBytes (listed to (recordedStep form s before at)) in
       let c : List ℕ = stepsBytes to (recordedStepsAt form s n (stateAfter form s before (at + stepSize)) (listEnd s (at + stepSize))) in
-      let one : length (a ++ b) ≡ stepSize + length b = length-append a b ∙ ap (λ (x : ℕ). x + length b) (length-stepBytes s at) in
+      let one : length (a ++ b) ≡ stepSize + length b = length-append a b ∙ ap (λ (x : ℕ). x + length b) (length-filedStepBytes form s before at) in
       let all : length (a ++ b ++ c) ≡ length (a ++ b) + length c = length-append (a ++ b) c in
       let first : Stands (a ++ b) t at′ = stands-left (a ++ b) c t at′ h in
       let place : at′ + length (a ++ b) ≡ at′ + stepSize + length b = omega arith in

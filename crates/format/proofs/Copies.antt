@@ -18,11 +18,11 @@ use Rattle.terms.specs.declared.Fact.{Fact}
 use Rattle.terms.specs.declared.Sections.{Sections}
 use Rattle.terms.specs.Schema.{Schema, TypedObjects, schema, typedObjects, outOfRange}
 use Rattle.terms.specs.Facts.{factAt, noFact}
-use Rattle.terms.specs.Steps.{stepAt}
 use Rattle.terms.specs.Typing.{Falling}
 use Rattle.terms.specs.Agree.{SameSchema}
 use Rattle.terms.proofs.Agree.{SameObjects, fact-over, step-over}
 use Rattle.limits.specs.Limits.{headSize, countSize, factSize, stepSize, maxFacts, maxObjects, maxSteps}
+use Rattle.format.specs.Filed.{filedStepAt}
 use Rattle.format.specs.Form.{Form, mostListed, stateAfter}
 use Rattle.format.specs.States.{cut, countBad, factRefused, facts, list, nextState}
 use Rattle.format.specs.Records.{objectsIn, stepsIn, lengthIn, headBad, recordHead, object, step, steps, objectsOf, recordAt, stepRefused}
@@ -32,7 +32,7 @@ use Rattle.format.specs.Decode.{RecordedStep, firstAt, recordedStep, rec
 use Rattle.format.proofs.States.{fact-good, count-within, list-ends, next-good, next-in}
 use Rattle.format.proofs.Records.{head-in-limits, head-passed, head-limits, object-entry, step-good, step-reach, step-ends, steps-parted, steps-within, record-good, record-in, record-within}
 use Rattle.format.proofs.Typing.{objects-known}
-use Rattle.format.proofs.Reading.{Copied, Facing, facing-on, byte-copied, two-copied, fact-copied, step-copied, head-copied, end-copied, list-copied}
+use Rattle.format.proofs.Reading.{Copied, Facing, facing-on, byte-copied, two-copied, fact-copied, filed-step-copied, head-copied, end-copied, list-copied}
 
 pub placed-same : (fs : List RecordedStep) → placedBy (λ p. p) fs ≡ fs
 unfolding placedBy placedAt
@@ -95,11 +95,11 @@ module _ {s t : List ℕ} {at at′ size : ℕ} (c : Copied s at t at′ size) w
       step-beside before a b next f l e =
           let (suits, different, behind) = step-good form S H s end before a next e in
           let reach = step-reach form S H s end before a next e in
-          let i = step-copied c a b f (omega arith) in
+          let i = filed-step-copied c a b f (omega arith) in
           let (m, g, good) = next-beside before (a + stepSize) (b + stepSize) next (facing-on f stepSize) l behind in (
             m,
             g,
-            refuse-unmet _ _ _ _ (rw (i, le-ltb end′ (b + stepSize) (omega arith), step-over S T same fall (S .kinds) (omega arith) (omega (arith, kinds)) H K typed (stepAt s a) suits))
+            refuse-unmet _ _ _ _ (rw (i, le-ltb end′ (b + stepSize) (omega arith), step-over S T same fall (S .kinds) (omega arith) (omega (arith, kinds)) H K typed (filedStepAt s a) suits))
                 ∙ refuse-unmet _ _ _ _ (rw i different) ∙ good,
           )
 
@@ -224,7 +224,7 @@ module _ {s t : List ℕ} {at at′ size : ℕ} (c : Copied s at t at′ size) w
           let face′ = facing-on face stepSize in
           rw (
             place-same a b face,
-            step-copied c a b face (omega arith),
+            filed-step-copied c a b face (omega arith),
             list-copied c (a + stepSize) (b + stepSize) face′ (omega arith),
             steps-recorded n (stateAfter form s before (a + stepSize)) (listEnd s (a + stepSize)) (listEnd t (b + stepSize)) last (end-copied c (a + stepSize) (b + stepSize) face′ (omega arith)) rest,
           )

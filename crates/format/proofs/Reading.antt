@@ -10,6 +10,7 @@ use Rattle.input.specs.Bytes.{byteAt, two}
 use Rattle.terms.specs.Facts.{factAt}
 use Rattle.terms.specs.Steps.{stepAt}
 use Rattle.limits.specs.Limits.{headSize, countSize, factSize, stepSize, relationSize, moveSize}
+use Rattle.format.specs.Filed.{filedStepAt}
 use Rattle.format.specs.Header.{kindBad, relationBad, moveBad}
 use Rattle.format.specs.Records.{objectsIn, stepsIn, lengthIn}
 use Rattle.format.specs.Lists.{factsAt, listAt, listEnd}
@@ -64,6 +65,10 @@ module _ {s t : List ℕ} {at at′ size : ℕ} (c : Copied s at t at′ size) w
     unfolding stepAt
     step-copied l =
         rw (byte-copied a b f (omega arith), further 1 (omega arith), further 2 (omega arith), further 3 (omega arith), further 4 (omega arith))
+
+    pub filed-step-copied : a + stepSize ≤ at + size → filedStepAt t b ≡ filedStepAt s a
+    unfolding filedStepAt
+    filed-step-copied l = step-copied l
 
     -- rows 4 and 5 read an entry and no more
     pub relation-copied : (kinds : ℕ) → a + relationSize ≤ at + size → relationBad t kinds b ≡ relationBad s kinds a

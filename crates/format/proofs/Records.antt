@@ -16,8 +16,9 @@ use Rattle.input.specs.Bytes.{byteAt}
 use Rattle.terms.specs.declared.Sections.{Sections}
 use Rattle.terms.specs.declared.Fact.{Fact}
 use Rattle.terms.specs.Schema.{Schema, TypedObjects, schema, typedObjects, outOfRange}
-use Rattle.terms.specs.Steps.{stepAt, stepBad, repeats}
+use Rattle.terms.specs.Steps.{stepBad, repeats}
 use Rattle.limits.specs.Limits.{headSize, maxObjects, maxSteps, maxFacts, stepSize}
+use Rattle.format.specs.Filed.{filedStepAt}
 use Rattle.format.specs.Form.{Form, stateAfter}
 use Rattle.format.specs.States.{cut, state, nextState}
 use Rattle.format.specs.Records.{objectsIn, stepsIn, lengthIn, headBad, recordHead, object, step, steps, objectsOf, trajectory, body, recordAt, stepRefused, closed}
@@ -82,16 +83,16 @@ module _ (form : Form) (sch : Schema) (ob : TypedObjects) (s : List ℕ) (end : 
   -- a good step suits, has no object twice, and the state after it is good
   pub step-good : (before : List Fact) (at next : ℕ)
       → step form sch ob s end before at ≡ Good next
-      → (stepBad sch ob (stepAt s at) ≡ false) × (repeats (stepAt s at) ≡ false) × (nextState form sch ob s end before (at + stepSize) ≡ Good next)
+      → (stepBad sch ob (filedStepAt s at) ≡ false) × (repeats (filedStepAt s at) ≡ false) × (nextState form sch ob s end before (at + stepSize) ≡ Good next)
   unfolding step stepRefused
   step-good before at next e =
       let p = passed _ 9 at next _ e in
       let q = passed _ 10 at next _ (p .1) in
-      (neither (cut end at stepSize) (stepBad sch ob (stepAt s at)) (p .0) .1, q .0, q .1)
+      (neither (cut end at stepSize) (stepBad sch ob (filedStepAt s at)) (p .0) .1, q .0, q .1)
 
   pub step-reach : (before : List Fact) (at next : ℕ) → step form sch ob s end before at ≡ Good next → at + stepSize ≤ end
   unfolding step stepRefused cut
-  step-reach before at next e = ltb-false end (at + stepSize) (neither (ltb end (at + stepSize)) (stepBad sch ob (stepAt s at)) (passed _ 9 at next _ e .0) .0)
+  step-reach before at next e = ltb-false end (at + stepSize) (neither (ltb end (at + stepSize)) (stepBad sch ob (filedStepAt s at)) (passed _ 9 at next _ e .0) .0)
 
   -- it ends after the list behind it, within the record
   pub step-ends : (before : List Fact) (at next : ℕ) → step form sch ob s end before at ≡ Good next → (next ≡ listEnd s (at + stepSize)) × (listEnd s (at + stepSize) ≤ end)

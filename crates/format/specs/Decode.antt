@@ -4,9 +4,9 @@ use mathlib.Core.List.{List, [], _∷_, _++_, map}
 use Rattle.terms.specs.declared.Sections.{Sections}
 use Rattle.terms.specs.declared.Fact.{Fact}
 use Rattle.terms.specs.declared.Step.{Step}
-use Rattle.terms.specs.Steps.{stepAt}
 use Rattle.limits.specs.Limits.{headSize, stepSize}
 use Rattle.format.specs.Lists.{listAt, listEnd}
+use Rattle.format.specs.Filed.{filedStepAt}
 use Rattle.format.specs.Form.{Form, stateAfter}
 use Rattle.format.specs.Records.{objectsIn, stepsIn, lengthIn}
 
@@ -20,7 +20,7 @@ pub record RecordedStep : Type 0 where
 -- the step at an offset, with the facts that hold before it
 unfoldable pub recordedStep : Form → List ℕ → List Fact → ℕ → RecordedStep
 recordedStep form s before at =
-    record { place = at; step = stepAt s at; pre = before; post = stateAfter form s before (at + stepSize) }
+    record { place = at; step = filedStepAt s at; pre = before; post = stateAfter form s before (at + stepSize) }
 
 -- a number of steps from an offset on, the first from the facts given, each other from those that the one before it leaves
 unfoldable pub recordedStepsAt : Form → List ℕ → ℕ → List Fact → ℕ → List RecordedStep

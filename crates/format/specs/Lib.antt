@@ -4,6 +4,7 @@ pub mod Lists
 pub mod Toggled
 pub mod Form
 pub mod States
+pub mod Filed
 pub mod Records
 pub mod LookOver
 pub mod Decode

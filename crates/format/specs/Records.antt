@@ -13,10 +13,11 @@ use Rattle.terms.specs.declared.Sections.{Sections}
 use Rattle.terms.specs.declared.Objects.{Objects}
 use Rattle.terms.specs.declared.Fact.{Fact}
 use Rattle.terms.specs.Schema.{Schema, TypedObjects, schema, typedObjects, outOfRange}
-use Rattle.terms.specs.Steps.{stepAt, stepBad, repeats}
+use Rattle.terms.specs.Steps.{stepBad, repeats}
 use Rattle.limits.specs.Limits.{headSize, maxObjects, maxSteps, stepSize}
 use Rattle.format.specs.Lists.{listAt}
 use Rattle.format.specs.Form.{Form, stateAfter}
+use Rattle.format.specs.Filed.{filedStepAt}
 use Rattle.format.specs.States.{cut, state, nextState}
 
 -- a record's head: object count, step count, length
@@ -52,13 +53,13 @@ object kinds s end at = do
 
 -- row 9 of the step at an offset
 unfoldable pub stepRefused : (sch : Schema) (ob : TypedObjects) (s : List ℕ) (end at : ℕ) → Bool
-stepRefused sch ob s end at = cut end at stepSize || stepBad sch ob (stepAt s at)
+stepRefused sch ob s end at = cut end at stepSize || stepBad sch ob (filedStepAt s at)
 
 -- rows 9 and 10, then row 8 for the state after the step, `before` being the facts that hold before it
 unfoldable pub step : (form : Form) (sch : Schema) (ob : TypedObjects) (s : List ℕ) (end : ℕ) (before : List Fact) (at : ℕ) → Answer
 step form sch ob s end before at = do
   _ ← refuse (stepRefused sch ob s end at) 9 at
-  _ ← refuse (repeats (stepAt s at)) 10 at
+  _ ← refuse (repeats (filedStepAt s at)) 10 at
   nextState form sch ob s end before (at + stepSize)
 
 -- a number of steps, each from the state that the one before it leaves

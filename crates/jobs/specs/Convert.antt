@@ -39,13 +39,17 @@ stepBytes st =
     ∷ objectOf (st .binding) (record { 0 = 4 }) .0
     ∷ []
 
+-- a recorded step: what `filedStepAt` reads is written back as the bytes that were there (proofs/Bytes)
+unfoldable pub filedStepBytes : RecordedStep → List ℕ
+filedStepBytes f = stepBytes (f .step)
+
 -- the list after a step in a form: the facts that turn, or those that hold
 unfoldable pub listed : Form → RecordedStep → List Fact
 listed form f = cond form (toggled (f .pre) (f .post)) (f .post)
 
 unfoldable pub stepsBytes : Form → List RecordedStep → List ℕ
 stepsBytes form [] = []
-stepsBytes form (f ∷ fs) = stepBytes (f .step) ++ listBytes (listed form f) ++ stepsBytes form fs
+stepsBytes form (f ∷ fs) = filedStepBytes f ++ listBytes (listed form f) ++ stepsBytes form fs
 
 -- ---- a book in the form `to`, which `s` is not in
 

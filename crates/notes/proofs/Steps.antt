@@ -8,8 +8,8 @@ use borrow.Rule.Slice.PartMut.{midOf}
 use Rattle.terms.specs.declared.Fact.{Fact}
 use Rattle.terms.specs.declared.Step.{Step}
 use Rattle.terms.specs.Schema.{Schema}
-use Rattle.terms.specs.Steps.{stepAt}
 use Rattle.limits.specs.Limits.{stepSize}
+use Rattle.format.specs.Filed.{filedStepAt}
 use Rattle.format.specs.Lists.{listAt}
 use Rattle.format.specs.Form.{full, stateAfter}
 use Rattle.format.specs.Decode.{recordedStep}
@@ -26,7 +26,7 @@ bound-part l a at e =
     rw (w, e)
 
 pub observed-by : (s : List ℕ) (pre at : ℕ) (masks : List ℕ) (named : ℕ) (step : Step) (atoms before after new : List ℕ) (unbound : Bool) (offset : ℕ)
-    → step ≡ stepAt s at
+    → step ≡ filedStepAt s at
     → atoms ≡ observedSet masks (step .action .0) bound
     → StepMarked atoms (step .binding) (listAt s pre) (listAt s (at + stepSize)) before after unbound
     → new ≡ noted (step .action .0) before after masks
@@ -38,13 +38,13 @@ observed-by s pre at masks named step atoms before after new unbound offset is o
 
 -- the same of a short book, by what is asked of the state and what turns
 pub turned-by : (sch : Schema) (s : List ℕ) (at : ℕ) (masks : List ℕ) (named : ℕ) (step : Step) (atoms before after new m m′ : List ℕ) (unbound : Bool) (offset : ℕ) (ts : List Fact)
-    → step ≡ stepAt s at
+    → step ≡ filedStepAt s at
     → atoms ≡ observedSet masks (step .action .0) bound
     → before ≡ heldAtoms sch (step .binding) atoms m
     → StepTurned atoms (step .binding) ts m m′ before after unbound
     → new ≡ noted (step .action .0) before after masks
     → offset ≡ firstNamed named unbound at
-    → TurnObserved sch (stepAt s at) ts at masks named new offset m m′
+    → TurnObserved sch (filedStepAt s at) ts at masks named new offset m m′
 unfolding observedTurned
 turned-by sch s at masks named step atoms before after new m m′ unbound offset ts is own held turned n f =
     record {

@@ -11,7 +11,7 @@ use Rattle.terms.specs.declared.Fact.{Fact}
 use Rattle.terms.specs.declared.Sections.{Sections}
 use Rattle.terms.specs.declared.Step.{Step}
 use Rattle.terms.specs.Schema.{Schema}
-use Rattle.terms.specs.Steps.{stepAt}
+use Rattle.format.specs.Filed.{filedStepAt}
 use Rattle.format.specs.Lists.{listEnd}
 use Rattle.atoms.specs.Atoms.{atomsEnd}
 use Rattle.grounding.specs.Grounding.{Bounded, heldAtoms}
@@ -48,10 +48,10 @@ firstSets a atoms l = widened (setAt a bound) atoms (widened (setAt a alwaysAfte
 pub record StepTurnable (h : Sections) (s : List ℕ) (at : ℕ) (m masks : List ℕ) : Type 0 where
   pub near : at ≤ maxLength
   pub within : listEnd s (at + stepSize) ≤ length s
-  pub counted : 1 ≤ stepAt s at .action .0
-  pub known : stepAt s at .action .0 ≤ maxMoves
-  pub bounded : Bounded (stepAt s at .binding)
-  pub ended : (n : ℕ) → atomsEnd (h .relations .count) ≤ n → testBit (observedSet masks (stepAt s at .action .0) bound) n ≡ false
+  pub counted : 1 ≤ filedStepAt s at .action .0
+  pub known : filedStepAt s at .action .0 ≤ maxMoves
+  pub bounded : Bounded (filedStepAt s at .binding)
+  pub ended : (n : ℕ) → atomsEnd (h .relations .count) ≤ n → testBit (observedSet masks (filedStepAt s at .action .0) bound) n ≡ false
   pub sized : length masks ≡ observedSize
   pub long : length m ≡ stateSize
 

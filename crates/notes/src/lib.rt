@@ -1,5 +1,5 @@
 // What the learner has observed, before any record and after a step: seven sets of bound facts (lifted atoms) for each move, and the first step
-// that row 11 names. Uses atoms for the bound facts of a move, marks for those of a step, with row 8 of the list behind it, mask for the sets, terms,
+// that row 11 names. Uses atoms for the bound facts of a move, marks for those of a step, with row 8 of the list behind it, mask for the sets, terms, filed,
 // answer, limits, and where the sets stand from observed; the contracts cite observed, format and states, and specs/Notes.antt for the parts.
 ghost use mathlib.Core.Path.{_≡_};
 ghost use Prim.Native.Nat.{ℕ, _+_, _≤_};
@@ -7,7 +7,7 @@ ghost use lib.ListN.{length};
 ghost use Rattle.limits.specs.Limits.{maxLength, maxMoves, stepSize, setSize, observedSize};
 ghost use Rattle.mask.specs.Sets.{difference, empty, cardinality};
 ghost use Rattle.terms.specs.Schema.{schema};
-ghost use Rattle.terms.specs.Steps.{stepAt};
+ghost use Rattle.format.specs.Filed.{filedStepAt};
 ghost use Rattle.format.specs.Lists.{listAt, listEnd};
 ghost use Rattle.format.specs.Form.{full};
 ghost use Rattle.observed.specs.Observed.{noted, nothingSeen, firstNamed};
@@ -19,7 +19,6 @@ ghost use Rattle.notes.specs.Notes.{narrowed, widened, observedStep, IsO
 use answer::Answer;
 use terms::Move;
 use terms::Sections;
-use terms::Step;
 
 // ---- after a step: its sets come by value, so that they share no memory with what is observed
 
@@ -108,12 +107,12 @@ pub fn observe(
     named: usize,
 ) -> Noted
     requires { ⌜ (pre ≤ maxLength) × (at ≤ maxLength) × (length (now observed) ≡ observedSize) × (now t ≡ noDigits) ⌝ }
-    requires { ⌜ (1 ≤ stepAt (now s) at .action .0) × (stepAt (now s) at .action .0 ≤ maxMoves) × Suited (now table) (listAt (now s) pre) ⌝ }
+    requires { ⌜ (1 ≤ filedStepAt (now s) at .action .0) × (filedStepAt (now s) at .action .0 ≤ maxMoves) × Suited (now table) (listAt (now s) pre) ⌝ }
     requires { ⌜ (listEnd (now s) pre ≤ length (now s)) × (listEnd (now s) (at + stepSize) ≤ length (now s)) ⌝ }
     ensures { λ r. ⌜ ListLooked (now (s .entry)) (now (table .entry)) (at + stepSize) (r .answer) × (r .count ≡ 0) ⌝ }
     ensures { λ r. ⌜ ((k : ℕ) → r .answer ≡ Good k → (now (t .exit) ≡ noDigits) × IsObserved (observedStep full (now (s .entry)) (listAt (now (s .entry)) pre) at (now (observed .entry)) named) (now (observed .exit)) (r .named)) ⌝ }
 {
-    let step = Step::read(s, at);
+    let step = filed::read_step(s, at);
     let post = at + limits::STEP_SIZE;
     let bound = observed::set_at(step.action, observed::BOUND);
     let end = bound + limits::SET_SIZE;
@@ -154,9 +153,9 @@ pub fn observe_turned(
 ) -> Noted
     requires { ⌜ StepTurnable h (now s) at (now state) (now observed) × (now t ≡ noDigits) × (held ≡ cardinality (now state)) × RightForFew (now table) ⌝ }
     ensures { λ r. ⌜ ListLooked (now (s .entry)) (now (table .entry)) (at + stepSize) (r .answer) ⌝ }
-    ensures { λ r. ⌜ ((k : ℕ) → r .answer ≡ Good k → (now (t .exit) ≡ noDigits) × TurnObserved (schema h (now (s .entry))) (stepAt (now (s .entry)) at) (listAt (now (s .entry)) (at + stepSize)) at (now (observed .entry)) named (now (observed .exit)) (r .named) (now (state .entry)) (now (state .exit)) × (r .count ≡ cardinality (now (state .exit)))) ⌝ }
+    ensures { λ r. ⌜ ((k : ℕ) → r .answer ≡ Good k → (now (t .exit) ≡ noDigits) × TurnObserved (schema h (now (s .entry))) (filedStepAt (now (s .entry)) at) (listAt (now (s .entry)) (at + stepSize)) at (now (observed .entry)) named (now (observed .exit)) (r .named) (now (state .entry)) (now (state .exit)) × (r .count ≡ cardinality (now (state .exit)))) ⌝ }
 {
-    let step = Step::read(s, at);
+    let step = filed::read_step(s, at);
     let list = at + limits::STEP_SIZE;
     let bound = observed::set_at(step.action, observed::BOUND);
     let end = bound + limits::SET_SIZE;

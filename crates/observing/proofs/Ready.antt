@@ -16,11 +16,12 @@ use Rattle.mask.proofs.Bytes.{test-past}
 use Rattle.mask.proofs.Whole.{length-maskOf, test-maskOf}
 use Rattle.terms.specs.declared.Fact.{Fact}
 use Rattle.terms.specs.Schema.{Schema, schema, typedObjects}
-use Rattle.terms.specs.Steps.{stepAt, objectOf, argumentBad, isAtom, ground}
+use Rattle.terms.specs.Steps.{objectOf, argumentBad, isAtom, ground}
 use Rattle.terms.specs.Facts.{factBad, noFact}
 use Rattle.terms.specs.Told.{suits}
 use Rattle.terms.proofs.Atoms.{atom-below}
 use Rattle.limits.specs.Limits.{maxLength, stepSize}
+use Rattle.format.specs.Filed.{filedStepAt}
 use Rattle.format.specs.Lists.{listAt, listEnd}
 use Rattle.format.specs.Toggled.{toggled}
 use Rattle.format.specs.Form.{Form, full, mostListed, stateAfter}
@@ -107,30 +108,30 @@ module _ (s : List ℕ) (c : Scope) (table : List ℕ) (obs : Observable s c tab
     behind : at + stepSize ≤ c .end
     behind = alone-behind (schemaIn s c) (typedIn s c) s (c .end) at (at + stepSize) (whole .alone) .0
 
-    pub right-step : RightStep (schemaIn s c) (typedIn s c) (stepAt s at)
+    pub right-step : RightStep (schemaIn s c) (typedIn s c) (filedStepAt s at)
     right-step =
         let (fits, suits, different, place) = alone-behind (schemaIn s c) (typedIn s c) s (c .end) at (at + stepSize) (whole .alone) in
         record { typed = obs .typed; suits = suits; different = different }
 
-    pub step-move : (1 ≤ stepAt s at .action .0) × (stepAt s at .action .0 ≤ 32)
+    pub step-move : (1 ≤ filedStepAt s at .action .0) × (filedStepAt s at .action .0 ≤ 32)
     unfolding schema
     step-move =
-        let w = move-there (schemaIn s c) (typedIn s c) (stepAt s at) (right-step .suits) in
+        let w = move-there (schemaIn s c) (typedIn s c) (filedStepAt s at) (right-step .suits) in
         (w .0, omega (arith, w .1, obs .moves))
 
     pub step-within : (at ≤ maxLength) × (listEnd s (at + stepSize) ≤ length s)
     step-within =
         (omega (arith, behind, obs .near), omega (arith, whole-parts (mostListed (c .short)) s (c .end) (at + stepSize) (whole .list) .1, obs .within))
 
-    bounded : Bounded (stepAt s at .binding)
+    bounded : Bounded (filedStepAt s at .binding)
     unfolding argumentBad
     bounded p low high =
-        omega (arith, object-most (schemaIn s c) (typedIn s c) _ (objectOf (stepAt s at .binding) p) _ (argument-right (schemaIn s c) (typedIn s c) (stepAt s at) right-step (p .0) low high), few)
+        omega (arith, object-most (schemaIn s c) (typedIn s c) _ (objectOf (filedStepAt s at .binding) p) _ (argument-right (schemaIn s c) (typedIn s c) (filedStepAt s at) right-step (p .0) low high), few)
 
     module _ (pre : ℕ) (m : List ℕ) (held : ℕ) (masks : List ℕ) (ready : Ready s c pre m held masks) where
-      ended : (n : ℕ) → atomsEnd (c .h .relations .count) ≤ n → testBit (observedSet masks (stepAt s at .action .0) bound) n ≡ false
+      ended : (n : ℕ) → atomsEnd (c .h .relations .count) ≤ n → testBit (observedSet masks (filedStepAt s at .action .0) bound) n ≡ false
       unfolding schema
-      ended n l = rw (ready .begun .atoms _ (step-move .0) (step-move .1)) (atoms-end (schemaIn s c) (stepAt s at .action .0) n l known)
+      ended n l = rw (ready .begun .atoms _ (step-move .0) (step-move .1)) (atoms-end (schemaIn s c) (filedStepAt s at .action .0) n l known)
 
       pub ready-turnable : StepTurnable (c .h) s at m masks
       ready-turnable =
@@ -164,7 +165,7 @@ module _ (s : List ℕ) (c : Scope) (table : List ℕ) (obs : Observable s c tab
       -- ---- of a short one, whose list is good
       module _ (e : c .short ≡ true) (next : ℕ) (good : list 8 (mostListed (c .short)) (schemaIn s c) (typedIn s c) s (c .end) (at + stepSize) ≡ Good next) where
         abbrev own : List ℕ
-        own = atomSet (schemaIn s c) (stepAt s at .action .0)
+        own = atomSet (schemaIn s c) (filedStepAt s at .action .0)
 
         abbrev ts : List Fact
         ts = listAt s (at + stepSize)
@@ -175,25 +176,25 @@ module _ (s : List ℕ) (c : Scope) (table : List ℕ) (obs : Observable s c tab
         order : Increasing noFact ts
         order = list-increasing (mostListed (c .short)) 8 (schemaIn s c) (typedIn s c) s (c .end) (at + stepSize) next good
 
-        found : heldAtoms (schemaIn s c) (stepAt s at .binding) own m ≡ atomsIn own (stepAt s at .binding) (ready .before)
+        found : heldAtoms (schemaIn s c) (filedStepAt s at .binding) own m ≡ atomsIn own (filedStepAt s at .binding) (ready .before)
         unfolding heldAtoms
         found =
-            ap (λ (x : List ℕ). maskOf 32 (λ n. testBit own n && testBit x (ground (schemaIn s c) (stepAt s at .binding) n))) (ready .carries .mask e)
-            ∙ held-found (schemaIn s c) known (typedIn s c) few (stepAt s at) right-step (ready .before) (ready .right .suits)
+            ap (λ (x : List ℕ). maskOf 32 (λ n. testBit own n && testBit x (ground (schemaIn s c) (filedStepAt s at .binding) n))) (ready .carries .mask e)
+            ∙ held-found (schemaIn s c) known (typedIn s c) few (filedStepAt s at) right-step (ready .before) (ready .right .suits)
 
-        same : (named : ℕ) → observedTurned (schemaIn s c) (stepAt s at) own m ts at masks named ≡ observeBy own (recordedStep (c .short) s (ready .before) at) (record { masks = masks; named = named })
+        same : (named : ℕ) → observedTurned (schemaIn s c) (filedStepAt s at) own m ts at masks named ≡ observeBy own (recordedStep (c .short) s (ready .before) at) (record { masks = masks; named = named })
         unfolding observedTurned observeBy recordedStep
         same named =
             let post = after-short (c .short) s (ready .before) (at + stepSize) e in
             rw (
               post,
               found,
-              turn-marks (schemaIn s c) known (typedIn s c) few (stepAt s at) right-step (ready .before) ts (ready .right .suits) (ready .right .increasing) suit order,
-              some-unbound own (stepAt s at .binding) (ready .before) ts (ready .right .increasing) order,
+              turn-marks (schemaIn s c) known (typedIn s c) few (filedStepAt s at) right-step (ready .before) ts (ready .right .suits) (ready .right .increasing) suit order,
+              some-unbound own (filedStepAt s at .binding) (ready .before) ts (ready .right .increasing) order,
             )
 
         pub done-turned : (m′ masks′ : List ℕ) (named : ℕ) (r : Noted)
-            → TurnObserved (schemaIn s c) (stepAt s at) ts at masks named masks′ (r .named) m m′
+            → TurnObserved (schemaIn s c) (filedStepAt s at) ts at masks named masks′ (r .named) m m′
             → r .count ≡ cardinality m′
             → Done (c .short) s (ready .before) at m masks named m′ masks′ r
         unfolding observedStep observe recordedStep

@@ -18,9 +18,10 @@ use Rattle.input.specs.Bytes.{byteAt}
 use Rattle.terms.specs.declared.Fact.{Fact}
 use Rattle.terms.specs.declared.Step.{Step}
 use Rattle.terms.specs.Schema.{Schema, TypedObjects, outOfRange}
-use Rattle.terms.specs.Steps.{stepAt, stepBad, repeats}
+use Rattle.terms.specs.Steps.{stepBad, repeats}
 use Rattle.limits.specs.Limits.{stepSize, maxFacts}
 use Rattle.format.specs.Lists.{listAt}
+use Rattle.format.specs.Filed.{filedStepAt}
 use Rattle.format.specs.Form.{Form, mostListed, stateAfter}
 use Rattle.format.specs.States.{cut, list, state, nextState}
 use Rattle.format.specs.Records.{stepRefused, step, steps, trajectory}
@@ -41,7 +42,7 @@ module _ (sch : Schema) (ob : TypedObjects) (s : List ℕ) (end : ℕ) where
   unfolding stepRefused cut
   step-cut at h = rw (lt-ltb end (at + stepSize) h) refl
 
-  pub step-whole : (at : ℕ) (st : Step) (b : Bool) → at + stepSize ≤ end → st ≡ stepAt s at → b ≡ stepBad sch ob st → b ≡ stepRefused sch ob s end at
+  pub step-whole : (at : ℕ) (st : Step) (b : Bool) → at + stepSize ≤ end → st ≡ filedStepAt s at → b ≡ stepBad sch ob st → b ≡ stepRefused sch ob s end at
   unfolding stepRefused cut
   step-whole at st b h p q = rw (q, p, le-ltb end (at + stepSize) h) refl
 
@@ -54,7 +55,7 @@ module _ (sch : Schema) (ob : TypedObjects) (s : List ℕ) (end : ℕ) where
   unfolding stepAlone
   alone-nine at b p e = sym (refuse-met _ _ _ _ (sym p ∙ e))
 
-  module _ (at : ℕ) (st : Step) (b : Bool) (told : b ≡ stepRefused sch ob s end at) (right : b ≡ false) (read : st ≡ stepAt s at) where
+  module _ (at : ℕ) (st : Step) (b : Bool) (told : b ≡ stepRefused sch ob s end at) (right : b ≡ false) (read : st ≡ filedStepAt s at) where
     behind-nine : stepAlone sch ob s end at ≡ (refuse (repeats st) 10 at >>= λ _. Good (at + stepSize))
     unfolding stepAlone
     behind-nine = rw read (refuse-unmet _ _ _ _ (sym told ∙ right))
@@ -66,12 +67,12 @@ module _ (sch : Schema) (ob : TypedObjects) (s : List ℕ) (end : ℕ) where
     alone-good c p e = sym (behind-nine ∙ refuse-unmet _ _ _ _ (sym p ∙ e))
 
   -- where the step is good, the list stands behind it
-  pub alone-behind : (at next : ℕ) → stepAlone sch ob s end at ≡ Good next → (at + stepSize ≤ end) × (stepBad sch ob (stepAt s at) ≡ false) × (repeats (stepAt s at) ≡ false) × (next ≡ at + stepSize)
+  pub alone-behind : (at next : ℕ) → stepAlone sch ob s end at ≡ Good next → (at + stepSize ≤ end) × (stepBad sch ob (filedStepAt s at) ≡ false) × (repeats (filedStepAt s at) ≡ false) × (next ≡ at + stepSize)
   unfolding stepAlone stepRefused cut
   alone-behind at next e =
       let (first, rest) = passed _ 9 at next _ e in
       let (different, behind) = passed _ 10 at next _ rest in
-      let (fits, right) = neither (ltb end (at + stepSize)) (stepBad sch ob (stepAt s at)) first in
+      let (fits, right) = neither (ltb end (at + stepSize)) (stepBad sch ob (filedStepAt s at)) first in
       (ltb-false end (at + stepSize) fits, right, different, let p : at + stepSize ≡ next = cc in sym p)
 
   -- the same, by what a call returned
@@ -97,7 +98,7 @@ module _ (form : Form) (sch : Schema) (ob : TypedObjects) (s : List ℕ) (end : 
       → step form sch ob s end before at
       ≡ (stepListed form sch ob s end at >>= λ next. refuse (ltb maxFacts (length (stateAfter form s before (at + stepSize)))) 8 (at + stepSize) >>= λ _. Good next)
   unfolding step stepListed stepAlone nextState _>>=_ refuse
-  step-parts before at = go (stepRefused sch ob s end at) (repeats (stepAt s at))
+  step-parts before at = go (stepRefused sch ob s end at) (repeats (filedStepAt s at))
     where
       go : (x y : Bool)
           → (refuse x 9 at >>= λ _. refuse y 10 at >>= λ _. nextState form sch ob s end before (at + stepSize))

@@ -8,7 +8,8 @@ use Rattle.answer.specs.declared.Answer.the-variants.{Good}
 use Rattle.answer.specs.Answer.{_>>=_, refuse}
 use Rattle.terms.specs.declared.Sections.{Sections}
 use Rattle.terms.specs.Schema.{Schema, TypedObjects, schema, typedObjects}
-use Rattle.terms.specs.Steps.{stepAt, repeats}
+use Rattle.terms.specs.Steps.{repeats}
+use Rattle.format.specs.Filed.{filedStepAt}
 use Rattle.format.specs.Form.{Form, mostListed}
 use Rattle.format.specs.States.{list}
 use Rattle.format.specs.Records.{stepRefused}
@@ -42,7 +43,7 @@ pub record Readable (s : List ℕ) (c : Scope) (ks t : List ℕ) : Type 0 where
 unfoldable pub stepAlone : Schema → TypedObjects → List ℕ → ℕ → ℕ → Answer
 stepAlone sch ob s end at = do
   _ ← refuse (stepRefused sch ob s end at) 9 at
-  _ ← refuse (repeats (stepAt s at)) 10 at
+  _ ← refuse (repeats (filedStepAt s at)) 10 at
   Good (at + stepSize)
 
 -- then row 8 of that list, before it is asked how many facts it leaves

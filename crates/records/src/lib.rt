@@ -1,9 +1,8 @@
 // Rows 6 to 10 of the refusal table, row 24 among them: one record of a book, to its end. In a short book the state is carried on from step to step.
-// Uses answer, input, limits, mask, terms, tables, states, turning, and the definitions of format.
+// Uses answer, input, limits, mask, terms, filed, tables, states, turning, and the definitions of format.
 use answer::Answer;
 use terms::Objects;
 use terms::Sections;
-use terms::Step;
 ghost use mathlib.Core.Path.{_≡_};
 ghost use mathlib.Core.Bool.{false};
 ghost use Prim.Native.Nat.{_+_, _≤_};
@@ -94,7 +93,7 @@ fn step_refused(book: &[u8], h: Sections, kinds: &[u32; 256], end: usize, at: us
     if end < at + limits::STEP_SIZE {
         return true;
     }
-    tables::step_bad(book, h, kinds, Step::read(book, at))
+    tables::step_bad(book, h, kinds, filed::read_step(book, at))
 }
 
 // Rows 9 and 10: where the list behind the step starts.
@@ -105,7 +104,7 @@ pub fn step_alone(book: &[u8], h: Sections, kinds: &[u32; 256], end: usize, at: 
     if step_refused(book, h, kinds, end, at) {
         return Answer::Refused(9, at);
     }
-    let st = Step::read(book, at);
+    let st = filed::read_step(book, at);
     if st.repeats() {
         return Answer::Refused(10, at);
     }

@@ -1,34 +1,24 @@
 -- Parts of a book as the values that stand there: facts, steps, and a list that was written and is read again.
 use Prim.Native.Nat.{ℕ, zero, suc, _+_, _-_, _*_, _/_, _%_, _≤_, _<_}
 use native.Mathlib.Nat.{mul-zero}
-use native.Mathlib.Numerals.{add-one}
 use native.Mathlib.Omega.{arith}
 use mathlib.Core.Path.{_≡_, refl, sym, ap, ap₂, _∙_}
 use mathlib.Core.List.{List, [], _∷_, _++_, append-assoc}
 use lib.ListN.{length, take, drop, length-append, length-take, length-drop}
-use lib.Seq.{drop-cons, getD-append-seam, getD-append-add}
+use lib.Seq.{getD-append-seam, getD-append-add}
 use Rattle.input.specs.Bytes.{byteAt, two}
 use Rattle.output.specs.Written.{twoBytes}
 use Rattle.terms.specs.declared.Fact.{Fact}
 use Rattle.terms.specs.Facts.{factAt}
-use Rattle.terms.specs.Steps.{stepAt, objectOf}
 use Rattle.terms.proofs.Atoms.{fact-path}
 use Rattle.limits.specs.Limits.{countSize, factSize, stepSize}
 use Rattle.format.specs.Lists.{factsAt, listAt}
-use Rattle.jobs.specs.Convert.{factsBytes, listBytes, stepBytes}
+use Rattle.format.specs.Form.{Form}
+use Rattle.format.specs.Decode.{recordedStep}
+use Rattle.jobs.specs.Convert.{factsBytes, listBytes, filedStepBytes, bytesAt}
+use Rattle.jobs.proofs.Bytes.{part-three, filed-step-again}
 
 -- ---- bytes of the book
-
-pub part-cons : (s : List ℕ) (at k : ℕ) → at < length s → take (suc k) (drop at s) ≡ byteAt s at ∷ take k (drop (at + 1) s)
-unfolding byteAt
-part-cons s at k h = rw (drop-cons s at 0 h, add-one)
-
-pub part-three : (s : List ℕ) (at k : ℕ) → at + 3 ≤ length s
-    → take (suc (suc (suc k))) (drop at s) ≡ byteAt s at ∷ byteAt s (at + 1) ∷ byteAt s (at + 2) ∷ take k (drop (at + 3) s)
-part-three s at k h =
-    let e : at + 1 + 1 ≡ at + 2 = omega arith in
-    let f : at + 2 + 1 ≡ at + 3 = omega arith in
-    rw (part-cons s at (suc (suc k)) (omega arith), part-cons s (at + 1) (suc k) (omega arith), e, part-cons s (at + 2) k (omega arith), f)
 
 -- so many facts
 pub facts-part : (s : List ℕ) (n at size : ℕ) → size ≡ factSize * n → at + factSize * n ≤ length s → take size (drop at s) ≡ factsBytes (factsAt s n at)
@@ -39,11 +29,10 @@ facts-part s (suc n) at size e h =
     rw (d, part-three s at (factSize * n) (omega arith), facts-part s n (at + 3) (factSize * n) refl (omega arith))
 
 -- a step
-pub step-part : (s : List ℕ) (at size : ℕ) → size ≡ stepSize → at + stepSize ≤ length s → take size (drop at s) ≡ stepBytes (stepAt s at)
-unfolding stepAt stepBytes objectOf
-step-part s at size e h =
-    let f : at + 3 + 1 ≡ at + 4 = omega arith in
-    rw (e, part-three s at 2 (omega arith), part-cons s (at + 3) 1 (omega arith), f, part-cons s (at + 4) 0 (omega arith))
+pub step-part : (form : Form) (s : List ℕ) (before : List Fact) (at size : ℕ) → size ≡ stepSize → at + stepSize ≤ length s
+    → take size (drop at s) ≡ filedStepBytes (recordedStep form s before at)
+unfolding bytesAt
+step-part form s before at size e h = rw e (sym (filed-step-again form s before at h))
 
 -- a part that lies within
 pub part-size : (s : List ℕ) (at size : ℕ) → at + size ≤ length s → length (take (at + size - at) (drop at s)) ≡ size

@@ -22,6 +22,7 @@ use Rattle.format.specs.Decode.{firstAt, recordedStepsAt, stepsOfRecord}
 use Rattle.format.proofs.States.{list-ends}
 use Rattle.format.proofs.Records.{record-good, record-within, head-limits}
 use Rattle.jobs.specs.Convert.{listBytes, stepsBytes, bytesAt, bodyBytes, recordBytes, recordsBytes}
+use Rattle.jobs.proofs.Bytes.{part-cons, part-three}
 use Rattle.wellformed.specs.Right.{Increasing}
 use Rattle.wellformed.proofs.States.{list-increasing, list-few}
 use Rattle.wellformed.proofs.Toggled.{toggled-none}
@@ -29,7 +30,6 @@ use Rattle.appending.specs.Appended.{pastEnd, Appended, AllBut}
 use Rattle.rendering.specs.Held.{Holds, Carried}
 use Rattle.rendering.specs.Good.{GoodNext, GoodTrajectory, GoodRecord, GoodRecords}
 use Rattle.rendering.specs.Formed.{trajectoryBytes}
-use Rattle.rendering.proofs.Bytes.{part-cons, part-three}
 use Rattle.appending.proofs.Appended.{append-then, append-stays, append-same, append-renewed, part-none, part-one, part-then, part-all}
 
 -- ---- from the first state on

@@ -6,7 +6,6 @@ use mathlib.Core.Path.{_≡_, refl, sym, ap}
 use mathlib.Core.Bool.{true, false, not}
 use mathlib.Core.List.{List, [], _++_}
 use Rattle.terms.specs.declared.Fact.{Fact}
-use Rattle.terms.specs.Steps.{stepAt}
 use Rattle.limits.specs.Limits.{maxLength, stepSize}
 use Rattle.format.specs.Lists.{listAt, listEnd}
 use Rattle.format.specs.Toggled.{toggled}
@@ -14,7 +13,7 @@ use Rattle.format.specs.Form.{Form, mostListed, stateAfter}
 use Rattle.format.specs.Decode.{recordedStep, recordedStepsAt}
 use Rattle.format.proofs.States.{next-good}
 use Rattle.format.proofs.Records.{step-good, step-ends, steps-parted}
-use Rattle.jobs.specs.Convert.{listBytes, stepBytes, listed, stepsBytes}
+use Rattle.jobs.specs.Convert.{listBytes, filedStepBytes, listed, stepsBytes}
 use Rattle.wellformed.proofs.States.{list-increasing}
 use Rattle.appending.specs.Appended.{pastEnd, Appended, AllBut}
 use Rattle.rendering.specs.Held.{Holds, Carried}
@@ -58,7 +57,7 @@ module _ (form : Form) (s : List ℕ) where
       go false = refl
 
   abbrev pub firstStep : List Fact → ℕ → List ℕ
-  firstStep before at = stepBytes (stepAt s at) ++ listBytes (toggled before (listAt s (at + stepSize)))
+  firstStep before at = filedStepBytes (recordedStep form s before at) ++ listBytes (toggled before (listAt s (at + stepSize)))
 
   -- the steps to come
   abbrev pub stepsToCome : ℕ → List Fact → ℕ → List ℕ
@@ -74,7 +73,7 @@ module _ (form : Form) (s : List ℕ) where
   steps-first zero before at h = absurd (omega arith)
   steps-first (suc n) before at h =
       let behind : List ℕ = stepsToCome n (stateAfter form s before (at + stepSize)) (listEnd s (at + stepSize)) in
-      rw sub-one (ap (λ (fs : List Fact). stepBytes (stepAt s at) ++ listBytes fs ++ behind) (sym (listed-other before at)))
+      rw sub-one (ap (λ (fs : List Fact). filedStepBytes (recordedStep form s before at) ++ listBytes fs ++ behind) (sym (listed-other before at)))
 
   -- ---- a loop over steps: those to come are yet to be appended, and the facts before the next one hold
 

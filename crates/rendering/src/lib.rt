@@ -13,12 +13,11 @@ ghost use mathlib.Core.List.{_++_};
 ghost use Prim.Native.Nat.{_+_, _≤_, _<_};
 ghost use lib.ListN.{length};
 ghost use Rattle.limits.specs.Limits.{maxLength, maxFacts, stepSize};
-ghost use Rattle.terms.specs.Steps.{stepAt};
 ghost use Rattle.format.specs.Lists.{listAt, listEnd};
 ghost use Rattle.format.specs.Toggled.{toggled};
 ghost use Rattle.format.specs.Form.{stateAfter};
-ghost use Rattle.format.specs.Decode.{recordedStepsAt};
-ghost use Rattle.jobs.specs.Convert.{factsBytes, listBytes, stepBytes, stepsBytes, recordBytes, recordsBytes};
+ghost use Rattle.format.specs.Decode.{recordedStep, recordedStepsAt};
+ghost use Rattle.jobs.specs.Convert.{factsBytes, listBytes, filedStepBytes, stepsBytes, recordBytes, recordsBytes};
 ghost use Rattle.appending.specs.Appended.{pastEnd, Appended};
 ghost use Rattle.factlist.specs.Rest.{rest, Ahead};
 ghost use Rattle.rendering.specs.Merge.{Merging, NextMerged};
@@ -162,7 +161,7 @@ fn append_step(
     short: bool,
 ) -> usize
     requires { ⌜ (length (now new) ≡ maxLength) × (w ≤ pastEnd) × Holds (now state) × GoodNext short (now book) (listAt (now state) 0) (at + stepSize) ⌝ }
-    ensures { λ r. ⌜ Carried (stepBytes (stepAt (now (book .entry)) at) ++ listBytes (toggled (listAt (now (state .entry)) 0) (listAt (now (book .entry)) (at + stepSize)))) (stateAfter short (now (book .entry)) (listAt (now (state .entry)) 0) (at + stepSize)) w (now (new .entry)) (now (new .exit)) (now (state .exit)) r ⌝ }
+    ensures { λ r. ⌜ Carried (filedStepBytes (recordedStep short (now (book .entry)) (listAt (now (state .entry)) 0) at) ++ listBytes (toggled (listAt (now (state .entry)) 0) (listAt (now (book .entry)) (at + stepSize)))) (stateAfter short (now (book .entry)) (listAt (now (state .entry)) 0) (at + stepSize)) w (now (new .entry)) (now (new .exit)) (now (state .exit)) r ⌝ }
 {
     let next = at + limits::STEP_SIZE;
     let from = appending::append(new, w, &book[at..next]);

@@ -10,7 +10,7 @@ use Rattle.notes.proofs.observe.Tie as tie
 
 set-at-requires : tie.Need-set-at-requires
 set-at-requires c κs =
-    let e = ap (λ (step : Step). step .action .0) (c .read .ensures) in
+    let e = ap (λ (step : Step). step .action .0) (c .read-step .ensures) in
     (omega arith, omega arith, omega arith)
 
 mark-step-requires : tie.Need-mark-step-requires
@@ -23,7 +23,7 @@ note-requires : tie.Need-note-requires
 note-requires c κs =
     let r = c .before .before .before .before .before .before .before .before .before .before .before .before .before .before in
     let p = r .before .before .before .before .pre in
-    let e = ap (λ (step : Step). step .action .0) (r .read .ensures) in
+    let e = ap (λ (step : Step). step .action .0) (r .read-step .ensures) in
     (omega arith, omega arith, p .0 .2)
 
 returns : tie.Need-returns
@@ -35,7 +35,7 @@ returns c =
       (m .mark-step .ensures .0, refl),
       λ k e.
           let w = m .mark-step .ensures .1 k e in
-          (w .0, observed-by _ _ _ _ _ _ _ _ _ _ _ _ (r .read .ensures) (bound-part _ _ _ (b .set-at .ensures .0)) (w .1) (n .note .ensures) (c .first-named .ensures)),
+          (w .0, observed-by _ _ _ _ _ _ _ _ _ _ _ _ (r .read-step .ensures) (bound-part _ _ _ (b .set-at .ensures .0)) (w .1) (n .note .ensures) (c .first-named .ensures)),
     )
 
 pub observe-spec : {M : Type 1} → statement M

@@ -9,9 +9,9 @@ use Rattle.notes.proofs.Steps.{bound-part, turned-by}
 use Rattle.notes.proofs.observe_turned.Statement.{statement}
 use Rattle.notes.proofs.observe_turned.Tie as tie
 
-read-requires : tie.Need-read-requires
+read-step-requires : tie.Need-read-step-requires
 unfolding listEnd
-read-requires c κs = let p = c .before .before .before .before .pre .0 in let n = p .near in let w = p .within in (omega arith, omega arith)
+read-step-requires c κs = let p = c .before .before .before .before .pre .0 in let n = p .near in let w = p .within in (omega arith, omega arith)
 
 add-list : tie.Need-add-list
 add-list c = let n = c .before .before .before .before .before .pre .0 .near in omega arith
@@ -19,15 +19,15 @@ add-list c = let n = c .before .before .before .before .before .pre .0 .near in 
 set-at-requires : tie.Need-set-at-requires
 set-at-requires c κs =
     let p = c .before .before .before .before .before .pre .0 in
-    let e = ap (λ (step : Step). step .action .0) (c .read .ensures) in
+    let e = ap (λ (step : Step). step .action .0) (c .read-step .ensures) in
     (rw e (p .counted), rw e (p .known), omega arith)
 
 held-atoms-requires : tie.Need-held-atoms-requires
 held-atoms-requires c κs =
     let p = c .before .before .before .before .before .before .before .before .before .pre .0 in
-    let e = c .before .before .before .before .read .ensures in
+    let e = c .before .before .before .before .read-step .ensures in
     let a = ap (λ (step : Step). step .action .0) e in
-    let own = bound-part (c .before .before .before .before .before .before .before .before .before .args .observed .now) (c .before .before .before .before .read .result .action .0) (c .before .before .before .set-at .result) (c .before .before .before .set-at .ensures .0) in
+    let own = bound-part (c .before .before .before .before .before .before .before .before .before .args .observed .now) (c .before .before .before .before .read-step .result .action .0) (c .before .before .before .set-at .result) (c .before .before .before .set-at .ensures .0) in
     (rw e (p .bounded), rw own (length-observedSet _ _ 6 (p .sized) (rw a (p .counted)) (rw a (p .known)) (omega arith)), p .long, rw (own, e) (p .ended))
 
 mark-turned-requires : tie.Need-mark-turned-requires
@@ -36,7 +36,7 @@ mark-turned-requires c κs = let p = c .before .before .before .before .before .
 note-requires : tie.Need-note-requires
 note-requires c κs =
     let p = c .before .before .before .before .before .before .before .before .before .before .before .before .before .before .before .before .before .before .before .before .before .before .pre .0 in
-    let e = ap (λ (step : Step). step .action .0) (c .before .before .before .before .before .before .before .before .before .before .before .before .before .before .before .before .before .read .ensures) in
+    let e = ap (λ (step : Step). step .action .0) (c .before .before .before .before .before .before .before .before .before .before .before .before .before .before .before .before .before .read-step .ensures) in
     (rw e (p .counted), rw e (p .known), p .sized)
 
 returns : tie.Need-returns
@@ -47,12 +47,12 @@ returns c =
       m .ensures .0,
       λ k e.
           let w = m .ensures .1 k e in
-          (w .0, turned-by _ _ _ _ _ _ _ _ _ _ _ _ _ _ _ (held .before .before .before .before .before .read .ensures) own (held .held-atoms .ensures) (w .1) (c .before .before .before .note .ensures) (c .first-named .ensures), w .2),
+          (w .0, turned-by _ _ _ _ _ _ _ _ _ _ _ _ _ _ _ (held .before .before .before .before .before .read-step .ensures) own (held .held-atoms .ensures) (w .1) (c .before .before .before .note .ensures) (c .first-named .ensures), w .2),
     )
 
 pub observe-turned-spec : {M : Type 1} → statement M
 observe-turned-spec =
     tie.close
-    (tie.spec read-requires add-list set-at-requires (λ c. search needs) (λ c. search needs) (λ c. search needs) (λ c. search needs) held-atoms-requires
+    (tie.spec read-step-requires add-list set-at-requires (λ c. search needs) (λ c. search needs) (λ c. search needs) (λ c. search needs) held-atoms-requires
     (λ c. search needs) (λ c. search needs) (λ c. search needs) (λ c. search needs) mark-turned-requires note-requires (λ c κs. search needs) (λ c. search needs)
     (λ c. search needs) (λ c. search needs) returns)

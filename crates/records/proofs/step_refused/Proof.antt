@@ -14,7 +14,7 @@ returns c = (λ ob right. step-cut _ _ _ _ _ (c .if1 .taken), λ e. clash true r
 
 returns-2 : tie.Need-returns-2
 unfolding ForRightByKind
-returns-2 c = (λ ob right. step-whole _ _ _ _ _ _ _ (c .before .before .if1 .left) (c .before .read .ensures) (c .step-bad .ensures ob right), λ e. c .before .before .if1 .left)
+returns-2 c = (λ ob right. step-whole _ _ _ _ _ _ _ (c .before .before .if1 .left) (c .before .read-step .ensures) (c .step-bad .ensures ob right), λ e. c .before .before .if1 .left)
 
 pub step-refused-spec : {M : Type 1} → statement M
 step-refused-spec = tie.close (tie.spec (λ c. search needs) returns (λ c κs. search needs) (λ c κs. search needs) returns-2)
