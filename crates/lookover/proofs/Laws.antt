@@ -15,7 +15,7 @@ use Rattle.answer.specs.Laws.{bind-unit, refuse-met, refuse-unmet}
 use Rattle.answer.specs.Walk.{walk}
 use Rattle.terms.specs.declared.Sections.{Sections}
 use Rattle.terms.specs.Sections.{sectionsOf}
-use Rattle.limits.specs.Limits.{maxLength, maxRelations}
+use Rattle.limits.specs.Limits.{maxLength}
 use Rattle.format.specs.Form.{Form}
 use Rattle.format.specs.Header.{sections}
 use Rattle.format.specs.Records.{stepsIn, recordAt}
@@ -25,12 +25,7 @@ use Rattle.answer.specs.Bounds.{Bounded, bounded-of, bounded-good, bounded-then
 use Rattle.answer.specs.Turns.{part-stays, part-follows}
 use Rattle.records.specs.declared.Head.{Head}
 use Rattle.records.specs.Head.{headOf}
-use Rattle.reader.specs.Reader.{recordFrom, record-from}
 use Rattle.records.proofs.Bounds.{records-bounded, total-bounded}
-
--- the records by the header that was read
-pub records-own : (form : Form) (h : Sections) (s : List ℕ) → h ≡ sectionsOf s → (n from : ℕ) {r : Answer} → r ≡ allRecords form (sectionsOf s) s n from → r ≡ allRecords form h s n from
-records-own form h s is n from e = rw is e
 
 module _ (form : Form) (h : Sections) (s : List ℕ) (is : h ≡ sectionsOf s) (a : Answer) (b : Bool) (first : a ≡ sections h s) (told : b ≡ isRefused a) where
   pub look-over-stays : b ≡ true → a ≡ lookOver form s
@@ -71,20 +66,20 @@ unfolding allRecords walk stepTotal
 one-record form h s at = rw (bind-unit, add-zero)
 
 -- its three answers, by what the calls in the code return
-module _ (form : Form) (s : List ℕ) (at : ℕ) (long : length s ≤ maxLength) (low : at ≤ maxLength) (known : sectionsOf s .relations .count ≤ maxRelations) (a : Answer) (is : a ≡ recordFrom form s at) (b : Bool) (told : b ≡ isRefused a) where
+module _ (form : Form) (h : Sections) (s : List ℕ) (at : ℕ) (read : h ≡ sectionsOf s) (a : Answer) (is : a ≡ recordAt form h s at) (b : Bool) (told : b ≡ isRefused a) where
   rest : ℕ → Answer
   rest last = refuse (ltb last (length s)) 6 last >>= λ _. Good (stepsIn s at)
 
-  own : (recordAt form (sectionsOf s) s at >>= rest) ≡ allRecords form (sectionsOf s) s 1 at
+  own : (recordAt form h s at >>= rest) ≡ allRecords form (sectionsOf s) s 1 at
   unfolding rest
-  own = sym (one-record form (sectionsOf s) s at)
+  own = sym (one-record form h s at) ∙ ap (λ (x : Sections). allRecords form x s 1 at) read
 
   pub last-refused : b ≡ true → a ≡ allRecords form (sectionsOf s) s 1 at
-  last-refused e = part-stays _ rest a b (is ∙ record-from form s at long low known) told e ∙ own
+  last-refused e = part-stays _ rest a b is told e ∙ own
 
   module _ (e : b ≡ false) (v : ℕ) (value : v ≡ valueOf a) where
     after : rest v ≡ allRecords form (sectionsOf s) s 1 at
-    after = part-follows _ rest a b v (is ∙ record-from form s at long low known) told e value ∙ own
+    after = part-follows _ rest a b v is told e value ∙ own
 
     pub last-tail : v < length s → Refused 6 v ≡ allRecords form (sectionsOf s) s 1 at
     unfolding rest
@@ -92,4 +87,4 @@ module _ (form : Form) (s : List ℕ) (at : ℕ) (long : length s ≤ maxLength)
 
     pub last-good : length s ≤ v → (head : Head) → head ≡ headOf s at → Good (head .steps) ≡ allRecords form (sectionsOf s) s 1 at
     unfolding rest headOf
-    last-good l head h = ap (λ (x : Head). Good (x .steps)) h ∙ sym (refuse-unmet _ _ _ _ (le-ltb v (length s) l)) ∙ after
+    last-good l head f = ap (λ (x : Head). Good (x .steps)) f ∙ sym (refuse-unmet _ _ _ _ (le-ltb v (length s) l)) ∙ after

@@ -12,15 +12,15 @@ ghost use Rattle.limits.specs.Limits.{maxLength, maxRecords, maxRelations};
 ghost use Rattle.format.specs.LookOver.{lookOver, allRecords};
 
 // A number of records, which end the book, walked once and in file order; the count of all steps is good.
-fn records(s: &[u8], short: bool, n: usize, from: usize) -> Answer
-    requires { ⌜ (length (now s) ≤ maxLength) × (from ≤ maxLength) × (n ≤ maxRecords) × (sectionsOf (now s) .relations .count ≤ maxRelations) ⌝ }
-    ensures { λ r. ⌜ r ≡ allRecords short (sectionsOf (now (s .entry))) (now (s .entry)) n from ⌝ }
+fn records(s: &[u8], short: bool, h: Sections, n: usize, from: usize) -> Answer
+    requires { ⌜ (h .relations .count ≤ maxRelations) × (length (now s) ≤ maxLength) × (from ≤ maxLength) × (n ≤ maxRecords) ⌝ }
+    ensures { λ r. ⌜ r ≡ allRecords short h (now (s .entry)) n from ⌝ }
 {
     let mut left = n;
     let mut at = from;
     let mut total: usize = 0;
     while 0 < left {
-        match reader::record_from(s, at, short) {
+        match reader::record_from(s, at, short, h) {
             Answer::Refused(k, p) => {
                 return Answer::Refused(k, p);
             }
@@ -43,7 +43,8 @@ pub fn last_record(s: &[u8], short: bool, at: usize) -> Answer
     requires { ⌜ (length (now s) ≤ maxLength) × (at ≤ maxLength) × (sectionsOf (now s) .relations .count ≤ maxRelations) ⌝ }
     ensures { λ r. ⌜ r ≡ allRecords short (sectionsOf (now (s .entry))) (now (s .entry)) 1 at ⌝ }
 {
-    let record = reader::record_from(s, at, short);
+    let h = Sections::read(s);
+    let record = reader::record_from(s, at, short, h);
     if answer::is_refused(record) {
         return record;
     }
@@ -63,5 +64,5 @@ pub fn look_over(s: &[u8], short: bool) -> Answer
     if answer::is_refused(a) {
         return a;
     }
-    records(s, short, h.records.count as usize, h.records.at as usize)
+    records(s, short, h, h.records.count as usize, h.records.at as usize)
 }

@@ -1,28 +1,17 @@
 // A book as the records' walk holds it: its bytes, and the offset of the record that comes next.
 // Uses answer, limits, terms, records, and the definitions of format. The borrow checker covers no function over a struct that holds a
-// reference, so those here are thin, and each is a proof by hand; the work is `record_of`'s. Other crates call `record_from`.
+// reference, so those here are thin, and each is a proof by hand; the work is `records::record_at`'s. Other crates call `record_from`.
 use answer::Answer;
 use terms::Sections;
 ghost use mathlib.Core.Path.{_≡_};
-ghost use Rattle.reader.specs.Reader.{recordFrom};
+ghost use Prim.Native.Nat.{_≤_};
+ghost use lib.ListN.{length};
+ghost use Rattle.limits.specs.Limits.{maxLength, maxRelations};
+ghost use Rattle.format.specs.Records.{recordAt};
 
 pub struct Reader<'a> {
     pub src: &'a [u8],
     pub at: usize,
-}
-
-// The record at an offset, in a book of either form: where the next one starts.
-pub fn record_of(s: &[u8], at: usize, short: bool) -> Answer
-    ensures { λ r. ⌜ r ≡ recordFrom short (now (s .entry)) at ⌝ }
-{
-    let h = Sections::read(s);
-    if (limits::MAX_LENGTH < s.len())
-        | (limits::MAX_LENGTH < at)
-        | (limits::MAX_RELATIONS < h.relations.count)
-    {
-        return Answer::Refused(6, at);
-    }
-    records::record_at(s, short, h, at)
 }
 
 // A book, at its first byte.
@@ -39,15 +28,18 @@ pub fn moved<'a>(r: Reader<'a>, at: usize) -> Reader<'a>
     Reader { src: r.src, at }
 }
 
-// The record at which the reader stands.
-pub fn read<'a>(r: Reader<'a>, short: bool) -> Answer
-    ensures { λ t. ⌜ t ≡ recordFrom short (now (r .entry .src)) (r .entry .at) ⌝ }
+// The record at which the reader stands: where the next one starts.
+pub fn read<'a>(r: Reader<'a>, short: bool, h: Sections) -> Answer
+    requires { ⌜ (h .relations .count ≤ maxRelations) × (length (now (r .src)) ≤ maxLength) × (r .at ≤ maxLength) ⌝ }
+    ensures { λ t. ⌜ t ≡ recordAt short h (now (r .entry .src)) (r .entry .at) ⌝ }
 {
-    record_of(r.src, r.at, short)
+    records::record_at(r.src, short, h, r.at)
 }
 
-pub fn record_from(s: &[u8], at: usize, short: bool) -> Answer
-    ensures { λ t. ⌜ t ≡ recordFrom short (now (s .entry)) at ⌝ }
+// The record at an offset of a book, of either form and with the header that was read of it, as `records::record_at`.
+pub fn record_from(s: &[u8], at: usize, short: bool, h: Sections) -> Answer
+    requires { ⌜ (h .relations .count ≤ maxRelations) × (length (now s) ≤ maxLength) × (at ≤ maxLength) ⌝ }
+    ensures { λ t. ⌜ t ≡ recordAt short h (now (s .entry)) at ⌝ }
 {
-    read(moved(new(s), at), short)
+    read(moved(new(s), at), short, h)
 }

@@ -3,7 +3,7 @@ use mathlib.Core.Path.{sym, _∙_}
 use native.Mathlib.Omega.{arith}
 use Rattle.format.proofs.Header.{sections-good}
 use Rattle.answer.specs.Turns.{is-good}
-use Rattle.lookover.proofs.Laws.{records-own, look-over-stays, look-over-records}
+use Rattle.lookover.proofs.Laws.{look-over-stays, look-over-records}
 use borrow.Author.Needs.{needs}
 use Rattle.lookover.proofs.look_over.Statement.{statement}
 use Rattle.lookover.proofs.look_over.Tie as tie
@@ -15,12 +15,12 @@ records-requires : tie.Need-records-requires
 records-requires c κs =
     let d = c .before .before in
     let g = sections-good _ _ _ (sym (d .before .before .sections .ensures) ∙ is-good _ (sym (d .before .is-refused .ensures) ∙ d .if1 .left)) in
-    (omega arith, omega arith, omega arith, rw (← d .before .before .before .read .ensures) (g .counts .relations))
+    (g .counts .relations, omega arith, omega arith, omega arith)
 
 returns-2 : tie.Need-returns-2
 returns-2 c =
     let d = c .before .before .before in
-    look-over-records _ _ _ (d .before .before .before .read .ensures) _ _ (d .before .before .sections .ensures) (d .before .is-refused .ensures) (d .if1 .left) _ (records-own _ _ _ (d .before .before .before .read .ensures) _ _ (c .records .ensures))
+    look-over-records _ _ _ (d .before .before .before .read .ensures) _ _ (d .before .before .sections .ensures) (d .before .is-refused .ensures) (d .if1 .left) _ (c .records .ensures)
 
 pub look-over-spec : {M : Type 1} → statement M
 look-over-spec =

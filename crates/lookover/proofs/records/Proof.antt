@@ -4,37 +4,33 @@ use mathlib.Core.Path.{_≡_, refl, sym, _∙_}
 use native.Mathlib.Omega.{arith}
 use Rattle.answer.specs.Walk.{walk}
 use Rattle.answer.specs.Turns.{turn-none, turn-refused, turn-good}
-use Rattle.terms.specs.Sections.{sectionsOf}
 use Rattle.limits.specs.Limits.{maxLength}
 use Rattle.format.specs.Records.{recordAt}
 use Rattle.format.specs.LookOver.{stepTotal}
 use Rattle.format.proofs.Records.{record-within}
-use Rattle.reader.specs.Reader.{record-by}
 use Rattle.records.proofs.Laws.{all-refused, all-left, all-good, total-none, total-more}
 use borrow.Author.Needs.{needs}
 use Rattle.lookover.proofs.records.Statement.{statement}
 use Rattle.lookover.proofs.records.Tie as tie
 
 abbrev Inv-loop : tie.InvT-loop
-Inv-loop s short n from left₀ at₀ total₀ left at total =
+Inv-loop s short h n from left₀ at₀ total₀ left at total =
     (at ≤ maxLength)
     × (total + 255 * left ≤ 255 * n)
-    × (walk (recordAt short (sectionsOf s) s) left at ≡ walk (recordAt short (sectionsOf s) s) n from)
+    × (walk (recordAt short h s) left at ≡ walk (recordAt short h s) n from)
     × (total + stepTotal s left at ≡ stepTotal s n from)
 
 abbrev μ-loop : tie.MeasureT-loop
-μ-loop s short n from left₀ at₀ total₀ left at total = left
+μ-loop s short h n from left₀ at₀ total₀ left at total = left
 
 loop-holds : tie.Need-loop-holds Inv-loop μ-loop
-loop-holds c = let p = c .before .pre in (p .1, omega arith, refl, omega arith)
+loop-holds c = let p = c .before .pre in (p .2, omega arith, refl, omega arith)
 
 returns : tie.Need-returns Inv-loop μ-loop
 returns c =
     let r = c .before .before .before in
     let l = r .before .before in
-    let p = l .before .before .pre in
-    let own = record-by _ _ _ _ refl (p .0) (l .loop .inv .0) (p .3) (r .record-from .ensures) in
-    all-refused _ _ _ _ _ _ _ (turn-refused _ _ _ _ _ _ _ (l .loop .inv .2) (r .before .loop-test .taken) own (c .before .k .given .1))
+    all-refused _ _ _ _ _ _ _ (turn-refused _ _ _ _ _ _ _ (l .loop .inv .2) (r .before .loop-test .taken) (r .record-from .ensures) (c .before .k .given .1))
 
 loop-again : tie.Need-loop-again Inv-loop μ-loop
 loop-again c =
@@ -45,9 +41,9 @@ loop-again c =
     let i = l .loop .inv in
     let e = a .next .given .1 in
     let some = r .before .loop-test .taken in
-    let own = record-by _ _ _ _ refl (p .0) (i .0) (p .3) (r .record-from .ensures) in
+    let own = r .record-from .ensures in
     let w = record-within _ _ _ _ _ (sym own ∙ e) in
-    (omega (arith, p .0, w .1), omega arith, turn-good _ _ _ _ _ _ (i .2) some own e, total-more _ _ _ _ _ _ _ (i .3) some (c .before .read .ensures) (w .0))
+    (omega (arith, p .1, w .1), omega arith, turn-good _ _ _ _ _ _ (i .2) some own e, total-more _ _ _ _ _ _ _ (i .3) some (c .before .read .ensures) (w .0))
 
 returns-2 : tie.Need-returns-2 Inv-loop μ-loop
 returns-2 c = all-left _ _ _ _ _ _ (turn-none _ _ _ _ (c .before .before .loop .inv .2) (omega arith)) (c .if1 .taken)

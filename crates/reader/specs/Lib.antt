@@ -1,2 +1,0 @@
--- What the reader of records answers.
-pub mod Reader
