@@ -25,7 +25,7 @@ use Rattle.observedright.proofs.Sections.{nothing-alone}
 use Rattle.observedright.proofs.OneWalk.{observed-taught}
 use Rattle.notes.specs.Notes.{IsObserved}
 use Rattle.observing.specs.declared.Walked.{Walked}
-use Rattle.scan.specs.Scan.{RecordsScanned}
+use Rattle.observing.specs.Observing.{RecordsObserved}
 use Rattle.learner.specs.Learner.{FormObserved, BookObserved, LearnOutcome}
 
 refused-not-good {ℓ} : {A : Type ℓ} (a : Answer) (m : ℕ) → isRefused a ≡ true → a ≡ Good m → A
@@ -71,7 +71,7 @@ module _ (form : Form) (s : List ℕ) (h : Sections) (own : h ≡ sectionsOf s) 
   pub all-observed : (first bytes : List ℕ) (w : Walked) (k m : ℕ)
       → sections h s ≡ Good k
       → first ≡ nothingSeen (schema h s) .masks
-      → RecordsScanned form h s (h .records .count) (h .records .at) (record { masks = first; named = 0 }) bytes w
+      → RecordsObserved form h s (h .records .count) (h .records .at) (record { masks = first; named = 0 }) bytes w
       → w .answer ≡ Good m
       → IsObserved (observedOf form s) bytes (w .named)
   unfolding observedOf heldAfter schemaOf nothingSeen
@@ -79,7 +79,7 @@ module _ (form : Form) (s : List ℕ) (h : Sections) (own : h ≡ sectionsOf s) 
 
   -- the records by the header that was read
   pub scanned-own : (n from : ℕ) (before : Observed) (bytes : List ℕ) (w : Walked)
-      → RecordsScanned form (sectionsOf s) s n from before bytes w → RecordsScanned form h s n from before bytes w
+      → RecordsObserved form (sectionsOf s) s n from before bytes w → RecordsObserved form h s n from before bytes w
   scanned-own n from before bytes w e = rw own e
 
   -- rows 6 to 10
@@ -88,7 +88,7 @@ module _ (form : Form) (s : List ℕ) (h : Sections) (own : h ≡ sectionsOf s) 
       → b ≡ isRefused a
       → b ≡ false
       → first ≡ nothingSeen (schema h s) .masks
-      → RecordsScanned form h s (h .records .count) (h .records .at) (record { masks = first; named = 0 }) bytes w
+      → RecordsObserved form h s (h .records .count) (h .records .at) (record { masks = first; named = 0 }) bytes w
       → FormObserved form s bytes w
   at-records first bytes w a b p q r e n =
       record { says = looked a (w .answer) b p q r (n .says); observes = λ m f. all-observed first bytes w _ m (sym p ∙ is-good a (sym q ∙ r)) e n f }

@@ -1,5 +1,5 @@
 // Learning from a book of either form: the records walked once, each looked over and observed; then rows 11 to 13 and the rule sheet from what is observed.
-// Uses sections and scan for the rows of the form, notes for what is observed before any record, rulesheet and conflicts for what comes of what is
+// Uses sections and observing for the rows of the form, notes for what is observed before any record, rulesheet and conflicts for what comes of what is
 // observed, answer, limits and terms, and the definitions of jobs and observed.
 use answer::Answer;
 use observing::Walked;
@@ -23,7 +23,7 @@ fn observe_form(s: &[u8], short: bool, h: Sections, observed: &mut [u8]) -> Walk
         };
     }
     notes::nothing_seen(s, h, observed);
-    scan::records(
+    observing::walk::records(
         s,
         short,
         h.records.count as usize,

@@ -1,4 +1,5 @@
--- One step, the steps of a record and the record observed, for the proofs of the functions.
+-- One step, the steps of a record, the record and all records observed, for the proofs of the functions.
 pub mod Ready
 pub mod Steps
 pub mod Record
+pub mod Records

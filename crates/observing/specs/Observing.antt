@@ -1,4 +1,4 @@
--- What is asked and said of a record whose steps are observed as they are looked over, in a book of either form.
+-- What is asked and said of a record whose steps are observed as they are looked over, in a book of either form, and of all records of a book.
 use Prim.Native.Nat.{ℕ, _+_, _≤_}
 use mathlib.Core.Path.{_≡_}
 use mathlib.Core.Bool.{true, false}
@@ -13,8 +13,9 @@ use Rattle.terms.specs.Typing.{RightObjects}
 use Rattle.limits.specs.Limits.{maxLength, maxObjects, maxRelations, maxMoves, stepSize, stateSize, observedSize}
 use Rattle.format.specs.Lists.{listAt, listEnd}
 use Rattle.format.specs.Form.{Form, mostListed}
-use Rattle.format.specs.Parts.{recordPart}
+use Rattle.format.specs.Parts.{recordPart, recordsAt}
 use Rattle.format.specs.Records.{recordAt}
+use Rattle.format.specs.LookOver.{allRecords}
 use Rattle.tables.specs.Tables.{RightByPlace}
 use Rattle.states.specs.Looked.{wholeList}
 use Rattle.records.specs.declared.Scope.{Scope}
@@ -22,7 +23,7 @@ use Rattle.records.specs.Readable.{schemaIn, typedIn, stepAlone}
 use Rattle.atoms.specs.Atoms.{atomSet}
 use Rattle.wellformed.specs.Right.{RightState}
 use Rattle.turning.specs.Turning.{Carried, Carries}
-use Rattle.observed.specs.Observed.{bound, Observed, observedSet, observedAfter}
+use Rattle.observed.specs.Observed.{bound, Observed, observedSet, observedAfter, observedAfterAll}
 use Rattle.notes.specs.declared.Noted.{Noted}
 use Rattle.notes.specs.Notes.{observedStep, IsObserved}
 use Rattle.observing.specs.declared.Walked.{Walked}
@@ -77,3 +78,11 @@ pub record Observes (sch : Schema) (answer : Answer) (after : Observed) (bytes :
 -- the record at an offset: what is held after it is made of what was held before, the record's own bytes and its offset
 abbrev pub RecordObserved : Form → Sections → List ℕ → ℕ → Observed → List ℕ → Walked → Type 0
 RecordObserved form h s at before bytes w = Observes (schema h s) (recordAt form h s at) (observedAfter form (recordPart s at) at before) bytes w
+
+-- ---- all records
+
+-- A number of records walked once, in file order, each looked over and observed: the answer and, where it is good, what is held at the end.
+-- Each record adds to what was held before it by its own bytes and its offset alone (`observedAfterAll`).
+pub record RecordsObserved (form : Form) (h : Sections) (s : List ℕ) (n from : ℕ) (before : Observed) (bytes : List ℕ) (w : Walked) : Type 0 where
+  pub says : w .answer ≡ allRecords form h s n from
+  pub observes : (m : ℕ) → w .answer ≡ Good m → IsObserved (observedAfterAll form (recordsAt s n from) from before) bytes (w .named)

@@ -2,6 +2,8 @@
 // carried on once.
 // Uses records for the parts of a record that are no lists, states for the first state, notes for a list behind a step, lifting for the table that it is
 // lent, turning for a short book's state, tables, mask, answer, limits, terms, and the definitions of format and observed.
+pub mod walk; // the records of a book, one after the other
+
 use answer::Answer;
 use notes::Noted;
 use records::Head;

@@ -1,4 +1,4 @@
--- `scan::records` meets its contract: the records that are left, observed after those before, come to the whole.
+-- `walk::records` meets its contract: the records that are left, observed after those before, come to the whole.
 use Prim.Native.Nat.{_+_, _*_, _≤_}
 use mathlib.Core.Path.{_≡_, refl, sym, _∙_}
 use native.Mathlib.Omega.{arith}
@@ -15,11 +15,11 @@ use Rattle.format.specs.LookOver.{stepTotal}
 use Rattle.format.proofs.Records.{record-within}
 use Rattle.observed.specs.Observed.{observedAfterAll}
 use Rattle.records.proofs.Laws.{all-refused, all-left, all-good, total-none, total-more}
 use Rattle.observing.specs.Observing.{Begun}
 use Rattle.observing.proofs.Steps.{observedAs}
-use Rattle.scan.proofs.Observing.{record-turn, records-done, refused-scanned}
-use Rattle.scan.proofs.records.Statement.{statement}
-use Rattle.scan.proofs.records.Tie as tie
+use Rattle.observing.proofs.Records.{record-turn, records-done, refused-walked}
+use Rattle.observing.proofs.walk.records.Statement.{statement}
+use Rattle.observing.proofs.walk.records.Tie as tie
 
 abbrev Inv-loop : tie.InvT-loop
 Inv-loop s short n from observed₀ h left₀ at₀ total₀ named₀ observed left at total named =
@@ -52,7 +52,7 @@ returns c =
     let own = l .before .read .ensures in
     let says = rw own at (o .observe-record .ensures .says) in
     rw (c .stopped .ensures)
-    (refused-scanned _ _ _ _ _ _ _ _ _ _
+    (refused-walked _ _ _ _ _ _ _ _ _ _
     (all-refused _ _ _ _ _ _ _ (turn-refused _ _ _ _ _ _ _ (l .loop .inv .2) (o .before .before .loop-test .taken) says (c .before .before .answer .given .1))))
 
 loop-again : tie.Need-loop-again Inv-loop μ-loop
@@ -79,7 +79,7 @@ loop-again c =
 returns-2 : tie.Need-returns-2 Inv-loop μ-loop
 returns-2 c =
     rw (c .stopped2 .ensures)
-    (refused-scanned _ _ _ _ _ _ _ _ _ _
+    (refused-walked _ _ _ _ _ _ _ _ _ _
     (all-left _ _ _ _ _ _ (turn-none _ _ _ _ (c .before .before .before .loop .inv .2) (omega arith)) (c .before .if1 .taken)))
 
 returns-3 : tie.Need-returns-3 Inv-loop μ-loop

@@ -14,13 +14,13 @@ use Rattle.format.specs.Records.{recordAt}
 use Rattle.observed.specs.Observed.{Observed, observedAfter, observedAfterAll}
 use Rattle.observed.proofs.Records.{held-none, held-more}
 use Rattle.notes.specs.Notes.{IsObserved}
-use Rattle.scan.specs.Scan.{RecordsScanned}
+use Rattle.observing.specs.Observing.{RecordsObserved}
 use Rattle.observing.proofs.Steps.{observedAs, observed-path}
 
-pub refused-scanned : (form : Form) (h : Sections) (s : List ℕ) (n from : ℕ) (before : Observed) (bytes : List ℕ) (k p named : ℕ)
+pub refused-walked : (form : Form) (h : Sections) (s : List ℕ) (n from : ℕ) (before : Observed) (bytes : List ℕ) (k p named : ℕ)
     → Refused k p ≡ allRecords form h s n from
-    → RecordsScanned form h s n from before bytes (record { answer = Refused k p; named = named })
-refused-scanned form h s n from before bytes k p named e =
+    → RecordsObserved form h s n from before bytes (record { answer = Refused k p; named = named })
+refused-walked form h s n from before bytes k p named e =
     record { says = e; observes = λ m f. good-refused m k p (sym f) }
 
 -- ---- the records

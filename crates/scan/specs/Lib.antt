@@ -1,2 +1,0 @@
--- What the walk over records comes to.
-pub mod Scan
