@@ -1,8 +1,8 @@
--- The demands, proved: Demand3 and Demand2 for one book, TwoBooks and Renumbered for two; EachStart reads Demand3 for one start at a time. Failing,
+-- The demands, proved: Demand3 and Demand2 for one book, TwoBooks and Renumbered for two; OneStart reads Demand3 for one start at a time. Failing,
 -- Recorded and Agree serve them.
 pub mod Failing
 pub mod Demand3
-pub mod EachStart
+pub mod OneStart
 pub mod Recorded
 pub mod Demand2
 pub mod Agree
