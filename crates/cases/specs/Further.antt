@@ -80,15 +80,15 @@ kindsUnder =
     ∷ []
 
 -- Starts: bank 1 at spot 2, spots 3 and 4 clear; the same with spot 2 clear too, from where no roll of the bank goes.
-abbrev passingStart : List ℕ
+abbrev pub passingStart : List ℕ
 passingStart = 0x00 ∷ 0x03 ∷ 0x01 ∷ 0x01 ∷ 0x02 ∷ 0x02 ∷ 0x03 ∷ 0x00 ∷ 0x02 ∷ 0x04 ∷ 0x00 ∷ []
 
-abbrev stoppingStart : List ℕ
+abbrev pub stoppingStart : List ℕ
 stoppingStart = 0x00 ∷ 0x04 ∷ 0x01 ∷ 0x01 ∷ 0x02 ∷ 0x02 ∷ 0x02 ∷ 0x00 ∷ 0x02 ∷ 0x03 ∷ 0x00 ∷ 0x02 ∷ 0x04 ∷ 0x00 ∷ []
 
 -- An order over bank 1 and spots 2, 3, 4 with the goal of the bank at 4. It is told the count of starts, the bytes between objects and goal,
 -- and the steps.
-abbrev fromStarts : ℕ → List ℕ → List ℕ → List ℕ
+abbrev pub fromStarts : ℕ → List ℕ → List ℕ → List ℕ
 fromStarts count between steps =
     (0x00 ∷ 0x04 ∷ 0x00 ∷ count ∷ 0x00 ∷ 0x01 ∷ 0x00 ∷ (length steps / 5) ∷ 0x00 ∷ 0x10 ∷ 0x00 ∷ 0x14 ∷ 0x00 ∷ (0x14 + length between)
     ∷ 0x00 ∷ (0x18 + length between) ∷ 0x01 ∷ 0x02 ∷ 0x02 ∷ 0x02 ∷ [])
@@ -97,10 +97,10 @@ fromStarts count between steps =
     ++ steps
 
 -- roll 1 2 3, and then roll 1 3 4
-abbrev roll : List ℕ
+abbrev pub roll : List ℕ
 roll = 0x01 ∷ 0x01 ∷ 0x02 ∷ 0x03 ∷ 0x00 ∷ []
 
-abbrev rollTwice : List ℕ
+abbrev pub rollTwice : List ℕ
 rollTwice = roll ++ (0x01 ∷ 0x01 ∷ 0x03 ∷ 0x04 ∷ 0x00 ∷ [])
 
 -- The same order with another byte at an offset of its header.

@@ -5,4 +5,5 @@ pub mod Shorts
 pub mod Adding
 pub mod Stepless
 pub mod Sequences
+pub mod EachStart
 pub mod Cases

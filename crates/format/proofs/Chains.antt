@@ -1,7 +1,7 @@
 -- Entries of one size in order: each is tested against what was read of the one before it, and refused under one number at its own offset.
 -- Facts of a state and goal entries of an order are such, by values or by keys. Where no entry looks back, answer/specs/Entries has the laws.
 use Prim.Native.Nat.{ℕ, zero, suc, _+_, _-_, _*_, _≤_, _<_}
-use mathlib.Core.Path.{_≡_, sym, _∙_}
+use mathlib.Core.Path.{_≡_, sym, ap, _∙_}
 use mathlib.Core.Bool.{Bool, true, false}
 use native.Mathlib.Nat.{mul-zero, mul-suc}
 use native.Mathlib.Numerals.{sub-one}
@@ -62,3 +62,20 @@ module _ {A : Type 0} {f : ℕ → A → ℕ → Answer} {bad : A → ℕ → Bo
       (λ unmet g.
       let w = chain-place n _ _ k p g in
       (w .0, rw mul-suc (omega arith)))
+
+-- Entries that are good in one chain, read alike in another chain at offsets as far on, and tested there with no worse outcome, are good in the other.
+module _ {A : Type 0} {f g : ℕ → A → ℕ → Answer} {bad bad′ : A → ℕ → Bool} {read read′ : ℕ → A} {num num′ size : ℕ} (c : Chain f bad read num size) (d : Chain g bad′ read′ num′ size) where
+  pub chain-beside : (n : ℕ) (last : A) (a b next : ℕ)
+      → ((i : ℕ) → i < n → (last : A) → bad last (a + size * i) ≡ false → bad′ last (b + size * i) ≡ false)
+      → ((i : ℕ) → i < n → read′ (b + size * i) ≡ read (a + size * i))
+      → f n last a ≡ Good next → g n last b ≡ Good (b + size * n)
+  chain-beside zero last a b next test same e = d .none last b ∙ ap Good (rw mul-zero (omega arith))
+  chain-beside (suc n) last a b next test same e =
+      let (good, rest) = chain-parted c n last a next e in
+      let first : (x : ℕ) → x + size * 0 ≡ x = λ x. rw mul-zero (omega arith) in
+      let later : (x i : ℕ) → x + size + size * i ≡ x + size * suc i = λ x i. rw mul-suc (omega arith) in
+      let good′ : bad′ last b ≡ false = rw (first b) at (test 0 (omega arith) last (rw (first a) good)) in
+      let read-same : read′ b ≡ read a = rw (first a, first b) at (same 0 (omega arith)) in
+      d .more n last b ∙ refuse-unmet _ _ _ _ good′ ∙ rw read-same
+      (chain-beside n (read a) (a + size) (b + size) next (λ i l x. rw (later a i, later b i) (test (suc i) (omega arith) x)) (λ i l. rw (later a i, later b i) (same (suc i) (omega arith))) rest
+      ∙ ap Good (later b n))

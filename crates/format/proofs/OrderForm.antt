@@ -1,14 +1,14 @@
 -- Rows 14 to 18 together: what an order that passes them has, and where they refuse one that does not.
 use Prim.Native.Nat.{ℕ, _+_, _*_, _≤_}
-use mathlib.Core.Path.{_≡_, refl, sym, _∙_}
+use mathlib.Core.Path.{_≡_, refl, sym, ap, _∙_}
 use mathlib.Core.List.{List}
 use native.Mathlib.Omega.{arith}
-use borrow.Author.Tests.{ltb-false}
+use borrow.Author.Tests.{ltb-false, le-ltb}
 use lib.Dec.{ltb}
 use lib.ListN.{length}
 use Rattle.answer.specs.declared.Answer.{Answer}
 use Rattle.answer.specs.declared.Answer.the-variants.{Good, Refused}
-use Rattle.answer.specs.Laws.{good-refused, passed, parted}
+use Rattle.answer.specs.Laws.{good-refused, passed, parted, bind-good, refuse-unmet}
 use Rattle.answer.specs.Walk.{walk}
 use Rattle.answer.specs.Turns.{walk-within}
 use Rattle.answer.specs.Items.{items-end, items-place}
@@ -25,7 +25,7 @@ use Rattle.format.specs.Order.{objectCount, startCount, goalCount, stepC
 use Rattle.format.specs.Order.{orderObjects, orderObject, entries, planStep, orderForm}
 use Rattle.format.proofs.Chains.{chain-end, chain-place}
 use Rattle.format.proofs.States.{longestState, list-within, state-reach, state-place}
-use Rattle.format.proofs.Orders.{maxOrder, OrderHeaderGood, order-header-good, start-at-is, steps-at-is}
+use Rattle.format.proofs.Orders.{maxOrder, OrderHeaderGood, order-header-good, order-header-in, start-at-is, steps-at-is}
 use Rattle.format.proofs.Orders.{order-object-entry, plan-step-entry, goal-chain}
 
 -- rows 14 to 18 are not met: each section is good and ends where the next one starts, and the order ends at n
@@ -93,6 +93,17 @@ order-good sch o n e =
       end = last;
       most = omega (arith, g .size, section-ends o g .1 (t .1) .1);
     }
+
+-- and the other way round
+pub order-in : (sch : Schema) (o : List ℕ) (n : ℕ) → OrderGood sch o n → orderForm sch o ≡ Good n
+unfolding orderForm fromStart fromGoal startsForm
+order-in sch o n g =
+    bind-good _ _ _ (order-header-in o (g .header))
+    ∙ bind-good _ _ _ (g .objects)
+    ∙ bind-good _ _ _ (bind-good _ _ _ (g .starts) ∙ refuse-unmet _ _ _ _ (le-ltb (goalAt o) (goalAt o) (omega arith)))
+    ∙ bind-good _ _ _ (g .goal)
+    ∙ g .plan
+    ∙ ap Good (sym (g .end))
 
 -- rows 14 and 22 stand at the order's beginning
 header-place : (o : List ℕ) (k p : ℕ) → orderHeader o ≡ Refused k p → Between 14 18 k × (k ≤ maxNumber) × (p ≤ maxOrder)

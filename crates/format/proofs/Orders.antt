@@ -1,14 +1,14 @@
 -- Rows 14 and 22, and the parts of rows 15 to 18: what an order's header has, objects and plan steps as entries of one size, goal entries in order.
 use Prim.Native.Nat.{ℕ, _+_, _*_, _≤_}
-use mathlib.Core.Path.{_≡_, refl}
+use mathlib.Core.Path.{_≡_, refl, _∙_}
 use mathlib.Core.Bool.{false, _||_, not}
 use mathlib.Core.List.{List}
-use borrow.Author.Tests.{ltb-false, eqb-true, not-false}
+use borrow.Author.Tests.{ltb-false, le-ltb, eqb-true, eq-eqb, not-false}
 use lib.Dec.{eqb, ltb}
 use lib.ListN.{length}
 use Rattle.truth.specs.Bools.{neither}
 use Rattle.answer.specs.declared.Answer.the-variants.{Good}
-use Rattle.answer.specs.Laws.{none-over, passed}
+use Rattle.answer.specs.Laws.{none-over, refuse-unmet, passed}
 use Rattle.answer.specs.Entries.{Entry}
 use Rattle.input.specs.Bytes.{byteAt, two}
 use Rattle.terms.specs.declared.Fact.{Fact}
@@ -30,18 +30,29 @@ pub record OrderHeaderGood (o : List ℕ) : Type 0 where
   pub starts : startCount o ≤ maxStarts
   pub entries : goalCount o ≤ maxEntries
   pub steps : stepCount o ≤ maxSteps
+  pub objects-told : two o 8 ≡ headerSize
+  pub start-told : two o 10 ≡ startAt o
   pub touch : startAt o ≤ goalAt o
+  pub steps-told : two o 14 ≡ stepsAt o
   pub size : length o ≡ stepsAt o + stepSize * stepCount o
 
--- two of the offsets' tests
-order-offsets : (o : List ℕ) → orderOffsetsBad o ≡ false → (startAt o ≤ goalAt o) × (length o ≡ stepsAt o + stepSize * stepCount o)
+-- the offsets' tests
+order-offsets : (o : List ℕ) → orderOffsetsBad o ≡ false
+    → (two o 8 ≡ headerSize) × (two o 10 ≡ startAt o) × (startAt o ≤ goalAt o) × (two o 14 ≡ stepsAt o) × (length o ≡ stepsAt o + stepSize * stepCount o)
 unfolding orderOffsetsBad
 order-offsets o e =
     let front = not (eqb (two o 8) headerSize) || not (eqb (two o 10) (startAt o)) in
     let middle = front || ltb (goalAt o) (startAt o) in
     let last = neither (middle || not (eqb (two o 14) (stepsAt o))) _ e in
-    let third = neither front _ (neither middle _ (last .0) .0) in
-    (ltb-false _ _ (third .1), eqb-true (length o) (stepsAt o + stepSize * stepCount o) (not-false _ (last .1)))
+    let fourth = neither middle _ (last .0) in
+    let third = neither front _ (fourth .0) in
+    let second = neither (not (eqb (two o 8) headerSize)) _ (third .0) in (
+      eqb-true (two o 8) headerSize (not-false _ (second .0)),
+      eqb-true (two o 10) (startAt o) (not-false _ (second .1)),
+      ltb-false _ _ (third .1),
+      eqb-true (two o 14) (stepsAt o) (not-false _ (fourth .1)),
+      eqb-true (length o) (stepsAt o + stepSize * stepCount o) (not-false _ (last .1)),
+    )
 
 pub order-header-good : (o : List ℕ) (n : ℕ) → orderHeader o ≡ Good n → OrderHeaderGood o
 unfolding orderHeader orderCountsBad outOfRange
@@ -59,9 +70,27 @@ order-header-good o n e =
       starts = ltb-false _ _ (x .1);
       entries = w .2;
       steps = w .3;
-      touch = t .0;
-      size = t .1;
+      objects-told = t .0;
+      start-told = t .1;
+      touch = t .2;
+      steps-told = t .3;
+      size = t .4;
     }
+
+-- and the other way round
+pub order-header-in : (o : List ℕ) → OrderHeaderGood o → orderHeader o ≡ Good headerSize
+unfolding orderHeader orderCountsBad outOfRange orderOffsetsBad
+order-header-in o g =
+    refuse-unmet _ _ _ _ (rw (le-ltb (length o) headerSize (g .least), le-ltb maxObjects (objectCount o) (g .objects), le-ltb maxEntries (goalCount o) (g .entries), le-ltb maxSteps (stepCount o) (g .steps)))
+    ∙ refuse-unmet _ _ _ _ (rw (le-ltb (startCount o) 1 (g .some), le-ltb maxStarts (startCount o) (g .starts)))
+    ∙ refuse-unmet _ _ _ _
+    (rw (
+      eq-eqb (two o 8) headerSize (g .objects-told),
+      eq-eqb (two o 10) (startAt o) (g .start-told),
+      le-ltb (goalAt o) (startAt o) (g .touch),
+      eq-eqb (two o 14) (stepsAt o) (g .steps-told),
+      eq-eqb (length o) (stepsAt o + stepSize * stepCount o) (g .size),
+    ))
 
 -- where each section starts: the end of the one before it
 pub start-at-is : (o : List ℕ) → headerSize + objectCount o ≡ startAt o

@@ -3,6 +3,7 @@ pub mod Planning
 pub mod Learn
 pub mod SheetBits
 pub mod Check
+pub mod Alone
 pub mod Add
 pub mod Convert
 pub mod Judge
