@@ -77,11 +77,6 @@ module _ (form : Form) (s : List ℕ) (h : Sections) (own : h ≡ sectionsOf s) 
   unfolding observedOf heldAfter schemaOf nothingSeen
   all-observed first bytes w k m good e r f = rw (nothing-alone s k (rw own at good)) (rw (e, own) at (r .observes m f))
 
-  -- the records by the header that was read
-  pub scanned-own : (n from : ℕ) (before : Observed) (bytes : List ℕ) (w : Walked)
-      → RecordsObserved form (sectionsOf s) s n from before bytes w → RecordsObserved form h s n from before bytes w
-  scanned-own n from before bytes w e = rw own e
-
   -- rows 6 to 10
   pub at-records : (first bytes : List ℕ) (w : Walked) (a : Answer) (b : Bool)
       → a ≡ sections h s

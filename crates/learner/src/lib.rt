@@ -26,6 +26,7 @@ fn observe_form(s: &[u8], short: bool, h: Sections, observed: &mut [u8]) -> Walk
     observing::walk::records(
         s,
         short,
+        h,
         h.records.count as usize,
         h.records.at as usize,
         observed,

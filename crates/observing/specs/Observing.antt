@@ -9,7 +9,7 @@ use Rattle.answer.specs.declared.Answer.the-variants.{Good}
 use Rattle.terms.specs.declared.Sections.{Sections}
 use Rattle.terms.specs.declared.Fact.{Fact}
 use Rattle.terms.specs.Schema.{Schema, schema}
-use Rattle.terms.specs.Typing.{RightObjects}
+use Rattle.terms.specs.Typing.{Falling, RightObjects}
 use Rattle.limits.specs.Limits.{maxLength, maxObjects, maxRelations, maxMoves, stepSize, stateSize, observedSize}
 use Rattle.format.specs.Lists.{listAt, listEnd}
 use Rattle.format.specs.Form.{Form, mostListed}
@@ -69,6 +69,16 @@ abbrev pub DoneReady : List ℕ → Scope → ℕ → ℕ → List ℕ → ℕ �
 DoneReady s c pre at m held masks named m′ masks′ r = (ready : Ready s c pre m held masks) → Done (c .short) s (ready .before) at m masks named m′ masks′ r
 
 -- ---- a record
+
+-- What observing the record at an offset asks: no more relations and moves than there may be, and parents that are smaller kinds; a book and an offset
+-- within the greatest length; and what is held as it was begun.
+pub record CanObserve (h : Sections) (s : List ℕ) (at : ℕ) (masks : List ℕ) : Type 0 where
+  pub known : h .relations .count ≤ maxRelations
+  pub moves : h .moves .count ≤ maxMoves
+  pub falling : Falling (schema h s)
+  pub begun : Begun (schema h s) masks
+  pub size : length s ≤ maxLength
+  pub near : at ≤ maxLength
 
 -- what was read: its answer and, where that is good, what is observed after it
 pub record Observes (sch : Schema) (answer : Answer) (after : Observed) (bytes : List ℕ) (w : Walked) : Type 0 where

@@ -25,7 +25,7 @@ ghost use Rattle.observed.specs.Observed.{observeAll};
 ghost use Rattle.records.specs.Head.{headOf};
 ghost use Rattle.records.specs.Readable.{schemaIn, typedIn, Readable, stepListed};
 ghost use Rattle.lifting.specs.Pairs.{noDigits};
-ghost use Rattle.observing.specs.Observing.{Begun, Observable, Ready, Whole, DoneReady, Observes, RecordObserved};
+ghost use Rattle.observing.specs.Observing.{Begun, CanObserve, Observable, Ready, Whole, DoneReady, Observes, RecordObserved};
 
 // What a walk over records comes to: its answer, and the offset of the first step that row 11 names, 0 where none is.
 pub struct Walked {
@@ -244,8 +244,7 @@ pub fn observe_record(
     observed: &mut [u8],
     named: usize,
 ) -> Walked
-    requires { ⌜ (h .relations .count ≤ maxRelations) × (h .moves .count ≤ maxMoves) × Falling (schema h (now s)) × Begun (schema h (now s)) (now observed) ⌝ }
-    requires { ⌜ (length (now s) ≤ maxLength) × (at ≤ maxLength) ⌝ }
+    requires { ⌜ CanObserve h (now s) at (now observed) ⌝ }
     ensures { λ r. ⌜ RecordObserved short h (now (s .entry)) at (record { masks = now (observed .entry); named = named }) (now (observed .exit)) r ⌝ }
 {
     let head = Head::read(s, at);

@@ -1,31 +1,63 @@
 // The learner's walk over the records of a book, once and in file order: each looked over to its end, rows 6 to 10, and observed on the way.
-// Uses this crate's root for one record, records for a head, answer, terms, and the definitions of format and observed. Where a book is looked over
-// alone, lookover walks, with nothing lent.
+// Uses this crate's root for one record, reader for where the walk stands, records for a head, answer, terms, and the definitions of format and
+// observed. Where a book is looked over alone, lookover walks, with nothing lent.
 use super::Walked;
 use answer::Answer;
+use reader::Reader;
 use records::Head;
 use terms::Sections;
 ghost use Prim.Native.Nat.{_≤_};
-ghost use lib.ListN.{length};
-ghost use Rattle.limits.specs.Limits.{maxLength, maxRelations, maxMoves, maxRecords};
-ghost use Rattle.terms.specs.Sections.{sectionsOf};
-ghost use Rattle.terms.specs.Schema.{schema};
-ghost use Rattle.terms.specs.Typing.{Falling};
-ghost use Rattle.observing.specs.Observing.{Begun, RecordsObserved};
+ghost use Rattle.limits.specs.Limits.{maxRecords};
+ghost use Rattle.observing.specs.Observing.{CanObserve, RecordObserved, RecordsObserved};
+
+// The record at which a reader stands, as `observe_record`. The borrow checker covers no function over a struct that holds a reference: this one is thin,
+// and its proof and that of `observe_from` are by hand.
+pub fn observe<'a, 'b>(
+    r: Reader<'a>,
+    short: bool,
+    h: Sections,
+    observed: &'b mut [u8],
+    named: usize,
+) -> Walked
+    requires { ⌜ CanObserve h (now (r .src)) (r .at) (now observed) ⌝ }
+    ensures { λ w. ⌜ RecordObserved short h (now (r .entry .src)) (r .entry .at) (record { masks = now (observed .entry); named = named }) (now (observed .exit)) w ⌝ }
+{
+    super::observe_record(r.src, short, h, r.at, observed, named)
+}
+
+// The record at an offset, by way of a reader that stands there.
+pub fn observe_from(
+    s: &[u8],
+    at: usize,
+    short: bool,
+    h: Sections,
+    observed: &mut [u8],
+    named: usize,
+) -> Walked
+    requires { ⌜ CanObserve h (now s) at (now observed) ⌝ }
+    ensures { λ w. ⌜ RecordObserved short h (now (s .entry)) at (record { masks = now (observed .entry); named = named }) (now (observed .exit)) w ⌝ }
+{
+    observe(reader::moved(reader::new(s), at), short, h, observed, named)
+}
 
 // A number of records, which end the book: each looked over and observed before the next. The count of all steps is good.
-pub fn records(s: &[u8], short: bool, n: usize, from: usize, observed: &mut [u8]) -> Walked
-    requires { ⌜ (length (now s) ≤ maxLength) × (from ≤ maxLength) × (n ≤ maxRecords) × (sectionsOf (now s) .relations .count ≤ maxRelations) ⌝ }
-    requires { ⌜ (sectionsOf (now s) .moves .count ≤ maxMoves) × Falling (schema (sectionsOf (now s)) (now s)) × Begun (schema (sectionsOf (now s)) (now s)) (now observed) ⌝ }
-    ensures { λ r. ⌜ RecordsObserved short (sectionsOf (now (s .entry))) (now (s .entry)) n from (record { masks = now (observed .entry); named = 0 }) (now (observed .exit)) r ⌝ }
+pub fn records(
+    s: &[u8],
+    short: bool,
+    h: Sections,
+    n: usize,
+    from: usize,
+    observed: &mut [u8],
+) -> Walked
+    requires { ⌜ CanObserve h (now s) from (now observed) × (n ≤ maxRecords) ⌝ }
+    ensures { λ r. ⌜ RecordsObserved short h (now (s .entry)) n from (record { masks = now (observed .entry); named = 0 }) (now (observed .exit)) r ⌝ }
 {
-    let h = Sections::read(s);
     let mut left = n;
     let mut at = from;
     let mut total: usize = 0;
     let mut named: usize = 0;
     while 0 < left {
-        let w = super::observe_record(s, short, h, at, observed, named);
+        let w = observe_from(s, at, short, h, observed, named);
         let answer = w.answer;
         match answer {
             Answer::Refused(k, p) => {

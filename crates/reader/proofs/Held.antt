@@ -53,16 +53,23 @@ module _ {M : Type 1} (𝓤 : URA M) (H : Heap 𝓤) (A : Atoms 𝓤) (W : Given
   pub slice-twice : (s : RefT (List ℕ)) (v : Val) → twice (ShrSlice (named 0) κ u8 .own s (v ∷ []))
   slice-twice s v = shr-slice-copy 𝓤 H A W (named 0) κ u8 .twice s (v ∷ [])
 
--- what a call's `post` is: the token, a result of the type R, and what the callee ensures of it
-abbrev pub Handed : {M : Type 1} (𝓤 : URA M) → Lft → Share → (R : RattleType) → (R .Denot → SProp 𝓤) → Val → Item 𝓤
-Handed 𝓤 κ q R E u = later (some (λ (r : R .Denot). (Token 𝓤 κ q ⊛ ‵ (R .own r (u ∷ []))) ⊛ raw (E r)))
+-- what a call's `post` is: the tokens, a result of the type R, and what the callee ensures of it
+abbrev pub Handed : {M : Type 1} (𝓤 : URA M) → Item 𝓤 → (R : RattleType) → (R .Denot → SProp 𝓤) → Val → Item 𝓤
+Handed 𝓤 tokens R E u = later (some (λ (r : R .Denot). (tokens ⊛ ‵ (R .own r (u ∷ []))) ⊛ raw (E r)))
 
--- A call has returned u: the walk goes on with what u denotes, owned and typed, the fact that the callee ensures, and the token.
 module _ {M : Type 1} {𝓤 : URA M} {H : Heap 𝓤} {A : Atoms 𝓤} {K : Type 0} {W : Given 𝓤 H A} {Γ : List (Item 𝓤)} {C : Calls 𝓤 H} {Λ : Loops 𝓤 H} {X : Env 𝓤 H} {p : Place} {u : Val} {rest : Body} {z : Post 𝓤 H} where
+  -- A call has returned u: the walk goes on with what it takes of what the callee ensures, with what u denotes, owned and typed, and with the tokens.
+  pub handed : K → (tokens : Item 𝓤) (R : RattleType) (E : R .Denot → SProp 𝓤) (taken : R .Denot → Item 𝓤)
+      → ((r : R .Denot) → ent 𝓤 (E r) (mean 𝓤 H A (taken r)))
+      → ((r : R .Denot) → Is R r (u ∷ []) → Seq K W (taken r ∷ ‵ (R .own r (u ∷ [])) ∷ tokens ∷ Γ) (lands C Λ X p u rest z))
+      → Seq K W (raw (mean 𝓤 H A (Handed 𝓤 tokens R E u)) ∷ Γ) (lands C Λ X p u rest z)
+  handed t tokens R E taken said k =
+      use1 W (Handed 𝓤 tokens R E u) (id⊢ 𝓤 _) $ await t tt $
+      pick t (λ r. split t $ split t $ move t (1 ∷ []) $ peeks t R (Is R) (shows 𝓤 H A R) r (u ∷ []) (λ is. move t (2 ∷ []) $ use1 W (taken r) (said r) $ k r is))
+
+  -- the same, where the callee ensures a fact, at one lifetime
   pub returned : K → (κ : Lft) (q : Share) (R : RattleType) (E : R .Denot → SProp 𝓤) (φ : R .Denot → Type 0)
       → ((r : R .Denot) → ent 𝓤 (E r) (fact 𝓤 (φ r)))
       → ((r : R .Denot) → φ r → Is R r (u ∷ []) → Seq K W (‵ (R .own r (u ∷ [])) ∷ Token 𝓤 κ q ∷ Γ) (lands C Λ X p u rest z))
-      → Seq K W (raw (mean 𝓤 H A (Handed 𝓤 κ q R E u)) ∷ Γ) (lands C Λ X p u rest z)
-  returned t κ q R E φ said k =
-      use1 W (Handed 𝓤 κ q R E u) (id⊢ 𝓤 _) $ await t tt $
-      pick t (λ r. split t $ move t (1 ∷ []) $ use1 W (raw (fact 𝓤 (φ r))) (said r) $ heard t (φ r) (λ e. split t $ move t (1 ∷ []) $ peeks t R (Is R) (shows 𝓤 H A R) r (u ∷ []) (k r e)))
+      → Seq K W (raw (mean 𝓤 H A (Handed 𝓤 (Token 𝓤 κ q) R E u)) ∷ Γ) (lands C Λ X p u rest z)
+  returned t κ q R E φ said k = handed t (Token 𝓤 κ q) R E (λ r. raw (fact 𝓤 (φ r))) said (λ r is. heard t (φ r) (λ e. k r e is))

@@ -9,7 +9,7 @@ use Rattle.format.proofs.Header.{sections-good}
 use Rattle.format.proofs.Typing.{schema-right}
 use Rattle.observed.specs.Observed.{observedSet}
 use Rattle.observed.proofs.Observe.{seen-nothing}
-use Rattle.learner.proofs.Book.{at-sections, scanned-own, at-records}
+use Rattle.learner.proofs.Book.{at-sections, at-records}
 use borrow.Author.Needs.{needs}
 use Rattle.learner.proofs.observe_form.Statement.{statement}
 use Rattle.learner.proofs.observe_form.Tie as tie
@@ -26,13 +26,18 @@ nothing-seen-requires c κs =
 records-requires : tie.Need-records-requires
 records-requires c κs =
     let x = c .before .before .before .before .before .before .before in
-    let p = c .before .before .before .before .before .before .before .before .before .before .before .before .pre in
     let e = sym (x .before .before .sections .ensures) ∙ is-good _ (sym (x .before .is-refused .ensures) ∙ x .if1 .left) in
     let g = sections-good _ _ _ e in
     let seen = c .before .before .before .before .before .nothing-seen .ensures in (
-      (g .size .most, omega (arith, g .offsets .within, g .size .most), g .counts .records, rw (← p .0) (g .counts .relations)),
-      rw (← p .0)
-          (g .counts .moves, schema-right _ _ _ g .falling, record { sized = ap length seen ∙ seen-nothing _ .sized; atoms = λ a low high. ap (λ (l : List ℕ). observedSet l a 6) seen ∙ seen-nothing _ .atoms a low high }),
+      record {
+        known = g .counts .relations;
+        moves = g .counts .moves;
+        falling = schema-right _ _ _ g .falling;
+        begun = record { sized = ap length seen ∙ seen-nothing _ .sized; atoms = λ a low high. ap (λ (l : List ℕ). observedSet l a 6) seen ∙ seen-nothing _ .atoms a low high };
+        size = g .size .most;
+        near = omega (arith, g .offsets .within, g .size .most);
+      },
+      g .counts .records,
     )
 
 returns-2 : tie.Need-returns-2
@@ -40,7 +45,7 @@ returns-2 c =
     let d = c .before .before .before in
     let x = d .before .before .before .before .before .before .before in
     at-records _ _ _ (c .before .before .before .before .before .before .before .before .before .before .before .before .before .before .before .pre .0) _ _ _ _ _ (x .before .before .sections .ensures) (x .before .is-refused .ensures) (x .if1 .left)
-    (d .before .before .before .before .before .nothing-seen .ensures) (scanned-own _ _ _ (c .before .before .before .before .before .before .before .before .before .before .before .before .before .before .before .pre .0) _ _ _ _ _ (c .before .before .records .ensures))
+    (d .before .before .before .before .before .nothing-seen .ensures) (c .before .before .records .ensures)
 
 pub observe-form-spec : {M : Type 1} → statement M
 observe-form-spec =

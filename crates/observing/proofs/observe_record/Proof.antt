@@ -32,7 +32,8 @@ observe-body-requires c κs =
     let n = head-end _ _ g in
     let o = ap (λ (x : Head). x .objects) e in
     let l = head-limits _ _ g .2 in
-    (p .0, (p .1 .1, omega arith, omega arith, e, rw o (head-objects _ _ g)))
+    let b = p .size in
+    ((p .known, p .moves, p .falling, p .begun), (p .near, omega arith, omega arith, e, rw o (head-objects _ _ g)))
 
 returns-2 : tie.Need-returns-2
 returns-2 c =
