@@ -20,7 +20,7 @@ use Rattle.format.specs.LookOver.{lookOver}
 use Rattle.format.specs.Order.{GoalEntry, startCount, stepCount, startAt, stepsAt, orderForm, starts, goal, plan, planFrom}
 use Rattle.model.specs.Quantify.{Mem, here, there}
 use Rattle.model.specs.Domain.{Transition}
-use Rattle.model.specs.Learned.{learned}
+use Rattle.model.specs.Learned.{learnedRules, modelOf, learned}
 use Rattle.model.proofs.Impossible.{learned-consistent}
 use Rattle.jobs.specs.Planning.{domain, holding, schemaOf, transitionsOf, groundAction, goalEntry, startStates, planOf, goalOf}
 use Rattle.jobs.specs.Learn.{learnable, learnedFrom}
@@ -48,7 +48,7 @@ use Rattle.starts.specs.Starts.{executedFrom, answerFrom, StartsGood}
 
 -- the sets of a move's rules are its learned ones
 ruled : (sch : Schema) (ts : List Transition) (l : List ℕ) → Seen sch ts l → (a : ℕ) → 1 ≤ a → a ≤ 32 → Ruled (learned (domain sch) ts) a (ruleSet l a)
-unfolding ruleSet learned domain inSet
+unfolding ruleSet learned modelOf learnedRules domain inSet
 ruled sch ts l seen a h h′ =
     record {
       positive = seen-in sch ts l seen a h h′ alwaysBefore (omega arith);

@@ -1,5 +1,5 @@
 -- Demand 2, proved: the bits of the sheet are those of the learned model, which bounds every fitting one.
-use Prim.Native.Nat.{ℕ, _*_, _≤_, _<_}
+use Prim.Native.Nat.{ℕ, zero, suc, _*_, _≤_, _<_}
 use mathlib.Core.Path.{_≡_, refl, sym, _∙_}
 use mathlib.Core.Logic.{_↔_}
 use mathlib.Core.Bool.{Bool, true, false, not, not-eq-not}
@@ -17,14 +17,15 @@ use Rattle.format.specs.Form.{Form}
 use Rattle.format.specs.Decode.{RecordedStep}
 use Rattle.format.specs.LookOver.{lookOver}
 use Rattle.model.specs.Quantify.{Mem}
-use Rattle.model.specs.Learned.{learned}
+use Rattle.model.specs.Learned.{learnedRules, modelOf, learned}
 use Rattle.model.proofs.Seen.{before-in, before-out, turned-in, turned-out, need-in, need-out, effect-in, effect-out}
 use Rattle.model.proofs.Bounds.{precondition-iff-some, effect-iff-every}
 use Rattle.jobs.specs.Planning.{domain, schemaOf, stepsOfBook, transitionsOf}
-use Rattle.jobs.specs.Learn.{learnable, learnedFrom, ruleSheet, learn, learnBytes}
-use Rattle.jobs.proofs.Sheet.{length-rows, learned-need-bit, learned-effect-bit}
+use Rattle.jobs.specs.Learn.{learnable, rulesFrom, learnedFrom, ruleSheet, learn, learnBytes}
+use Rattle.jobs.specs.SheetBits.{neededSet, neededNotSet, addedSet, removedSet, sheetBit, rulesOn}
+use Rattle.jobs.proofs.Sheet.{length-rows, learned-bits}
 use Rattle.wellformed.proofs.Formed.{formed}
-use Rattle.demand.specs.Demand2.{valueIn, Bits, Demand2}
+use Rattle.demand.specs.Demand2.{valueIn, NeedBit, EffectBit, Bits, Demand2}
 use Rattle.wellformed.proofs.Learnable.{inconsistentIn, learnable-inconsistent}
 use Rattle.demand.proofs.Demand3.{demand3}
 use Rattle.demand.proofs.Recorded.{sight-of-recorded, recorded-of-sight}
@@ -70,26 +71,67 @@ module _ (form : Form) (s : List ℕ) (b : Bool) (a n : ℕ) where
   )
 
 -- ---- the bits
-module _ (form : Form) (s : List ℕ) (a n : ℕ) (low : 1 ≤ a) (high : a ≤ schemaOf s .moves) (small : n < 256) where
+module _ (form : Form) (s : List ℕ) (a n : ℕ) where
   need-none : (b : Bool) → isAtom (schemaOf s) a n ≡ false → learnedFrom form s .precondition b a n ≡ false
-  unfolding learnedFrom learned domain
-  need-none b e = rw e
+  unfolding learnedFrom learned modelOf learnedRules domain
+  need-none true e = rw e
+  need-none false e = rw e
 
   effect-none : (b : Bool) → isAtom (schemaOf s) a n ≡ false → learnedFrom form s .effect b a n ≡ false
-  unfolding learnedFrom learned domain
-  effect-none b e = rw e
+  unfolding learnedFrom learned modelOf learnedRules domain
+  effect-none true e = rw e
+  effect-none false e = rw e
 
-  bits : (m : ℕ) → lookOver form s ≡ Good m → inconsistentIn form s ≡ false → (b : Bool) → Bits form s b a n
-  unfolding learnedFrom
-  bits m good clean b =
-      let need = learned-need-bit form s a n low high small b in
-      let effect = learned-effect-bit form s a n low high small b in
+-- the bits are the learned model's
+module _ (form : Form) (s : List ℕ) (a n : ℕ) (low : 1 ≤ a) (high : a ≤ schemaOf s .moves) (small : n < 256) where
+  needed-bit : sheetBit (ruleSheet form s) neededSet a n ≡ learnedFrom form s .precondition true a n
+  unfolding rulesOn rulesFrom learnedFrom learned modelOf
+  needed-bit = learned-bits form s a n low high small .needed
+
+  needed-not-bit : sheetBit (ruleSheet form s) neededNotSet a n ≡ learnedFrom form s .precondition false a n
+  unfolding rulesOn rulesFrom learnedFrom learned modelOf
+  needed-not-bit = learned-bits form s a n low high small .neededNot
+
+  added-bit : sheetBit (ruleSheet form s) addedSet a n ≡ learnedFrom form s .effect true a n
+  unfolding rulesOn rulesFrom learnedFrom learned modelOf
+  added-bit = learned-bits form s a n low high small .added
+
+  removed-bit : sheetBit (ruleSheet form s) removedSet a n ≡ learnedFrom form s .effect false a n
+  unfolding rulesOn rulesFrom learnedFrom learned modelOf
+  removed-bit = learned-bits form s a n low high small .removed
+
+  none : isAtom (schemaOf s) a n ≡ false → (set : ℕ) → set < 4 → sheetBit (ruleSheet form s) set a n ≡ false
+  none e zero l = needed-bit ∙ need-none form s a n true e
+  none e (suc zero) l = needed-not-bit ∙ need-none form s a n false e
+  none e (suc (suc zero)) l = added-bit ∙ effect-none form s a n true e
+  none e (suc (suc (suc zero))) l = removed-bit ∙ effect-none form s a n false e
+  none e (suc (suc (suc (suc k)))) l = absurd (omega arith)
+
+  module _ (m : ℕ) (good : lookOver form s ≡ Good m) (clean : inconsistentIn form s ≡ false) (set : ℕ) (b : Bool) where
+    need : sheetBit (ruleSheet form s) set a n ≡ learnedFrom form s .precondition b a n → NeedBit form s set b a n
+    unfolding learnedFrom
+    need bit =
+        record {
+          by-some = rw bit (precondition-iff-some (domain (schemaOf s)) (transitionsOf form s) (formed form s m good) clean b a n);
+          by-record = rw bit (need-recorded form s b a n);
+        }
+
+    effect : sheetBit (ruleSheet form s) set a n ≡ learnedFrom form s .effect b a n → EffectBit form s set b a n
+    unfolding learnedFrom
+    effect bit =
+        record {
+          by-every = rw bit (effect-iff-every (domain (schemaOf s)) (transitionsOf form s) (formed form s m good) clean b a n);
+          by-record = rw bit (effect-recorded form s b a n);
+        }
+
+  bits : (m : ℕ) → lookOver form s ≡ Good m → inconsistentIn form s ≡ false → Bits form s a n
+  bits m good clean =
       record {
-        needed-by-some = rw need (precondition-iff-some (domain (schemaOf s)) (transitionsOf form s) (formed form s m good) clean b a n);
-        needed-by-record = rw need (need-recorded form s b a n);
-        given-by-every = rw effect (effect-iff-every (domain (schemaOf s)) (transitionsOf form s) (formed form s m good) clean b a n);
-        given-by-record = rw effect (effect-recorded form s b a n);
-        of-none = λ e. (need ∙ need-none b e, effect ∙ effect-none b e);
+        needed = need m good clean _ true needed-bit;
+        neededNot = need m good clean _ false needed-not-bit;
+        added = effect m good clean _ true added-bit;
+        removed = effect m good clean _ false removed-bit;
+        of-none = none;
       }
 
 -- ---- the whole
@@ -112,7 +154,7 @@ module _ (form : Form) (s : List ℕ) (n : ℕ) (good : lookOver form s ≡ Good
 
   long : length (ruleSheet form s) ≡ ruleSize * schemaOf s .moves
   unfolding ruleSheet
-  long = length-rows (learnedFrom form s) (schemaOf s .moves) 1
+  long = length-rows (rulesFrom form s) (schemaOf s .moves) 1
 
 -- Demand 2.
 pub demand2 : Demand2
@@ -123,6 +165,6 @@ demand2 form s n good =
           record {
             long = long form s n good total accepted;
             written = written form s n good total accepted;
-            bits = λ b a k low high small. bits form s a k low high small n good (accepted-clean form s n good total accepted) b;
+            bits = λ a k low high small. bits form s a k low high small n good (accepted-clean form s n good total accepted);
           };
     }

@@ -20,7 +20,7 @@ use Rattle.format.specs.Form.{Form}
 use Rattle.format.specs.Decode.{RecordedStep}
 use Rattle.model.specs.Quantify.{Mem, here, there}
 use Rattle.jobs.specs.Planning.{domain, holding, groundAction, transition, schemaOf, stepsOfBook}
-use Rattle.jobs.specs.Learn.{learnedFrom, ruleRows, ruleSheet}
+use Rattle.jobs.specs.Learn.{rulesFrom, ruleRows, ruleSheet}
 use Rattle.wellformed.proofs.Headers.{right-schema}
 use Rattle.wellformed.specs.Right.{RightStep, RightState, RightSomewhere}
 use Rattle.wellformed.specs.Grounding.{objectIn, factOf}
@@ -101,7 +101,7 @@ renumbered-back (f ∷ fs) (g ∷ gs) h (there m) = let (x, k, e) = renumbered-b
 pub renumbered-same-sheet : RenumberedSameSheet
 unfolding ruleSheet
 renumbered-same-sheet F G s t m n good good′ agree steps =
-    rows-same (learnedFrom F s) (learnedFrom G t)
+    rows-same (rulesFrom F s) (rulesFrom G t)
     (λ a.
     same-row F G s t agree (right-schema F s m good) (right-schema G t n good′) a
     (record {
@@ -113,4 +113,4 @@ renumbered-same-sheet F G s t m n good good′ agree steps =
           (f, l, alike-of-renumbered F G s t agree (right-schema F s m good) (right-schema G t n good′) f g (recorded-right F s m good f l) (recorded-right G t n good′ g k) h);
     }))
     (schemaOf s .moves) 1
-    ∙ ap (λ (k : ℕ). ruleRows (learnedFrom G t) k 1) (agree .moves)
+    ∙ ap (λ (k : ℕ). ruleRows (rulesFrom G t) k 1) (agree .moves)

@@ -11,11 +11,11 @@ use Rattle.format.specs.Form.{Form}
 use Rattle.format.specs.Decode.{RecordedStep}
 use Rattle.model.specs.Quantify.{Mem}
 use Rattle.model.specs.Domain.{Domain, Transition}
-use Rattle.model.specs.Learned.{learned}
+use Rattle.model.specs.Learned.{learnedRules}
 use Rattle.model.specs.Alike.{Alike, SameRow}
-use Rattle.model.proofs.Row.{alike-sym, precondition-same, effect-same}
+use Rattle.model.proofs.Row.{alike-sym, rules-same}
 use Rattle.jobs.specs.Planning.{domain, holding, groundAction, transition, schemaOf, stepsOfBook, transitionsOf}
-use Rattle.jobs.specs.Learn.{learnedFrom, ruleRow, ruleSheet}
+use Rattle.jobs.specs.Learn.{rulesFrom, ruleRow, ruleSheet}
 use Rattle.wellformed.proofs.Headers.{right-schema}
 use Rattle.wellformed.proofs.Lists.{mem-map-out, mem-map-in}
 use Rattle.demand.specs.TwoBooks.{SameStep, SameSteps, rowOf, SameStepsSameRow}
@@ -54,14 +54,13 @@ module _ (F G : Form) (s t : List ℕ) (agree : SameSchema (schemaOf s) (schemaO
       }
 
   -- Such books give the move the same row.
-  pub same-row : (a : ℕ) → AlikeSteps a → ruleRow (learnedFrom F s) a ≡ ruleRow (learnedFrom G t) a
-  unfolding learnedFrom
+  pub same-row : (a : ℕ) → AlikeSteps a → ruleRow (rulesFrom F s) a ≡ ruleRow (rulesFrom G t) a
+  unfolding rulesFrom
   same-row a h =
       let row = row-of-alike a h in
       let D : Domain = domain (schemaOf s) in
-      row-same (learned D (transitionsOf F s)) (learned D (transitionsOf G t)) a (precondition-same D a (transitionsOf F s) (transitionsOf G t) row)
-      (effect-same D a (transitionsOf F s) (transitionsOf G t) row)
-      ∙ ap (λ (E : Domain). ruleRow (learned E (transitionsOf G t)) a) (domain-same (schemaOf s) (schemaOf t) agree right-s right-t)
+      row-same (learnedRules D (transitionsOf F s)) (learnedRules D (transitionsOf G t)) a (rules-same D a (transitionsOf F s) (transitionsOf G t) row)
+      ∙ ap (λ (E : Domain). ruleRow (learnedRules E (transitionsOf G t)) a) (domain-same (schemaOf s) (schemaOf t) agree right-s right-t)
 
   -- ---- the same steps
   alike-of-same : (f g : RecordedStep) → SameStep f g → AlikeRecorded f g
@@ -83,11 +82,11 @@ module _ (F G : Form) (s t : List ℕ) (agree : SameSchema (schemaOf s) (schemaO
       }
 
 -- the row of a move in the sheet of a book
-row-of-sheet : (form : Form) (s : List ℕ) (a : ℕ) → 1 ≤ a → a ≤ schemaOf s .moves → rowOf form s a ≡ ruleRow (learnedFrom form s) a
+row-of-sheet : (form : Form) (s : List ℕ) (a : ℕ) → 1 ≤ a → a ≤ schemaOf s .moves → rowOf form s a ≡ ruleRow (rulesFrom form s) a
 unfolding ruleSheet
 row-of-sheet form s a low high =
     let e : 1 + (a - 1) ≡ a = omega arith in
-    row-part (learnedFrom form s) (schemaOf s .moves) 1 (a - 1) (omega arith) ∙ ap (ruleRow (learnedFrom form s)) e
+    row-part (rulesFrom form s) (schemaOf s .moves) 1 (a - 1) (omega arith) ∙ ap (ruleRow (rulesFrom form s)) e
 
 -- The same steps of one move, states included: the same 128 bytes.
 pub same-steps-same-row : SameStepsSameRow

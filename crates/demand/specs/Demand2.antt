@@ -17,7 +17,7 @@ use Rattle.model.specs.Quantify.{Mem}
 use Rattle.model.specs.Model.{Model}
 use Rattle.jobs.specs.Planning.{holding, schemaOf, stepsOfBook}
 use Rattle.jobs.specs.Learn.{learnable, ruleSheet, learn, learnBytes}
-use Rattle.jobs.specs.SheetBits.{needSet, effectSet, sheetBit}
+use Rattle.jobs.specs.SheetBits.{neededSet, neededNotSet, addedSet, removedSet, sheetBit}
 use Rattle.jobs.specs.Judge.{FitsBook}
 use Rattle.demand.specs.Demand3.{NoneFits, Impossible}
 
@@ -25,21 +25,31 @@ use Rattle.demand.specs.Demand3.{NoneFits, Impossible}
 abbrev pub valueIn : List ℕ → RecordedStep → List Fact → ℕ → Bool
 valueIn s f fs n = holding fs (ground (schemaOf s) (f .step .binding) n)
 
--- what the bits of bound fact n of move a say, `b` being the value needed or given
-pub record Bits (form : Form) (s : List ℕ) (b : Bool) (a n : ℕ) : Type 0 where
-  -- It is set among the needs exactly if some fitting model needs it so,
-  pub needed-by-some : sheetBit (ruleSheet form s) (needSet b) a n ≡ true ↔ ((M : Model) × FitsBook form s M × (M .precondition b a n ≡ true))
+-- what the bit of bound fact n of move a says in a set of needs, `b` being the value that is needed
+pub record NeedBit (form : Form) (s : List ℕ) (set : ℕ) (b : Bool) (a n : ℕ) : Type 0 where
+  -- It is set exactly if some fitting model needs it so,
+  pub by-some : sheetBit (ruleSheet form s) set a n ≡ true ↔ ((M : Model) × FitsBook form s M × (M .precondition b a n ≡ true))
   -- exactly if n is a bound fact of the move that had the value before every recorded step of it (formula 1).
-  pub needed-by-record : sheetBit (ruleSheet form s) (needSet b) a n ≡ true
+  pub by-record : sheetBit (ruleSheet form s) set a n ≡ true
       ↔ ((isAtom (schemaOf s) a n ≡ true) × ((f : RecordedStep) → Mem f (stepsOfBook form s) → f .step .action .0 ≡ a → valueIn s f (f .pre) n ≡ b))
-  -- It is set among the effects exactly if every fitting model has the effect,
-  pub given-by-every : sheetBit (ruleSheet form s) (effectSet b) a n ≡ true ↔ ((M : Model) → FitsBook form s M → M .effect b a n ≡ true)
+
+-- and in a set of effects, `b` being the value that is given
+pub record EffectBit (form : Form) (s : List ℕ) (set : ℕ) (b : Bool) (a n : ℕ) : Type 0 where
+  -- It is set exactly if every fitting model has the effect,
+  pub by-every : sheetBit (ruleSheet form s) set a n ≡ true ↔ ((M : Model) → FitsBook form s M → M .effect b a n ≡ true)
   -- exactly if n is a bound fact of the move that some recorded step of it changed to the value (formula 2).
-  pub given-by-record : sheetBit (ruleSheet form s) (effectSet b) a n ≡ true
+  pub by-record : sheetBit (ruleSheet form s) set a n ≡ true
       ↔ ((isAtom (schemaOf s) a n ≡ true)
       × ((f : RecordedStep) × Mem f (stepsOfBook form s) × (f .step .action .0 ≡ a) × (valueIn s f (f .pre) n ≡ not b) × (valueIn s f (f .post) n ≡ b)))
+
+-- what the four bits of bound fact n of move a say
+pub record Bits (form : Form) (s : List ℕ) (a n : ℕ) : Type 0 where
+  pub needed : NeedBit form s neededSet true a n
+  pub neededNot : NeedBit form s neededNotSet false a n
+  pub added : EffectBit form s addedSet true a n
+  pub removed : EffectBit form s removedSet false a n
   -- Bits of no bound fact are 0.
-  pub of-none : isAtom (schemaOf s) a n ≡ false → (sheetBit (ruleSheet form s) (needSet b) a n ≡ false) × (sheetBit (ruleSheet form s) (effectSet b) a n ≡ false)
+  pub of-none : isAtom (schemaOf s) a n ≡ false → (set : ℕ) → set < 4 → sheetBit (ruleSheet form s) set a n ≡ false
 
 -- of a book that is learned
 pub record SheetRight (form : Form) (s : List ℕ) : Type 0 where
@@ -47,7 +57,7 @@ pub record SheetRight (form : Form) (s : List ℕ) : Type 0 where
   pub long : length (ruleSheet form s) ≡ ruleSize * schemaOf s .moves
   pub written : (lent : List ℕ) → length lent ≡ ruleSize * schemaOf s .moves → learnBytes form s lent ≡ ruleSheet form s
   -- each bit of each move is right
-  pub bits : (b : Bool) (a n : ℕ) → 1 ≤ a → a ≤ schemaOf s .moves → n < maxAtoms → Bits form s b a n
+  pub bits : (a n : ℕ) → 1 ≤ a → a ≤ schemaOf s .moves → n < maxAtoms → Bits form s a n
 
 -- of a book of good form
 pub record LearningRight (form : Form) (s : List ℕ) : Type 0 where

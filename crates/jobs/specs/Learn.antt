@@ -1,6 +1,6 @@
 -- Learning: rows 11 to 13, the rule sheet, and what the lent sheet holds afterwards.
 use Prim.Native.Nat.{ℕ, zero, suc, _*_}
-use mathlib.Core.Bool.{true, false, not}
+use mathlib.Core.Bool.{not}
 use mathlib.Core.List.{List, [], _++_}
 use lib.ListN.{length}
 use lib.Dec.{eqb}
@@ -16,7 +16,7 @@ use Rattle.format.specs.LookOver.{lookOver}
 use Rattle.model.specs.Quantify.{least}
 use Rattle.model.specs.Domain.{Transition}
 use Rattle.model.specs.Model.{Model}
-use Rattle.model.specs.Learned.{learned, unboundEffect, conflicting}
+use Rattle.model.specs.Learned.{Rules, learnedRules, learned, unboundEffect, conflicting}
 use Rattle.jobs.specs.Planning.{domain, transition, schemaOf, stepsOfBook, transitionsOf}
 
 -- row 11: the first step that changed a fact that is no bound fact of it
@@ -45,23 +45,23 @@ learnable form s = do
   Good total
 
 -- the four sets of one move
-unfoldable pub ruleRow : Model → ℕ → List ℕ
-ruleRow M a =
-    maskOf setSize (M .precondition true a)
-    ++ maskOf setSize (M .precondition false a)
-    ++ maskOf setSize (M .effect true a)
-    ++ maskOf setSize (M .effect false a)
+unfoldable pub ruleRow : Rules → ℕ → List ℕ
+ruleRow R a = maskOf setSize (R .needed a) ++ maskOf setSize (R .neededNot a) ++ maskOf setSize (R .added a) ++ maskOf setSize (R .removed a)
 
 -- the rows of a number of moves from one on
-unfoldable pub ruleRows : Model → ℕ → ℕ → List ℕ
-ruleRows M zero a = []
-ruleRows M (suc n) a = ruleRow M a ++ ruleRows M n (suc a)
+unfoldable pub ruleRows : Rules → ℕ → ℕ → List ℕ
+ruleRows R zero a = []
+ruleRows R (suc n) a = ruleRow R a ++ ruleRows R n (suc a)
+
+-- the rules that are learned from a book, and the model that they are
+unfoldable pub rulesFrom : Form → List ℕ → Rules
+rulesFrom form s = learnedRules (domain (schemaOf s)) (transitionsOf form s)
 
 unfoldable pub learnedFrom : Form → List ℕ → Model
 learnedFrom form s = learned (domain (schemaOf s)) (transitionsOf form s)
 
 unfoldable pub ruleSheet : Form → List ℕ → List ℕ
-ruleSheet form s = ruleRows (learnedFrom form s) (schemaOf s .moves) 1
+ruleSheet form s = ruleRows (rulesFrom form s) (schemaOf s .moves) 1
 
 -- what a call learns into a sheet of so many bytes
 unfoldable pub learn : Form → List ℕ → ℕ → Answer

@@ -10,10 +10,10 @@ use Rattle.terms.specs.declared.Relation.{Relation}
 use Rattle.terms.specs.Sections.{sectionsOf}
 use Rattle.terms.specs.Schema.{Schema}
 use Rattle.terms.specs.Steps.{atomRelation, atomFirst, atomSecond, isAtom}
-use Rattle.model.specs.Model.{Model}
+use Rattle.model.specs.Learned.{Rules}
 use Rattle.format.specs.Form.{full}
 use Rattle.jobs.specs.Planning.{schemaOf}
-use Rattle.jobs.specs.Learn.{learnable, learnedFrom}
+use Rattle.jobs.specs.Learn.{learnable, rulesFrom}
 use Rattle.jobs.specs.Check.{check}
 
 -- decimal digits of a number before what follows, the fuel being more than there are
@@ -78,26 +78,26 @@ atomFront sch a n =
     ++ decimal (paramShown sch (atomRelation n) 2 (atomSecond n .0))
     ++ space
 
-unfoldable pub atomLine : Schema → Model → ℕ → ℕ → List ℕ
-atomLine sch M a n =
+unfoldable pub atomLine : Schema → Rules → ℕ → ℕ → List ℕ
+atomLine sch R a n =
     atomFront sch a n
-    ++ (needLetter (M .precondition true a n) (M .precondition false a n) ∷ [])
+    ++ (needLetter (R .needed a n) (R .neededNot a n) ∷ [])
     ++ space
-    ++ (effectLetter (M .effect true a n) (M .effect false a n) ∷ [])
+    ++ (effectLetter (R .added a n) (R .removed a n) ∷ [])
     ++ newline
 
 -- the line of a number, none where it is no bound fact of the move
-unfoldable pub lineIfAtom : Schema → Model → ℕ → ℕ → List ℕ
-lineIfAtom sch M a n = elim (isAtom sch a n) [ true ↦ atomLine sch M a n | false ↦ [] ]
+unfoldable pub lineIfAtom : Schema → Rules → ℕ → ℕ → List ℕ
+lineIfAtom sch R a n = elim (isAtom sch a n) [ true ↦ atomLine sch R a n | false ↦ [] ]
 
 -- the lines of a move's bound facts, `left` numbers from n on
-unfoldable pub atomLines : Schema → Model → ℕ → ℕ → ℕ → List ℕ
-atomLines sch M a zero n = []
-atomLines sch M a (suc left) n = lineIfAtom sch M a n ++ atomLines sch M a left (suc n)
+unfoldable pub atomLines : Schema → Rules → ℕ → ℕ → ℕ → List ℕ
+atomLines sch R a zero n = []
+atomLines sch R a (suc left) n = lineIfAtom sch R a n ++ atomLines sch R a left (suc n)
 
-unfoldable pub moveLines : Schema → Model → ℕ → ℕ → List ℕ
-moveLines sch M zero a = []
-moveLines sch M (suc left) a = atomLines sch M a (atomsPerRelation * sch .relations) 0 ++ moveLines sch M left (suc a)
+unfoldable pub moveLines : Schema → Rules → ℕ → ℕ → List ℕ
+moveLines sch R zero a = []
+moveLines sch R (suc left) a = atomLines sch R a (atomsPerRelation * sch .relations) 0 ++ moveLines sch R left (suc a)
 
 -- the first line: counts of moves, records and recorded steps
 unfoldable pub countsLine : ℕ → ℕ → ℕ → List ℕ
@@ -108,7 +108,7 @@ unfoldable pub rulesLines : List ℕ → Answer → List ℕ
 rulesLines s (Refused num at) = refusedLine num at
 rulesLines s (Good total) =
     countsLine (schemaOf s .moves) (sectionsOf s .records .count) total
-    ++ moveLines (schemaOf s) (learnedFrom full s) (schemaOf s .moves) 1
+    ++ moveLines (schemaOf s) (rulesFrom full s) (schemaOf s .moves) 1
 
 -- what the program `rules` prints of a book
 unfoldable pub rulesPrinted : List ℕ → List ℕ

@@ -18,8 +18,8 @@ use Rattle.format.specs.Form.{Form}
 use Rattle.format.specs.Header.{sections}
 use Rattle.format.specs.LookOver.{lookOver, allRecords, lookOverBy}
 use Rattle.jobs.specs.Planning.{schemaOf, stepsOfBook, transitionsOf}
-use Rattle.jobs.specs.Learn.{unboundEffects, conflictingMove, inconsistency, learnable, learn, learnBytes, learnedFrom, ruleSheet}
-use Rattle.observed.specs.Observed.{Observed, nothingSeen, heldAfter, observedOf}
+use Rattle.jobs.specs.Learn.{unboundEffects, conflictingMove, inconsistency, learnable, learn, learnBytes, ruleSheet, rulesFrom}
+use Rattle.observed.specs.Observed.{nothingSeen, heldAfter, observedOf}
 use Rattle.observed.specs.Rules.{unboundAnswer, conflictAmong, sheetObserved}
 use Rattle.observedright.proofs.Sections.{nothing-alone}
 use Rattle.observedright.proofs.OneWalk.{observed-taught}
@@ -162,7 +162,7 @@ module _ (form : Form) (s old : List ℕ) (m : ℕ) (good : learnable form s ≡
 -- the sheet from what is observed
 pub sheet-by : (form : Form) (s : List ℕ) (m : ℕ) (h : Sections) (bytes new : List ℕ) → h ≡ sectionsOf s → learnable form s ≡ Good m → bytes ≡ observedOf form s .masks
     → new ≡ sheetObserved bytes (h .moves .count) 1 → new ≡ ruleSheet form s
-unfolding learnable transitionsOf learnedFrom ruleSheet
+unfolding learnable transitionsOf rulesFrom ruleSheet
 sheet-by form s m h bytes new own good e f =
     let p = parted (lookOver form s) m _ good in
     f ∙ rw (moves-own s h own, e) (observed-taught form s (p .0) (p .1) .sheet)

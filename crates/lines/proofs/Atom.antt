@@ -1,13 +1,12 @@
 -- A bound fact's line, piece by piece.
 use Prim.Native.Nat.{ℕ}
 use mathlib.Core.Path.{_≡_}
-use mathlib.Core.Bool.{true, false}
 use mathlib.Core.List.{List, [], _∷_, _++_, append-assoc}
 use Rattle.terms.specs.declared.Relation.{Relation}
 use Rattle.terms.specs.declared.Param.{Param}
 use Rattle.terms.specs.Schema.{Schema}
 use Rattle.terms.specs.Steps.{atomRelation, atomFirst, atomSecond}
-use Rattle.model.specs.Model.{Model}
+use Rattle.model.specs.Learned.{Rules}
 use Rattle.jobs.specs.Listing.{decimal, space, newline, needLetter, effectLetter, paramShown, atomFront, atomLine}
 
 -- four numbers, each with a space, are a line's front
@@ -29,9 +28,9 @@ letters : (text front : List ℕ) (need effect : ℕ)
 letters text front need effect = simp (append-assoc)
 
 -- a line's front and its letters, put at once
-pub line-whole : (sch : Schema) (M : Model) (text : List ℕ) (a n need effect : ℕ)
-    → need ≡ needLetter (M .precondition true a n) (M .precondition false a n)
-    → effect ≡ effectLetter (M .effect true a n) (M .effect false a n)
-    → text ++ atomFront sch a n ++ (need ∷ 32 ∷ effect ∷ 10 ∷ []) ≡ text ++ atomLine sch M a n
+pub line-whole : (sch : Schema) (R : Rules) (text : List ℕ) (a n need effect : ℕ)
+    → need ≡ needLetter (R .needed a n) (R .neededNot a n)
+    → effect ≡ effectLetter (R .added a n) (R .removed a n)
+    → text ++ atomFront sch a n ++ (need ∷ 32 ∷ effect ∷ 10 ∷ []) ≡ text ++ atomLine sch R a n
 unfolding atomLine
-line-whole sch M text a n need effect p q = rw (p, q) (letters text (atomFront sch a n) _ _)
+line-whole sch R text a n need effect p q = rw (p, q) (letters text (atomFront sch a n) _ _)

@@ -1,7 +1,6 @@
 // Lines of text: put together in a buffer that the caller lends, to be written at once. `at` is the length of the text so far.
 // Uses output to copy bytes, io to spell numbers, terms, mask, limits and jobs to read a book's schema and a rule sheet; the lines are those of jobs' Listing.
 ghost use mathlib.Core.Path.{_≡_};
-ghost use mathlib.Core.Bool.{true, false};
 ghost use mathlib.Core.List.{_++_};
 ghost use Prim.Native.Nat.{_+_, _≤_, _<_};
 ghost use lib.ListN.{length, take};
@@ -9,7 +8,7 @@ ghost use Rattle.limits.specs.Limits.{maxAtoms};
 ghost use Rattle.io.specs.Counts.{Counts};
 ghost use Rattle.terms.specs.Schema.{schema};
 ghost use Rattle.jobs.specs.Listing.{decimal, space, refusedLine, countsLine, needLetter, effectLetter, paramShown, atomFront, atomLine};
-ghost use Rattle.jobs.specs.SheetBits.{sheetBit, modelOn};
+ghost use Rattle.jobs.specs.SheetBits.{sheetBit, rulesOn};
 use terms::Move;
 use terms::Param;
 use terms::Relation;
@@ -90,7 +89,7 @@ fn sheet_bit(sheet: &[u8], set: usize, m: Move, n: usize) -> bool
 // H needed to hold, N not to hold, B both, F neither.
 fn need_letter(sheet: &[u8], m: Move, n: usize) -> u8
     requires { ⌜ (1 ≤ m .0) × (n < maxAtoms) ⌝ }
-    ensures { λ r. ⌜ r ≡ needLetter (modelOn (now (sheet .entry)) .precondition true (m .0) n) (modelOn (now (sheet .entry)) .precondition false (m .0) n) ⌝ }
+    ensures { λ r. ⌜ r ≡ needLetter (rulesOn (now (sheet .entry)) .needed (m .0) n) (rulesOn (now (sheet .entry)) .neededNot (m .0) n) ⌝ }
 {
     let unwanted = sheet_bit(sheet, jobs::PRE_NEG, m, n);
     if sheet_bit(sheet, jobs::PRE_POS, m, n) {
@@ -108,7 +107,7 @@ fn need_letter(sheet: &[u8], m: Move, n: usize) -> u8
 // A added, R removed, K none.
 fn effect_letter(sheet: &[u8], m: Move, n: usize) -> u8
     requires { ⌜ (1 ≤ m .0) × (n < maxAtoms) ⌝ }
-    ensures { λ r. ⌜ r ≡ effectLetter (modelOn (now (sheet .entry)) .effect true (m .0) n) (modelOn (now (sheet .entry)) .effect false (m .0) n) ⌝ }
+    ensures { λ r. ⌜ r ≡ effectLetter (rulesOn (now (sheet .entry)) .added (m .0) n) (rulesOn (now (sheet .entry)) .removed (m .0) n) ⌝ }
 {
     if sheet_bit(sheet, jobs::ADD, m, n) {
         return b'A';
@@ -155,7 +154,7 @@ pub fn atom_line(
 ) -> usize
     requires { ⌜ (1 ≤ m .0) × (n < maxAtoms) × (at + 128 ≤ length (now out)) ⌝ }
     ensures { λ r. ⌜ (r ≤ at + 20) × Counts r (now (out .exit)) ⌝ }
-    ensures { λ r. ⌜ take r (now (out .exit)) ≡ take at (now (out .entry)) ++ atomLine (schema h (now (book .entry))) (modelOn (now (sheet .entry))) (m .0) n ⌝ }
+    ensures { λ r. ⌜ take r (now (out .exit)) ≡ take at (now (out .entry)) ++ atomLine (schema h (now (book .entry))) (rulesOn (now (sheet .entry))) (m .0) n ⌝ }
 {
     let need = need_letter(sheet, m, n);
     let effect = effect_letter(sheet, m, n);

@@ -16,7 +16,7 @@ use Rattle.terms.specs.declared.Sections.{Sections}
 use Rattle.terms.specs.Sections.{sectionsOf}
 use Rattle.terms.specs.Schema.{schema}
 use Rattle.jobs.specs.Planning.{schemaOf}
-use Rattle.jobs.specs.Learn.{learnable, learn, learnBytes, learnedFrom, ruleSheet}
+use Rattle.jobs.specs.Learn.{learnable, learn, learnBytes, rulesFrom, ruleSheet}
 use Rattle.jobs.specs.Listing.{moveLines, countsLine, rulesLines, rulesPrinted}
 use Rattle.wellformed.proofs.Headers.{moves-few, relations-few}
 use Rattle.learner.specs.Learner.{LearnOutcome}
@@ -36,7 +36,7 @@ learned-by s h old new r steps own l e =
 pub listing-by : (s : List ℕ) (h : Sections) (sheet : List ℕ) → SheetOf s h sheet
     → (text next : List ℕ) (steps : ℕ)
     → text ≡ countsLine (h .moves .count) (h .records .count) steps
-    → next ≡ text ++ moveLines (schemaOf s) (learnedFrom full s) (h .moves .count) 1
+    → next ≡ text ++ moveLines (schemaOf s) (rulesFrom full s) (h .moves .count) 1
     → next ≡ rulesLines s (Good steps)
 unfolding rulesLines schemaOf schema
 listing-by s h sheet l text next steps e f = f ∙ rw (e, l .own)

@@ -4,7 +4,7 @@ use native.Mathlib.Nat.{sub-zero}
 use mathlib.Core.Path.{_≡_, refl, sym, ap, _∙_}
 use mathlib.Core.List.{List, [], _++_, append-nil, append-assoc}
 use Rattle.terms.specs.Schema.{Schema}
-use Rattle.model.specs.Model.{Model}
+use Rattle.model.specs.Learned.{Rules}
 use Rattle.jobs.specs.Listing.{lineIfAtom, atomLines}
 
 -- the lines of so many numbers from one on: the text of each, one after another
@@ -12,9 +12,9 @@ pub record Each (item : ℕ → List ℕ) (lines : ℕ → ℕ → List ℕ) : T
   pub none : (n : ℕ) → lines 0 n ≡ []
   pub more : (left n : ℕ) → lines (suc left) n ≡ item n ++ lines left (suc n)
 
-pub atoms-each : (sch : Schema) (M : Model) (a : ℕ) → Each (lineIfAtom sch M a) (atomLines sch M a)
+pub atoms-each : (sch : Schema) (R : Rules) (a : ℕ) → Each (lineIfAtom sch R a) (atomLines sch R a)
 unfolding atomLines
-atoms-each sch M a = record { none = λ n. refl; more = λ left n. refl }
+atoms-each sch R a = record { none = λ n. refl; more = λ left n. refl }
 
 -- what is written and what is left are the whole
 unfoldable pub Split : List ℕ → List ℕ → List ℕ → Type 0

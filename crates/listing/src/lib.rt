@@ -13,7 +13,7 @@ ghost use Rattle.terms.specs.Sections.{sectionsOf};
 ghost use Rattle.terms.specs.Schema.{schema};
 ghost use Rattle.atoms.specs.Atoms.{atomSet};
 ghost use Rattle.jobs.specs.Planning.{schemaOf};
-ghost use Rattle.jobs.specs.Learn.{learnedFrom};
+ghost use Rattle.jobs.specs.Learn.{rulesFrom};
 ghost use Rattle.jobs.specs.Listing.{lineIfAtom, atomLines, moveLines, rulesLines, rulesPrinted};
 ghost use Rattle.listing.specs.Room.{lineRoom, lineSize, moveLinesSize, allLinesSize, listingRoom};
 ghost use Rattle.listing.specs.SheetOf.{SheetOf};
@@ -46,7 +46,7 @@ fn line_if_atom(
 ) -> usize
     requires { ⌜ SheetOf (now book) h (now sheet) × (1 ≤ m .0) × (m .0 ≤ h .moves .count) × (n < maxAtoms) × (at + lineRoom ≤ length (now out)) × (now atoms ≡ atomSet (schema h (now book)) (m .0)) ⌝ }
     ensures { λ r. ⌜ (r ≤ at + lineSize) × Counts r (now (out .exit)) ⌝ }
-    ensures { λ r. ⌜ take r (now (out .exit)) ≡ take at (now (out .entry)) ++ lineIfAtom (schemaOf (now (book .entry))) (learnedFrom full (now (book .entry))) (m .0) n ⌝ }
+    ensures { λ r. ⌜ take r (now (out .exit)) ≡ take at (now (out .entry)) ++ lineIfAtom (schemaOf (now (book .entry))) (rulesFrom full (now (book .entry))) (m .0) n ⌝ }
 {
     if mask::test_bit(atoms, n) {
         return lines::atom_line(book, h, sheet, m, n, out, at);
@@ -57,7 +57,7 @@ fn line_if_atom(
 fn atom_lines(book: &[u8], h: Sections, sheet: &[u8], m: Move, out: &mut [u8], from: usize) -> usize
     requires { ⌜ SheetOf (now book) h (now sheet) × (1 ≤ m .0) × (m .0 ≤ h .moves .count) × (from + moveLinesSize + lineRoom ≤ length (now out)) ⌝ }
     ensures { λ r. ⌜ (r ≤ from + moveLinesSize) × Counts r (now (out .exit)) ⌝ }
-    ensures { λ r. ⌜ take r (now (out .exit)) ≡ take from (now (out .entry)) ++ atomLines (schemaOf (now (book .entry))) (learnedFrom full (now (book .entry))) (m .0) (atomsPerRelation * h .relations .count) 0 ⌝ }
+    ensures { λ r. ⌜ take r (now (out .exit)) ≡ take from (now (out .entry)) ++ atomLines (schemaOf (now (book .entry))) (rulesFrom full (now (book .entry))) (m .0) (atomsPerRelation * h .relations .count) 0 ⌝ }
 {
     let end = limits::ATOMS_PER_RELATION * h.relations.count as usize;
     let atoms = atoms::atom_set(book, h, m);
@@ -71,7 +71,7 @@ fn atom_lines(book: &[u8], h: Sections, sheet: &[u8], m: Move, out: &mut [u8], f
 fn move_lines(book: &[u8], h: Sections, sheet: &[u8], out: &mut [u8], from: usize) -> usize
     requires { ⌜ SheetOf (now book) h (now sheet) × (from + allLinesSize + lineRoom ≤ length (now out)) ⌝ }
     ensures { λ r. ⌜ Counts r (now (out .exit)) ⌝ }
-    ensures { λ r. ⌜ take r (now (out .exit)) ≡ take from (now (out .entry)) ++ moveLines (schemaOf (now (book .entry))) (learnedFrom full (now (book .entry))) (h .moves .count) 1 ⌝ }
+    ensures { λ r. ⌜ take r (now (out .exit)) ≡ take from (now (out .entry)) ++ moveLines (schemaOf (now (book .entry))) (rulesFrom full (now (book .entry))) (h .moves .count) 1 ⌝ }
 {
     let moves = h.moves.count as usize;
     let mut at = from;

@@ -11,7 +11,7 @@ use Rattle.model.specs.Quantify.{same, below, any, later, first}
 use Rattle.model.specs.Domain.{Domain, State, GroundAction, Transition, GoalLiteral}
 use Rattle.model.specs.Model.{image, inapplicable, next, run}
 use Rattle.model.specs.Judge.{Verdict, impossible, stops, misses, passes, wrong}
-use Rattle.model.specs.Learned.{saw, before, after, turned, learned, unboundEffect, conflicting}
+use Rattle.model.specs.Learned.{saw, before, after, turned, learnedRules, modelOf, learned, unboundEffect, conflicting}
 use Rattle.model.specs.Check.{reached, judgedRun, checkedBy, inconsistent, checked}
 
 abbrev typedObjects : Domain
@@ -63,5 +63,5 @@ small-hall-right :
     × (learned typedObjects (seen (0 ∷ 3 ∷ 4 ∷ []) (1 ∷ 3 ∷ []) ∷ []) .effect true 1 2 ≡ false)
     × (learned typedObjects (recordedSteps ∷ seen (0 ∷ 3 ∷ 4 ∷ []) (1 ∷ 3 ∷ []) ∷ []) .effect true 1 2 ≡ true)
     × (learned typedObjects (seen (0 ∷ 3 ∷ 4 ∷ []) (1 ∷ 3 ∷ []) ∷ recordedSteps ∷ []) .effect true 1 2 ≡ true)
-unfolding tried same below any later first image inapplicable next run wrong saw before after turned learned unboundEffect conflicting reached judgedRun checkedBy inconsistent checked
+unfolding tried same below any later first image inapplicable next run wrong saw before after turned learnedRules modelOf learned unboundEffect conflicting reached judgedRun checkedBy inconsistent checked
 small-hall-right = (refl, refl, refl, refl, refl, refl, refl, refl, refl, refl, refl, refl)

@@ -1,16 +1,16 @@
 -- The sequence of the transitions does not matter, nor how often one is there.
 use Prim.Native.Nat.{ℕ, suc}
-use mathlib.Core.Path.{_≡_}
+use mathlib.Core.Path.{_≡_, ap}
 use mathlib.Core.Logic.{_↔_}
 use mathlib.Core.List.{List}
 use Rattle.model.specs.Quantify.{any}
 use Rattle.model.specs.Domain.{Domain, Transition}
 use Rattle.model.specs.Model.{Model, Consistent}
-use Rattle.model.specs.Learned.{learned, unboundEffect, conflicting}
+use Rattle.model.specs.Learned.{learnedRules, modelOf, learned, unboundEffect, conflicting}
 use Rattle.model.specs.Check.{inconsistent, checked}
 use Rattle.model.specs.Alike.{SameRow, SameMembers}
 use Rattle.model.proofs.Quantify.{any-alike, below-same}
-use Rattle.model.proofs.Row.{row-of-members, precondition-same, effect-same, conflicting-same}
+use Rattle.model.proofs.Row.{rules-equal, row-of-members, rules-same, conflicting-same}
 
 module _ (D : Domain) (ts us : List Transition) (same : SameMembers ts us) where
   row : (a : ℕ) → SameRow D a ts us
@@ -21,14 +21,13 @@ module _ (D : Domain) (ts us : List Transition) (same : SameMembers ts us) where
   consistent-alike M =
       (λ c. record { valid = c .valid; fits = λ t m. c .fits t (same t .1 m) }, λ c. record { valid = c .valid; fits = λ t m. c .fits t (same t .0 m) })
 
-  -- teach the same model,
-  pub learned-alike : learned D ts ≡ learned D us
-  learned-alike =
-      λ i.
-      record {
-        precondition = λ b a n. precondition-same D a ts us (row a) b n i;
-        effect = λ b a n. effect-same D a ts us (row a) b n i;
-      }
+  -- teach the same rules, so the same model,
+  pub rules-alike : learnedRules D ts ≡ learnedRules D us
+  rules-alike = rules-equal _ _ (λ a n. rules-same D a ts us (row a) n)
+
+  learned-alike : learned D ts ≡ learned D us
+  unfolding learned
+  learned-alike = ap modelOf rules-alike
 
   -- meet row 12 for the same actions,
   pub conflicting-alike : (a : ℕ) → conflicting D ts a ≡ conflicting D us a

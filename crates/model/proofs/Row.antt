@@ -7,8 +7,8 @@ use mathlib.Core.List.{List, _++_}
 use Rattle.truth.specs.Bools.{bool-eq, guarded}
 use Rattle.model.specs.Quantify.{Mem, here, there}
 use Rattle.model.specs.Domain.{Domain, Transition}
-use Rattle.model.specs.Learned.{saw, before, after, turned, learned, conflicting}
-use Rattle.model.specs.Alike.{Alike, EachAlike, SameRow, Renumbered, none, more}
+use Rattle.model.specs.Learned.{Rules, saw, before, after, turned, learnedRules, conflicting}
+use Rattle.model.specs.Alike.{Alike, EachAlike, SameRow, SameRules, Renumbered, none, more}
 use Rattle.model.proofs.Quantify.{any-append, below-same}
 use Rattle.model.proofs.Seen.{Sight, saw-in, saw-out}
 
@@ -16,6 +16,17 @@ use Rattle.model.proofs.Seen.{Sight, saw-in, saw-out}
 pub saw-append : (ts us : List Transition) (test : Bool → Bool → Bool) (a n : ℕ) → saw (ts ++ us) test a n ≡ (saw ts test a n || saw us test a n)
 unfolding saw
 saw-append ts us test a n = any-append _ ts us
+
+-- rules that are the same at each atom are the same
+pub rules-equal : (R S : Rules) → ((a n : ℕ) → SameRules R S a n) → R ≡ S
+rules-equal R S same =
+    λ i.
+    record {
+      needed = λ a n. same a n .needed i;
+      neededNot = λ a n. same a n .neededNot i;
+      added = λ a n. same a n .added i;
+      removed = λ a n. same a n .removed i;
+    }
 
 module _ (D : Domain) where
   pub alike-refl : (t : Transition) → Alike D t t
@@ -77,15 +88,16 @@ module _ (D : Domain) where
       unfolding turned
       turned-same b n atom = saw-same _ n atom
 
-      -- Two lists that show the same of an action teach the same preconditions of it,
-      pub precondition-same : (b : Bool) (n : ℕ) → learned D ts .precondition b a n ≡ learned D us .precondition b a n
-      unfolding learned
-      precondition-same b n = guarded (D .atom a n) _ _ (λ atom. ap not (before-same (not b) n atom))
-
-      -- the same effects,
-      pub effect-same : (b : Bool) (n : ℕ) → learned D ts .effect b a n ≡ learned D us .effect b a n
-      unfolding learned
-      effect-same b n = guarded (D .atom a n) _ _ (turned-same b n)
+      -- Two lists that show the same of an action teach the same rules of it,
+      pub rules-same : (n : ℕ) → SameRules (learnedRules D ts) (learnedRules D us) a n
+      unfolding learnedRules
+      rules-same n =
+          record {
+            needed = guarded (D .atom a n) _ _ (λ atom. ap not (before-same false n atom));
+            neededNot = guarded (D .atom a n) _ _ (λ atom. ap not (before-same true n atom));
+            added = guarded (D .atom a n) _ _ (turned-same true n);
+            removed = guarded (D .atom a n) _ _ (turned-same false n);
+          }
 
       -- and have a conflict together.
       pub conflicting-same : conflicting D ts a ≡ conflicting D us a

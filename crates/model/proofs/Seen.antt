@@ -8,7 +8,7 @@ use borrow.Author.Tests.{eqb-true, eq-eqb, not-true}
 use Rattle.truth.specs.Bools.{and-in, and-out, not-in}
 use Rattle.model.specs.Quantify.{same, Mem}
 use Rattle.model.specs.Domain.{Domain, Transition}
-use Rattle.model.specs.Learned.{saw, before, after, turned, learned}
+use Rattle.model.specs.Learned.{saw, before, after, turned, learnedRules, modelOf, learned}
 use Rattle.model.proofs.Truth.{same-in, same-out}
 use Rattle.model.proofs.Quantify.{any-in, any-out}
 
@@ -63,19 +63,23 @@ module _ (ts : List Transition) (a n : ℕ) where
       let (l, r) = and-out (same (not b) x) (same b y) h in
       rw (← same-out (not b) x l, ← same-out b y r) at s
 
-module _ (D : Domain) (ts : List Transition) (b : Bool) (a n : ℕ) where
-  pub need-in : D .atom a n ≡ true → before ts (not b) a n ≡ false → learned D ts .precondition b a n ≡ true
-  unfolding learned
-  need-in atom e = and-in _ _ atom (not-in _ e)
+module _ (D : Domain) (ts : List Transition) where
+  pub need-in : (b : Bool) (a n : ℕ) → D .atom a n ≡ true → before ts (not b) a n ≡ false → learned D ts .precondition b a n ≡ true
+  unfolding learned modelOf learnedRules
+  need-in true a n atom e = and-in _ _ atom (not-in _ e)
+  need-in false a n atom e = and-in _ _ atom (not-in _ e)
 
-  pub need-out : learned D ts .precondition b a n ≡ true → (D .atom a n ≡ true) × (before ts (not b) a n ≡ false)
-  unfolding learned
-  need-out e = let (l, r) = and-out (D .atom a n) (not (before ts (not b) a n)) e in (l, not-true _ r)
+  pub need-out : (b : Bool) (a n : ℕ) → learned D ts .precondition b a n ≡ true → (D .atom a n ≡ true) × (before ts (not b) a n ≡ false)
+  unfolding learned modelOf learnedRules
+  need-out true a n e = let (l, r) = and-out (D .atom a n) (not (before ts false a n)) e in (l, not-true _ r)
+  need-out false a n e = let (l, r) = and-out (D .atom a n) (not (before ts true a n)) e in (l, not-true _ r)
 
-  pub effect-in : D .atom a n ≡ true → turned ts b a n ≡ true → learned D ts .effect b a n ≡ true
-  unfolding learned
-  effect-in atom e = and-in _ _ atom e
+  pub effect-in : (b : Bool) (a n : ℕ) → D .atom a n ≡ true → turned ts b a n ≡ true → learned D ts .effect b a n ≡ true
+  unfolding learned modelOf learnedRules
+  effect-in true a n atom e = and-in _ _ atom e
+  effect-in false a n atom e = and-in _ _ atom e
 
-  pub effect-out : learned D ts .effect b a n ≡ true → (D .atom a n ≡ true) × (turned ts b a n ≡ true)
-  unfolding learned
-  effect-out e = and-out (D .atom a n) (turned ts b a n) e
+  pub effect-out : (b : Bool) (a n : ℕ) → learned D ts .effect b a n ≡ true → (D .atom a n ≡ true) × (turned ts b a n ≡ true)
+  unfolding learned modelOf learnedRules
+  effect-out true a n e = and-out (D .atom a n) (turned ts true a n) e
+  effect-out false a n e = and-out (D .atom a n) (turned ts false a n) e

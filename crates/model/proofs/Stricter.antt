@@ -7,7 +7,7 @@ use borrow.Author.Tests.{not-false}
 use Rattle.truth.specs.Bools.{clash, neither, not-self, is-false, is-true, or-right}
 use Rattle.model.specs.Domain.{Domain, Transition}
 use Rattle.model.specs.Model.{Model, Valid, Consistent}
-use Rattle.model.specs.Learned.{before, after, turned, learned}
+use Rattle.model.specs.Learned.{before, after, turned, learnedRules, modelOf, learned}
 use Rattle.model.specs.Formed.{Formed}
 use Rattle.model.specs.Stricter.{value, Stricter}
 use Rattle.model.proofs.Next.{next-at, inapplicable-in}
@@ -36,7 +36,7 @@ not-turned ts a n unconflicted x false s = is-false _ (λ e. unconflicted true e
 
 -- Where an atom is in no conflict, the learned model makes of a value what was seen of it.
 pub learned-makes : (D : Domain) (ts : List Transition) (a n : ℕ) → D .atom a n ≡ true → Unconflicted ts a n → (x y : Bool) → Sight ts a n x y → value (learned D ts) a n x ≡ y
-unfolding value learned
+unfolding value learned modelOf learnedRules
 learned-makes D ts a n atom unconflicted true true s = rw (atom, not-turned ts a n unconflicted true true s) (or-right (turned ts true a n) true refl)
 learned-makes D ts a n atom unconflicted true false s = rw (atom, not-turned ts a n unconflicted true false s, turned-in ts a n false s)
 learned-makes D ts a n atom unconflicted false true s = rw (atom, turned-in ts a n true s)

@@ -7,6 +7,7 @@ use mathlib.Core.Bool.{true}
 use mathlib.Core.List.{List, [], _∷_}
 use Rattle.model.specs.Quantify.{Mem}
 use Rattle.model.specs.Domain.{Domain, Transition}
+use Rattle.model.specs.Learned.{Rules}
 
 -- the same action, and at each of its atoms, each under its own binding, the same values before and after
 pub record Alike (D : Domain) (t u : Transition) : Type 0 where
@@ -21,6 +22,13 @@ EachAlike D a ts us = (t : Transition) → Mem t ts → t .step .action ≡ a �
 pub record SameRow (D : Domain) (a : ℕ) (ts us : List Transition) : Type 0 where
   pub forth : EachAlike D a ts us
   pub back : EachAlike D a us ts
+
+-- the same rules at an atom of an action
+pub record SameRules (R S : Rules) (a n : ℕ) : Type 0 where
+  pub needed : R .needed a n ≡ S .needed a n
+  pub neededNot : R .neededNot a n ≡ S .neededNot a n
+  pub added : R .added a n ≡ S .added a n
+  pub removed : R .removed a n ≡ S .removed a n
 
 -- the same transitions, in whatever sequence and number
 abbrev pub SameMembers : List Transition → List Transition → Type 0

@@ -21,10 +21,35 @@ after ts b = saw ts (λ x y. same b y)
 unfoldable pub turned : List Transition → Bool → ℕ → ℕ → Bool
 turned ts b = saw ts (λ x y. same (not b) x && same b y)
 
--- Needed to be b where it never was otherwise before the action; an effect where it was seen to turn.
+-- The rules: the four sets of lifted atoms of each action that the rule sheet has. Needed to hold, needed not to hold, added, removed.
+pub record Rules : Type 0 where
+  pub needed : ℕ → ℕ → Bool
+  pub neededNot : ℕ → ℕ → Bool
+  pub added : ℕ → ℕ → Bool
+  pub removed : ℕ → ℕ → Bool
+
+-- Needed to have the value that it never was without before the action; added or removed where it was seen to turn.
 -- An action never seen so needs each of its atoms both ways, and has no effect.
+unfoldable pub learnedRules : Domain → List Transition → Rules
+learnedRules D ts =
+    record {
+      needed = λ a n. D .atom a n && not (before ts false a n);
+      neededNot = λ a n. D .atom a n && not (before ts true a n);
+      added = λ a n. D .atom a n && turned ts true a n;
+      removed = λ a n. D .atom a n && turned ts false a n;
+    }
+
+-- one set for the value true, another for false
+abbrev pub byValue : (ℕ → ℕ → Bool) → (ℕ → ℕ → Bool) → Bool → ℕ → ℕ → Bool
+byValue p q true a n = p a n
+byValue p q false a n = q a n
+
+-- the model that the rules are
+unfoldable pub modelOf : Rules → Model
+modelOf R = record { precondition = byValue (R .needed) (R .neededNot); effect = byValue (R .added) (R .removed) }
+
 unfoldable pub learned : Domain → List Transition → Model
-learned D ts = record { precondition = λ b a n. D .atom a n && not (before ts (not b) a n); effect = λ b a n. D .atom a n && turned ts b a n }
+learned D ts = modelOf (learnedRules D ts)
 
 -- row 11: a fact changed that is no atom of the step
 unfoldable pub unboundEffect : Domain → Transition → Bool

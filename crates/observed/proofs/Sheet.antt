@@ -1,4 +1,4 @@
--- The sheet from what is observed is the learned model's.
+-- The sheet from what is observed is that of the learned rules.
 use Prim.Native.Nat.{ℕ, zero, suc, _+_, _≤_, _<_}
 use native.Mathlib.Omega.{arith}
 use mathlib.Core.Path.{_≡_, refl, ap₂, _∙_}
@@ -10,7 +10,7 @@ use Rattle.mask.proofs.Whole.{length-maskOf, bytes-maskOf, test-maskOf, is-mask
 use Rattle.terms.specs.Schema.{Schema}
 use Rattle.terms.specs.Steps.{isAtom}
 use Rattle.model.specs.Domain.{Transition}
-use Rattle.model.specs.Learned.{learned}
+use Rattle.model.specs.Learned.{learnedRules}
 use Rattle.jobs.specs.Planning.{domain}
 use Rattle.jobs.specs.Learn.{ruleRow, ruleRows}
 use Rattle.atoms.specs.Atoms.{atomSet}
@@ -41,8 +41,8 @@ module _ (sch : Schema) (ts : List Transition) (l : List ℕ) (seen : Seen sch t
       without-within false x = refl
 
   -- The four sets of a move are its learned ones.
-  pub rules-row : rulesObserved l a ≡ ruleRow (learned (domain sch) ts) a
-  unfolding rulesObserved ruleSet ruleRow learned domain inSet
+  pub rules-row : rulesObserved l a ≡ ruleRow (learnedRules (domain sch) ts) a
+  unfolding rulesObserved ruleSet ruleRow learnedRules domain inSet
   rules-row =
       rw (
         seen-in alwaysBefore (omega arith),
@@ -53,7 +53,7 @@ module _ (sch : Schema) (ts : List Transition) (l : List ℕ) (seen : Seen sch t
 
 -- And so is the whole sheet.
 pub sheet-rows : (sch : Schema) (ts : List Transition) (l : List ℕ) → Seen sch ts l → (n a : ℕ) → 1 ≤ a → a + n ≤ 33
-    → sheetObserved l n a ≡ ruleRows (learned (domain sch) ts) n a
+    → sheetObserved l n a ≡ ruleRows (learnedRules (domain sch) ts) n a
 unfolding sheetObserved ruleRows
 sheet-rows sch ts l seen zero a h h′ = refl
 sheet-rows sch ts l seen (suc n) a h h′ =

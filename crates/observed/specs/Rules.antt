@@ -1,6 +1,6 @@
 -- Sheet, row 11 and row 12 from what is observed. Uses jobs for the answer of row 12.
 use Prim.Native.Nat.{ℕ, zero, suc}
-use mathlib.Core.Bool.{Bool, true, false, not}
+use mathlib.Core.Bool.{Bool, not}
 use mathlib.Core.List.{List, [], _++_}
 use lib.Dec.{eqb}
 use Rattle.answer.specs.declared.Answer.{Answer}
@@ -8,7 +8,7 @@ use Rattle.answer.specs.declared.Answer.the-variants.{Good, Refused}
 use Rattle.mask.specs.Sets.{intersection, union, difference}
 use Rattle.model.specs.Quantify.{any, least}
 use Rattle.jobs.specs.Learn.{conflictAnswer}
-use Rattle.jobs.specs.SheetBits.{needSet, effectSet}
+use Rattle.jobs.specs.SheetBits.{neededSet, neededNotSet, addedSet, removedSet}
 use Rattle.observed.specs.Observed.{alwaysBefore, everBefore, alwaysAfter, everAfter, added, deleted, bound, observedSet}
 
 -- one of the four sets of a move's rules, in their order (jobs/specs/SheetBits.antt)
@@ -20,7 +20,7 @@ ruleSet l a (suc (suc (suc k))) = observedSet l a deleted
 
 unfoldable pub rulesObserved : List ℕ → ℕ → List ℕ
 rulesObserved l a =
-    ruleSet l a (needSet true) ++ ruleSet l a (needSet false) ++ ruleSet l a (effectSet true) ++ ruleSet l a (effectSet false)
+    ruleSet l a neededSet ++ ruleSet l a neededNotSet ++ ruleSet l a addedSet ++ ruleSet l a removedSet
 
 unfoldable pub sheetObserved : List ℕ → ℕ → ℕ → List ℕ
 sheetObserved l zero a = []

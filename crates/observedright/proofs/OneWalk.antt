@@ -32,7 +32,7 @@ use Rattle.format.proofs.Parts.{parts-joined}
 use Rattle.model.specs.Quantify.{Mem, here, there}
 use Rattle.model.proofs.Members.{mem-left}
 use Rattle.jobs.specs.Planning.{schemaOf, stepsOfBook, transitionsOf}
-use Rattle.jobs.specs.Learn.{conflictingMove, inconsistency, learnedFrom, ruleSheet}
+use Rattle.jobs.specs.Learn.{conflictingMove, inconsistency, ruleSheet, rulesFrom}
 use Rattle.observed.specs.Observed.{Observed, observe, observeBy, firstNamed, observeAll, observedAfter, nothingSeen, heldAfter, observedOf}
 use Rattle.observed.specs.Rules.{conflictAmong}
 use Rattle.observed.specs.Seen.{Seen}
@@ -165,7 +165,7 @@ module _ (form : Form) (s : List ℕ) (n : ℕ) (good : lookOver form s ≡ Good
       ap₂ (λ (a b : Answer). a >>= λ _. b) (sym (taught .row11)) (sym row12)
 
   sheet : ruleSheet form s ≡ heldSheet (sectionsPart s) (observedOf form s)
-  unfolding ruleSheet heldSheet learnedFrom transitionsOf
+  unfolding ruleSheet heldSheet rulesFrom transitionsOf
   sheet = rw (moves-alone s _ (sections-passed .1)) (sym (observed-taught .sheet))
 
 -- The records are walked once, what is held is small, and sheet, row 11 and row 12 come of the sections and what is held at the end.

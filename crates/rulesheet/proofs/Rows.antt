@@ -2,14 +2,13 @@
 use Prim.Native.Nat.{ℕ, zero, suc, _+_, _-_, _*_, _≤_}
 use native.Mathlib.Omega.{arith}
 use mathlib.Core.Path.{_≡_, refl, sym, _∙_, ap, ap₂}
-use mathlib.Core.Bool.{true, false}
 use mathlib.Core.List.{List, [], _∷_, _++_, append-assoc, append-nil}
 use lib.ListN.{length, length-append}
 use borrow.Rule.Slice.PartMut.{midOf, putMid}
 use Rattle.mask.specs.Sets.{difference}
 use Rattle.mask.proofs.Laws.{length-difference}
 use Rattle.limits.specs.Limits.{observedSize}
-use Rattle.jobs.specs.SheetBits.{needSet, effectSet}
+use Rattle.jobs.specs.SheetBits.{neededSet, neededNotSet, addedSet, removedSet}
 use Rattle.observed.specs.Observed.{alwaysBefore, everBefore, added, deleted, bound, observedSet}
 use Rattle.observed.proofs.Noted.{length-observedSet}
 use Rattle.observed.specs.Rules.{ruleSet, rulesObserved, sheetObserved}
@@ -60,10 +59,10 @@ module _ (l : List ℕ) where
     length-rules a h h′ =
         simp (
           length-append,
-          length-ruleSet a (needSet true) h h′,
-          length-ruleSet a (needSet false) h h′,
-          length-ruleSet a (effectSet true) h h′,
-          length-ruleSet a (effectSet false) h h′,
+          length-ruleSet a neededSet h h′,
+          length-ruleSet a neededNotSet h h′,
+          length-ruleSet a addedSet h h′,
+          length-ruleSet a removedSet h h′,
         )
 
     pub length-sheet : (n a : ℕ) → 1 ≤ a → a + n ≤ 33 → length (sheetObserved l n a) ≡ 128 * n

@@ -13,7 +13,7 @@ use Rattle.mask.specs.Sets.{maskOf}
 use Rattle.model.specs.Quantify.{Mem}
 use Rattle.model.specs.Domain.{Domain, State, GroundAction}
 use Rattle.model.specs.Model.{Model, Valid, Run, stopped, ended}
-use Rattle.jobs.specs.SheetBits.{needSet, effectSet}
+use Rattle.jobs.specs.SheetBits.{neededSet, neededNotSet, addedSet, removedSet}
 use Rattle.jobs.specs.Planning.{groundAction}
 use Rattle.jobs.specs.Check.{goalAnswer}
 use Rattle.observed.specs.Rules.{ruleSet}
@@ -25,10 +25,10 @@ Under st = (f : ℕ) → maxFactNumbers ≤ f → st f ≡ false
 
 -- the four sets are the model's for the action
 pub record Ruled (M : Model) (a : ℕ) (R : ℕ → List ℕ) : Type 0 where
-  pub positive : R (needSet true) ≡ maskOf setSize (M .precondition true a)
-  pub negative : R (needSet false) ≡ maskOf setSize (M .precondition false a)
-  pub added : R (effectSet true) ≡ maskOf setSize (M .effect true a)
-  pub removed : R (effectSet false) ≡ maskOf setSize (M .effect false a)
+  pub positive : R neededSet ≡ maskOf setSize (M .precondition true a)
+  pub negative : R neededNotSet ≡ maskOf setSize (M .precondition false a)
+  pub added : R addedSet ≡ maskOf setSize (M .effect true a)
+  pub removed : R removedSet ≡ maskOf setSize (M .effect false a)
 
 -- the atoms of the step's action are counted by the domain, and become facts that the mask has a bit for
 pub record InMask (D : Domain) (s : GroundAction) : Type 0 where

@@ -4,7 +4,7 @@ use Prim.Native.Nat.{ℕ, zero, suc}
 use mathlib.Core.Bool.{Bool, true, false, cond, _&&_, _||_, not}
 use mathlib.Core.List.{List, [], _∷_}
 use Rattle.limits.specs.Limits.{stateSize, maxAtoms}
-use Rattle.jobs.specs.SheetBits.{needSet, effectSet}
+use Rattle.jobs.specs.SheetBits.{neededSet, neededNotSet, addedSet, removedSet}
 use Rattle.mask.specs.Bits.{testBit, setBit, putBit}
 use Rattle.mask.specs.Sets.{empty}
 use Rattle.terms.specs.declared.Fact.{Fact}
@@ -26,7 +26,7 @@ startMask fs = withFacts fs (empty stateSize)
 
 -- a need of bound fact n is unmet
 unfoldable pub unmet : (ℕ → List ℕ) → (ℕ → ℕ) → List ℕ → ℕ → Bool
-unmet R g m n = testBit (R (needSet true)) n && not (testBit m (g n)) || testBit (R (needSet false)) n && testBit m (g n)
+unmet R g m n = testBit (R neededSet) n && not (testBit m (g n)) || testBit (R neededNotSet) n && testBit m (g n)
 
 unfoldable pub inapplicableIn : (ℕ → List ℕ) → (ℕ → ℕ) → List ℕ → Bool
 inapplicableIn R g m = below maxAtoms (unmet R g m)
@@ -38,7 +38,7 @@ effects value set g m (suc n) = cond (testBit set n) (putBit value (effects valu
 
 -- A fact that is both removed and added holds after the step: the removed ones go first.
 unfoldable pub nextIn : (ℕ → List ℕ) → (ℕ → ℕ) → List ℕ → List ℕ
-nextIn R g m = effects true (R (effectSet true)) g (effects false (R (effectSet false)) g m maxAtoms) maxAtoms
+nextIn R g m = effects true (R addedSet) g (effects false (R removedSet) g m maxAtoms) maxAtoms
 
 -- one step by what is observed: whether it is inapplicable, and the mask after it
 unfoldable pub stepInapplicable : Schema → List ℕ → Step → List ℕ → Bool

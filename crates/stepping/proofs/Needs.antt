@@ -15,7 +15,7 @@ use Rattle.model.proofs.Quantify.{below-in, below-out, below-cong}
 use Rattle.terms.specs.declared.Step.{Step}
 use Rattle.terms.specs.Schema.{Schema}
 use Rattle.terms.specs.Steps.{ground}
-use Rattle.jobs.specs.SheetBits.{needSet}
+use Rattle.jobs.specs.SheetBits.{neededSet, neededNotSet}
 use Rattle.atoms.proofs.Words.{number-same}
 use Rattle.observed.specs.Observed.{alwaysBefore, everBefore, bound, observedSet}
 use Rattle.observed.specs.Rules.{ruleSet}
@@ -30,24 +30,27 @@ module _ (sch : Schema) (l : List ℕ) (st : Step) (m : List ℕ) (n : ℕ) (pos
     (is-positive : positive ≡ number (testBit (observedSet l (st .action .0) alwaysBefore)) n 16)
     (is-all : all ≡ number (testBit (observedSet l (st .action .0) bound)) n 16)
     (is-ever : ever ≡ number (testBit (observedSet l (st .action .0) everBefore)) n 16) where
-  needed : Bool → ℕ → Bool
-  needed value = testBit (ruleSet l (st .action .0) (needSet value))
+  needed : ℕ → Bool
+  needed = testBit (ruleSet l (st .action .0) neededSet)
 
-  is-negative : bitAnd all (65535 - ever) ≡ number (needed false) n 16
-  unfolding needed ruleSet
+  neededNot : ℕ → Bool
+  neededNot = testBit (ruleSet l (st .action .0) neededNotSet)
+
+  is-negative : bitAnd all (65535 - ever) ≡ number neededNot n 16
+  unfolding neededNot ruleSet
   is-negative =
       rw (is-all, is-ever, number-not (testBit (observedSet l (st .action .0) everBefore)) n 16)
-      (number-and _ _ n 16 ∙ number-same (needed false) _ n n 16 (λ j h. sym (test-difference _ _ (n + j))))
+      (number-and _ _ n 16 ∙ number-same neededNot _ n n 16 (λ j h. sym (test-difference _ _ (n + j))))
 
   -- the words say what is needed of a relation's bound facts
   pub needs-by : (g : ℕ → ℕ) → ((j : ℕ) → j < 16 → g j ≡ ground sch (st .binding) (n + j))
       → wordUnmet m g positive (bitAnd all (65535 - ever)) ≡ relationUnmet sch l st m n
-  unfolding wordUnmet relationUnmet unmet needed ruleSet
+  unfolding wordUnmet relationUnmet unmet needed neededNot ruleSet
   needs-by g is =
       below-cong 16 _ _
       (λ j h.
-      let p : bitOf positive j ≡ needed true (n + j) = ap (λ (w : ℕ). bitOf w j) is-positive ∙ bit-number _ n 16 j h in
-      let q : bitOf (bitAnd all (65535 - ever)) j ≡ needed false (n + j) = ap (λ (w : ℕ). bitOf w j) is-negative ∙ bit-number _ n 16 j h in
+      let p : bitOf positive j ≡ needed (n + j) = ap (λ (w : ℕ). bitOf w j) is-positive ∙ bit-number _ n 16 j h in
+      let q : bitOf (bitAnd all (65535 - ever)) j ≡ neededNot (n + j) = ap (λ (w : ℕ). bitOf w j) is-negative ∙ bit-number _ n 16 j h in
       rw (p, q, is j h))
 
   -- where no bound fact of the relation is needed, none is unmet, whatever holds

@@ -1,5 +1,5 @@
 -- Two books with the same transitions, in planning's terms: one domain, and trimmed to atoms the same transitions in whatever sequence and, of any
--- order, the same plan. So the same model is learned, row 11 is met by both or by neither and row 12 by the same moves, and plans come to the same.
+-- order, the same plan. So the same rules are learned, row 11 is met by both or by neither and row 12 by the same moves, and plans come to the same.
 use Prim.Native.Nat.{ℕ}
 use mathlib.Core.Path.{_≡_, refl, sym, ap, ap₂, _∙_, subst}
 use mathlib.Core.Bool.{Bool, true, false, cond}
@@ -15,17 +15,17 @@ use Rattle.format.specs.Order.{plan}
 use Rattle.model.specs.Quantify.{Mem, any}
 use Rattle.model.specs.Domain.{Domain, State, GroundAction, Transition}
 use Rattle.model.specs.Model.{Model, Consistent, run}
-use Rattle.model.specs.Learned.{learned, unboundEffect, conflicting}
+use Rattle.model.specs.Learned.{learnedRules, modelOf, learned, unboundEffect, conflicting}
 use Rattle.model.specs.Alike.{SameMembers}
-use Rattle.model.proofs.Order.{consistent-alike, learned-alike, conflicting-alike, unbound-alike}
+use Rattle.model.proofs.Order.{consistent-alike, rules-alike, conflicting-alike, unbound-alike}
 use Rattle.jobs.specs.Planning.{domain, groundAction, transition, schemaOf, stepsOfBook, transitionsOf, planOf}
-use Rattle.jobs.specs.Learn.{learnedFrom}
+use Rattle.jobs.specs.Learn.{rulesFrom, learnedFrom}
 use Rattle.converted.specs.Converted.{unplaced}
 use Rattle.demand.proofs.Agree.{domain-same}
 use Rattle.wellformed.proofs.Headers.{right-schema}
 use Rattle.wellformed.proofs.Lists.{map-alike}
 use Rattle.twins.specs.Twins.{SameTransitions}
-use Rattle.twins.proofs.Trimmed.{trimmed, trimmedTransition, OfAtoms, learned-trimmed, conflicting-trimmed, any-unbound-trimmed, run-trimmed, consistent-trimmed}
+use Rattle.twins.proofs.Trimmed.{trimmed, trimmedTransition, OfAtoms, rules-trimmed, conflicting-trimmed, any-unbound-trimmed, run-trimmed, consistent-trimmed}
 
 -- ---- schemas that say the same
 
@@ -82,13 +82,18 @@ module _ (f g : Form) (s t : List ℕ) (n : ℕ) (same : SameTransitions f g s t
         λ m. subst (λ (ts : List Transition). Mem y ts) (sym told) (alike .1 (subst (λ (ts : List Transition). Mem y ts) told′ m)),
       )
 
-  -- The same model is learned,
-  pub learned-same : learnedFrom f s ≡ learnedFrom g t
-  unfolding learnedFrom
-  learned-same =
+  -- The same rules are learned,
+  pub rules-same : rulesFrom f s ≡ rulesFrom g t
+  unfolding rulesFrom
+  rules-same =
       let D : Domain = domain (schemaOf s) in
-      learned-trimmed D (transitionsOf f s) ∙ learned-alike D _ _ members-same ∙ sym (learned-trimmed D (transitionsOf g t))
-      ∙ ap (λ (E : Domain). learned E (transitionsOf g t)) domains
+      rules-trimmed D (transitionsOf f s) ∙ rules-alike D _ _ members-same ∙ sym (rules-trimmed D (transitionsOf g t))
+      ∙ ap (λ (E : Domain). learnedRules E (transitionsOf g t)) domains
+
+  -- so the same model,
+  pub learned-same : learnedFrom f s ≡ learnedFrom g t
+  unfolding learnedFrom rulesFrom learned
+  learned-same = ap modelOf rules-same
 
   -- the same moves have a conflict,
   pub conflicts-same : conflicting (domain (schemaOf s)) (transitionsOf f s) ≡ conflicting (domain (schemaOf t)) (transitionsOf g t)

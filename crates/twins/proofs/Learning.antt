@@ -11,14 +11,13 @@ use Rattle.answer.specs.Table.{among, impossibleRows, isImpossible, bookOffsetR
 use Rattle.limits.specs.Limits.{ruleSize}
 use Rattle.format.specs.Form.{Form}
 use Rattle.model.specs.Quantify.{least}
-use Rattle.model.specs.Model.{Model}
-use Rattle.model.specs.Learned.{unboundEffect}
+use Rattle.model.specs.Learned.{Rules, unboundEffect}
 use Rattle.jobs.specs.Planning.{domain, transition, schemaOf, stepsOfBook, transitionsOf}
 use Rattle.jobs.specs.Learn.{unboundEffects, conflictAnswer, conflictingMove, inconsistency, learnable, ruleRows, ruleSheet, learn, learnBytes}
 use Rattle.wellformed.proofs.Lists.{any-map}
 use Rattle.twins.specs.Twins.{SameTransitions}
 use Rattle.twins.proofs.Answers.{Twin, equal, twin-bind, first-twin, twin-kept}
-use Rattle.twins.proofs.Books.{unbound-same, learned-same, conflicts-same}
+use Rattle.twins.proofs.Books.{unbound-same, conflicts-same, rules-same}
 
 module _ (f g : Form) (s t : List ℕ) (n : ℕ) (same : SameTransitions f g s t n) where
   -- ---- rows 11 and 12
@@ -60,7 +59,7 @@ module _ (f g : Form) (s t : List ℕ) (n : ℕ) (same : SameTransitions f g s t
   -- The sheet is the same,
   pub sheet-same : ruleSheet f s ≡ ruleSheet g t
   unfolding ruleSheet
-  sheet-same = ap₂ (λ (M : Model) (m : ℕ). ruleRows M m 1) (learned-same f g s t n same) (same .comparable .schema .moves)
+  sheet-same = ap₂ (λ (R : Rules) (m : ℕ). ruleRows R m 1) (rules-same f g s t n same) (same .comparable .schema .moves)
 
   -- and so is what the lent sheet holds afterwards.
   pub learn-bytes-same : (lent : List ℕ) → learnBytes f s lent ≡ learnBytes g t lent

@@ -6,14 +6,15 @@ use mathlib.Core.Logic.{_↔_}
 use mathlib.Core.Bool.{Bool, true, false, cond, _&&_, _||_, not}
 use mathlib.Core.List.{List, [], _∷_, map}
 use lib.Dec.{eqb}
-use Rattle.truth.specs.Bools.{clash, is-false, and-out, guarded}
+use Rattle.truth.specs.Bools.{clash, is-false, guarded}
 use Rattle.model.specs.Quantify.{same, any}
 use Rattle.model.specs.Domain.{Domain, State, GroundAction, Transition}
 use Rattle.model.specs.Model.{Model, Valid, Fits, Consistent, image, inapplicable, next, Run, stopped, run}
-use Rattle.model.specs.Learned.{learned, unboundEffect, conflicting}
+use Rattle.model.specs.Learned.{learnedRules, learned, unboundEffect, conflicting}
 use Rattle.model.specs.Alike.{Alike, SameRow, Renumbered, none, more}
 use Rattle.model.proofs.Quantify.{below-same}
-use Rattle.model.proofs.Row.{row-of-renumbered, precondition-same, effect-same, conflicting-same}
+use Rattle.model.proofs.Row.{rules-equal, row-of-renumbered, rules-same, conflicting-same}
+use Rattle.model.proofs.Seen.{need-out, effect-out}
 use Rattle.wellformed.proofs.Lists.{mem-map-out, mem-map-in}
 
 -- a ground action with no fact but those of its atoms
@@ -35,8 +36,7 @@ valid-of-atoms D M v = record { needs = v .needed-atom; effects = v .effect-atom
 
 -- and those of a learned one
 pub learned-of-atoms : (D : Domain) (ts : List Transition) → OfAtoms D (learned D ts)
-unfolding learned
-learned-of-atoms D ts = record { needs = λ b a n e. and-out (D .atom a n) _ e .0; effects = λ b a n e. and-out (D .atom a n) _ e .0 }
+learned-of-atoms D ts = record { needs = λ b a n e. need-out D ts b a n e .0; effects = λ b a n e. effect-out D ts b a n e .0 }
 
 module _ (D : Domain) where
   trimmed-ground : (s : GroundAction) (n : ℕ) → D .atom (s .action) n ≡ true → trimmed D s .ground n ≡ s .ground n
@@ -78,15 +78,9 @@ module _ (D : Domain) where
   row-trimmed : (ts : List Transition) (a : ℕ) → SameRow D a ts (map (trimmedTransition D) ts)
   row-trimmed ts a = row-of-renumbered D ts (map (trimmedTransition D) ts) (all-alike ts) a
 
-  -- The same model is learned,
-  pub learned-trimmed : (ts : List Transition) → learned D ts ≡ learned D (map (trimmedTransition D) ts)
-  learned-trimmed ts =
-      let us : List Transition = map (trimmedTransition D) ts in
-      λ i.
-      record {
-        precondition = λ b a n. precondition-same D a ts us (row-trimmed ts a) b n i;
-        effect = λ b a n. effect-same D a ts us (row-trimmed ts a) b n i;
-      }
+  -- The same rules are learned,
+  pub rules-trimmed : (ts : List Transition) → learnedRules D ts ≡ learnedRules D (map (trimmedTransition D) ts)
+  rules-trimmed ts = rules-equal _ _ (λ a n. rules-same D a ts (map (trimmedTransition D) ts) (row-trimmed ts a) n)
 
   -- and the same actions have a conflict.
   pub conflicting-trimmed : (ts : List Transition) → conflicting D ts ≡ conflicting D (map (trimmedTransition D) ts)

@@ -4,7 +4,7 @@ use lib.ListN.{take}
 use denote.Ref.{now}
 use Rattle.lines.proofs.Atom.{line-whole}
 use Rattle.terms.specs.Schema.{schema}
-use Rattle.jobs.specs.SheetBits.{modelOn}
+use Rattle.jobs.specs.SheetBits.{rulesOn}
 use borrow.Author.Needs.{needs}
 use Rattle.lines.proofs.atom_line.Statement.{statement}
 use Rattle.lines.proofs.atom_line.Tie as tie
@@ -18,7 +18,7 @@ returns c =
     let start = need .before .before .before .before in (
       (omega (arith, end .put .ensures .0 .0, front .atom-front .ensures .0), end .put .ensures .0 .1),
       rw (end .put .ensures .1, front .atom-front .ensures .1)
-          (line-whole (schema (start .args .h) (now (start .args .book))) (modelOn (now (start .args .sheet))) (take (start .args .at) (now (start .args .out))) (start .args .m .0) (start .args .n) _ _ (need .need-letter .ensures) (effect .effect-letter .ensures)),
+          (line-whole (schema (start .args .h) (now (start .args .book))) (rulesOn (now (start .args .sheet))) (take (start .args .at) (now (start .args .out))) (start .args .m .0) (start .args .n) _ _ (need .need-letter .ensures) (effect .effect-letter .ensures)),
     )
 
 pub atom-line-spec : {M : Type 1} → statement M

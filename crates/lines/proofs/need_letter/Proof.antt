@@ -1,12 +1,12 @@
 -- `lines::need_letter` meets its contract.
 use Rattle.jobs.specs.Listing.{needLetter}
-use Rattle.jobs.specs.SheetBits.{modelOn}
+use Rattle.jobs.specs.SheetBits.{rulesOn}
 use borrow.Author.Needs.{needs}
 use Rattle.lines.proofs.need_letter.Statement.{statement}
 use Rattle.lines.proofs.need_letter.Tie as tie
 
 pub need-letter-spec : {M : Type 1} → statement M
-unfolding modelOn needLetter
+unfolding rulesOn needLetter
 need-letter-spec =
     tie.close
     (tie.spec (λ c κs. search needs) (λ c κs. search needs)

@@ -7,7 +7,7 @@ use lib.ListN.{length, take}
 use Rattle.format.specs.Form.{full}
 use Rattle.io.specs.Counts.{Counts}
 use Rattle.jobs.specs.Planning.{schemaOf}
-use Rattle.jobs.specs.Learn.{learnedFrom}
+use Rattle.jobs.specs.Learn.{rulesFrom}
 use Rattle.jobs.specs.Listing.{atomLines}
 use Rattle.lines.proofs.Text.{counts}
 use Rattle.listing.specs.Room.{lineSize}
@@ -24,8 +24,8 @@ Inv-loop book h sheet m out₀ from end atoms at₀ n₀ out at n =
     × (length out ≡ length out₀)
     × Split
     (take at out)
-    (atomLines (schemaOf book) (learnedFrom full book) (m .0) (end - n) n)
-    (take from out₀ ++ atomLines (schemaOf book) (learnedFrom full book) (m .0) end 0)
+    (atomLines (schemaOf book) (rulesFrom full book) (m .0) (end - n) n)
+    (take from out₀ ++ atomLines (schemaOf book) (rulesFrom full book) (m .0) end 0)
 
 abbrev μ-loop : tie.MeasureT-loop
 μ-loop book h sheet m out₀ from end atoms at₀ n₀ out at n = end - n

@@ -7,7 +7,7 @@ use lib.ListN.{length, take}
 use Rattle.format.specs.Form.{full}
 use Rattle.io.specs.Counts.{Counts}
 use Rattle.jobs.specs.Planning.{schemaOf}
-use Rattle.jobs.specs.Learn.{learnedFrom}
+use Rattle.jobs.specs.Learn.{rulesFrom}
 use Rattle.jobs.specs.Listing.{moveLines}
 use Rattle.lines.proofs.Text.{counts}
 use Rattle.listing.specs.Room.{moveLinesSize}
@@ -25,8 +25,8 @@ Inv-loop book h sheet out₀ from moves at₀ i₀ out at i =
     × (length out ≡ length out₀)
     × Split
     (take at out)
-    (moveLines (schemaOf book) (learnedFrom full book) (moves - i) (i + 1))
-    (take from out₀ ++ moveLines (schemaOf book) (learnedFrom full book) moves 1)
+    (moveLines (schemaOf book) (rulesFrom full book) (moves - i) (i + 1))
+    (take from out₀ ++ moveLines (schemaOf book) (rulesFrom full book) moves 1)
 
 abbrev μ-loop : tie.MeasureT-loop
 μ-loop book h sheet out₀ from moves at₀ i₀ out at i = moves - i
