@@ -1,12 +1,12 @@
 // Rows 11 and 12 from what the learner has observed: the answer for a changed fact that is no bound fact of its step, and the first move with a conflict.
-// Uses rulesheet for the sets that are observed, mask for sets, answer; each contract names its definition.
+// Uses observed for the sets that are observed, mask for sets, answer; each contract names its definition.
 ghost use mathlib.Core.Path.{_≡_};
 ghost use Prim.Native.Nat.{_≤_};
 ghost use lib.ListN.{length};
 ghost use Rattle.limits.specs.Limits.{observedSize, maxMoves};
 ghost use Rattle.model.specs.Quantify.{least};
 ghost use Rattle.observed.specs.Rules.{unboundAnswer, conflictObserved, conflictAmong, inUse, conflictSet};
-ghost use Rattle.rulesheet.specs.Sheet.{MoveObserved};
+ghost use Rattle.observed.specs.Observed.{MoveObserved};
 use answer::Answer;
 use terms::Move;
 
@@ -38,10 +38,10 @@ fn conflict_set(observed: &[u8], m: Move) -> [u8; 32]
     requires { ⌜ MoveObserved (now observed) (m .0) ⌝ }
     ensures { λ r. ⌜ r ≡ conflictSet (now (observed .entry)) (m .0) ⌝ }
 {
-    let added = rulesheet::observed_set(observed, m, observed::ADDED);
-    let deleted = rulesheet::observed_set(observed, m, observed::DELETED);
-    let unkept = rulesheet::outside_observed(added, observed, m, observed::ALWAYS_AFTER);
-    let kept = rulesheet::within_observed(deleted, observed, m, observed::EVER_AFTER);
+    let added = observed::observed_set(observed, m, observed::ADDED);
+    let deleted = observed::observed_set(observed, m, observed::DELETED);
+    let unkept = observed::outside_observed(added, observed, m, observed::ALWAYS_AFTER);
+    let kept = observed::within_observed(deleted, observed, m, observed::EVER_AFTER);
     mask::union32(unkept, kept)
 }
 

@@ -2,6 +2,7 @@
 pub mod Facts
 pub mod Params
 pub mod Parts
+pub mod Sets
 pub mod Noted
 pub mod InSet
 pub mod Observe

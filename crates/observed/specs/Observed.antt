@@ -1,11 +1,12 @@
 -- What the learner has observed: seven sets of bound facts for each move, 224 bytes a move, and the offset of the first step that row 11 names.
 -- One of the seven is made before any record and stays: all bound facts of the move. Uses terms for these, and jobs for the schema of a book.
-use Prim.Native.Nat.{ℕ, _+_, _-_, _*_, _/_, _%_}
+use Prim.Native.Nat.{ℕ, _+_, _-_, _*_, _/_, _%_, _≤_}
+use mathlib.Core.Path.{_≡_}
 use mathlib.Core.Bool.{Bool, cond, _&&_, _||_}
 use mathlib.Core.List.{List, [], _∷_, _++_}
 use lib.ListN.{length, take, drop}
 use lib.Dec.{eqb}
-use Rattle.limits.specs.Limits.{setSize, observedSets, observedPerMove, observedSize, maxAtoms}
+use Rattle.limits.specs.Limits.{setSize, observedSets, observedPerMove, observedSize, maxAtoms, maxMoves}
 use Rattle.mask.specs.Sets.{maskOf, intersection, union, difference}
 use Rattle.terms.specs.Sections.{sectionsOf}
 use Rattle.terms.specs.Schema.{Schema}
@@ -56,6 +57,10 @@ setAt a k = observedPerMove * (a - 1) + setSize * k
 
 unfoldable pub observedSet : List ℕ → ℕ → ℕ → List ℕ
 observedSet l a k = take setSize (drop (setAt a k) l)
+
+-- what is observed has its size, and the move is one of those that it has sets of
+abbrev pub MoveObserved : List ℕ → ℕ → Type 0
+MoveObserved l a = (length l ≡ observedSize) × (1 ≤ a) × (a ≤ maxMoves)
 
 -- the set at an offset replaced by what is made of it
 unfoldable pub onSet : ℕ → (List ℕ → List ℕ) → List ℕ → List ℕ

@@ -1,3 +1,2 @@
--- Laws for the proofs of src/: the sets of a move (Sets), the sheet (Rows).
-pub mod Sets
+-- Laws for the proofs of src/: the sheet (Rows).
 pub mod Rows

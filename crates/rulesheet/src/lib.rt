@@ -1,55 +1,28 @@
 // The rules of a move from what the learner has observed, and the rule sheet: each move's four sets, by value and as the bytes of its row.
-// Uses mask for the sets, output for the bytes, terms, limits, the numbers of a move's rules from jobs and of its observed sets from observed;
+// Uses observed for the sets that are observed, output for the bytes, terms, limits, and the numbers of a move's rules from jobs;
 // each contract names its definition, of observed or of specs/Sheet.antt.
 ghost use mathlib.Core.Path.{_≡_};
 ghost use Prim.Native.Nat.{_+_, _*_, _≤_, _<_};
 ghost use lib.ListN.{length};
-ghost use Rattle.limits.specs.Limits.{observedSize, maxMoves, setSize, ruleSize, observedSets};
+ghost use Rattle.limits.specs.Limits.{observedSize, maxMoves, setSize, ruleSize};
 ghost use Rattle.output.specs.Written.{written};
-ghost use Rattle.mask.specs.Sets.{intersection, difference};
-ghost use Rattle.observed.specs.Observed.{observedSet};
+ghost use Rattle.observed.specs.Observed.{MoveObserved};
 ghost use Rattle.observed.specs.Rules.{sheetObserved};
-ghost use Rattle.rulesheet.specs.Sheet.{MoveObserved, ruleSets, row};
+ghost use Rattle.rulesheet.specs.Sheet.{ruleSets, row};
 use terms::Move;
 
 // ---- the rules of a move
-
-pub fn observed_set(observed: &[u8], m: Move, k: usize) -> [u8; 32]
-    requires { ⌜ MoveObserved (now observed) (m .0) × (k < observedSets) ⌝ }
-    ensures { λ r. ⌜ r ≡ observedSet (now (observed .entry)) (m .0) k ⌝ }
-{
-    let at = observed::set_at(m, k);
-    let end = at + limits::SET_SIZE;
-    let mut set = mask::empty32();
-    mask::unite(&mut set, &observed[at..end]);
-    set
-}
-
-// What of a set is in set k of a move, and what is not.
-pub fn within_observed(set: [u8; 32], observed: &[u8], m: Move, k: usize) -> [u8; 32]
-    requires { ⌜ MoveObserved (now observed) (m .0) × (k < observedSets) ⌝ }
-    ensures { λ r. ⌜ r ≡ intersection set (observedSet (now (observed .entry)) (m .0) k) ⌝ }
-{
-    mask::intersection32(set, observed_set(observed, m, k))
-}
-
-pub fn outside_observed(set: [u8; 32], observed: &[u8], m: Move, k: usize) -> [u8; 32]
-    requires { ⌜ MoveObserved (now observed) (m .0) × (k < observedSets) ⌝ }
-    ensures { λ r. ⌜ r ≡ difference set (observedSet (now (observed .entry)) (m .0) k) ⌝ }
-{
-    mask::union_difference32(mask::empty32(), set, observed_set(observed, m, k))
-}
 
 // The four sets of a move: needs to hold, needs not to hold, added, removed.
 pub fn rules_of(observed: &[u8], m: Move) -> [[u8; 32]; 4]
     requires { ⌜ MoveObserved (now observed) (m .0) ⌝ }
     ensures { λ r. ⌜ r ≡ ruleSets (now (observed .entry)) (m .0) ⌝ }
 {
-    let pre_pos = observed_set(observed, m, observed::ALWAYS_BEFORE);
-    let bound = observed_set(observed, m, observed::BOUND);
-    let pre_neg = outside_observed(bound, observed, m, observed::EVER_BEFORE);
-    let add = observed_set(observed, m, observed::ADDED);
-    let delete = observed_set(observed, m, observed::DELETED);
+    let pre_pos = observed::observed_set(observed, m, observed::ALWAYS_BEFORE);
+    let bound = observed::observed_set(observed, m, observed::BOUND);
+    let pre_neg = observed::outside_observed(bound, observed, m, observed::EVER_BEFORE);
+    let add = observed::observed_set(observed, m, observed::ADDED);
+    let delete = observed::observed_set(observed, m, observed::DELETED);
     [pre_pos, pre_neg, add, delete]
 }
 

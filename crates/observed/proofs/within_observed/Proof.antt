@@ -1,7 +1,7 @@
--- `rulesheet::within_observed` meets its contract: the set that is observed in place of the one that is read.
+-- `observed::within_observed` meets its contract: the set that is observed in place of the one that is read.
 use borrow.Author.Needs.{needs}
-use Rattle.rulesheet.proofs.within_observed.Statement.{statement}
-use Rattle.rulesheet.proofs.within_observed.Tie as tie
+use Rattle.observed.proofs.within_observed.Statement.{statement}
+use Rattle.observed.proofs.within_observed.Tie as tie
 
 pub within-observed-spec : {M : Type 1} → statement M
 within-observed-spec =

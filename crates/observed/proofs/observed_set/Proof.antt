@@ -1,10 +1,10 @@
--- `rulesheet::observed_set` meets its contract: the part that is lent, laid over the empty set.
+-- `observed::observed_set` meets its contract: the part that is lent, laid over the empty set.
 use native.Mathlib.Omega.{arith}
 use mathlib.Core.Path.{refl}
 use borrow.Author.Needs.{needs}
-use Rattle.rulesheet.proofs.Sets.{observed-set-by}
-use Rattle.rulesheet.proofs.observed_set.Statement.{statement}
-use Rattle.rulesheet.proofs.observed_set.Tie as tie
+use Rattle.observed.proofs.Sets.{observed-set-by}
+use Rattle.observed.proofs.observed_set.Statement.{statement}
+use Rattle.observed.proofs.observed_set.Tie as tie
 
 returns : tie.Need-returns
 returns c =

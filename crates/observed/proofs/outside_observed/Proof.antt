@@ -1,9 +1,9 @@
--- `rulesheet::outside_observed` meets its contract: a difference laid over the empty set.
+-- `observed::outside_observed` meets its contract: a difference laid over the empty set.
 use native.Mathlib.Omega.{arith}
 use borrow.Author.Needs.{needs}
-use Rattle.rulesheet.proofs.Sets.{difference-by}
-use Rattle.rulesheet.proofs.outside_observed.Statement.{statement}
-use Rattle.rulesheet.proofs.outside_observed.Tie as tie
+use Rattle.observed.proofs.Sets.{difference-by}
+use Rattle.observed.proofs.outside_observed.Statement.{statement}
+use Rattle.observed.proofs.outside_observed.Tie as tie
 
 returns : tie.Need-returns
 returns c =
