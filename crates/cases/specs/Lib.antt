@@ -6,4 +6,5 @@ pub mod Adding
 pub mod Stepless
 pub mod Sequences
 pub mod EachStart
+pub mod EndSheet
 pub mod Cases

@@ -130,7 +130,7 @@ valuesAt (stopped k) fs = []
 valuesAt (ended end) fs = map (λ f. cond (end f) 1 0) fs
 
 -- the same from each start in turn
-abbrev valuesFrom : List Run → List ℕ → List ℕ
+abbrev pub valuesFrom : List Run → List ℕ → List ℕ
 valuesFrom [] fs = []
 valuesFrom (r ∷ rs) fs = valuesAt r fs ++ valuesFrom rs fs
 

@@ -3,3 +3,4 @@ pub mod Demand3
 pub mod Demand2
 pub mod TwoBooks
 pub mod EachStart
+pub mod EndSheet
