@@ -1,11 +1,11 @@
 -- Every case is as the paper says: the checker computes them, but for the two books at the limit of 60,000 bytes.
 use Prim.Native.Nat.{ℕ}
 use mathlib.Core.Path.{refl}
-use mathlib.Core.List.{List, [], _∷_, _++_}
+use mathlib.Core.List.{List, [], _∷_, _++_, flatten}
 use Rattle.answer.specs.Answer.{_>>=_, refuse, isRefused, number, place, unpositioned, thenAt, kept, firstRefused}
 use Rattle.answer.specs.Walk.{walk}
 use Rattle.input.specs.Bytes.{byteAt, two}
-use Rattle.output.specs.Written.{twoBytes}
+use Rattle.output.specs.Written.{twoBytes, written}
 use Rattle.terms.specs.Sections.{sectionsOf}
 use Rattle.terms.specs.Schema.{outOfRange, parentAt, relationAt, moveAt, schema, typedObjects, suitsWithin, kindSuits, objectBad}
 use Rattle.terms.specs.Facts.{factAt, factBad, precedes, noFact, factNumber}
@@ -39,10 +39,13 @@ use Rattle.cases.specs.Sequences.{filedLate}
 use Rattle.cases.specs.Cases.{cases, AllRight}
 use Rattle.cases.proofs.LongBook.{long-right, longer-right}
 use Rattle.format.specs.Filed.{filedStepAt}
+use Rattle.jobs.specs.Alone.{startSize, goalAlone, leftAlone, aloneAt, aloneFrom, alone}
+use Rattle.cases.specs.EachStart.{startsAlone}
+use Rattle.cases.specs.EndSheet.{rightBits}
 
 -- The definitions that are computed: `unfolding opened` opens them all. Its value is not used.
 unfoldable opened : ℕ
-unfolding _>>=_ refuse number place walk byteAt two sectionsOf outOfRange parentAt relationAt moveAt schema typedObjects suitsWithin kindSuits objectBad factAt factBad precedes noFact factNumber objectOf stepAt argumentBad stepBad samePair repeats atomRelation atomFirst atomSecond parameterFills isAtom placed ground lengthBad countsBad offsetsBad parentBad kindBad relationBad moveBad parent relation move sections cut countBad factRefused facts list nextState mostListed stateAfter toggle toggled objectsIn stepsIn lengthIn headBad recordHead object stepRefused step steps objectsOf trajectory closed body recordAt stepTotal allRecords lookOverBy lookOver factsAt listAt listEnd recordedStep recordedStepsAt stepsOfRecord stepsOfRecords recordedSteps objectCount startCount goalCount stepCount startAt goalAt stepsAt orderCountsBad orderOffsetsBad orderHeader orderObjects orderObject entryBad entries planStepBad planStep fromGoal startsForm fromStart orderForm startsFrom starts entryAt goalFrom goal planFrom plan maskOf same below any has later first least image inapplicable next run wrong saw before after turned learned unboundEffect conflicting domain holding groundAction transition goalEntry schemaOf stepsOfBook transitionsOf startStates planOf goalOf unboundEffects conflictAnswer conflictingMove learnable ruleRow ruleRows learnedFrom ruleSheet learn kept learnBytes planRun orderRun goalAnswer runAnswer startAnswer firstFailing startsAnswer beforePlan check endSheet endAfter checkBytes isRefused unpositioned thenAt twoBytes added add addBytes factsBytes listBytes stepBytes listed stepsBytes bytesAt bodyBytes recordBytes recordsBytes allRecordsBytes converted convert convertBytes digits decimal refusedLine needLetter effectLetter paramShown atomFront atomLine lineIfAtom atomLines moveLines countsLine rulesLines rulesPrinted planLine planPrinted firstRefused inconsistency filedStepAt filedStepBytes learnedRules modelOf rulesFrom
+unfolding _>>=_ refuse number place walk byteAt two sectionsOf outOfRange parentAt relationAt moveAt schema typedObjects suitsWithin kindSuits objectBad factAt factBad precedes noFact factNumber objectOf stepAt argumentBad stepBad samePair repeats atomRelation atomFirst atomSecond parameterFills isAtom placed ground lengthBad countsBad offsetsBad parentBad kindBad relationBad moveBad parent relation move sections cut countBad factRefused facts list nextState mostListed stateAfter toggle toggled objectsIn stepsIn lengthIn headBad recordHead object stepRefused step steps objectsOf trajectory closed body recordAt stepTotal allRecords lookOverBy lookOver factsAt listAt listEnd recordedStep recordedStepsAt stepsOfRecord stepsOfRecords recordedSteps objectCount startCount goalCount stepCount startAt goalAt stepsAt orderCountsBad orderOffsetsBad orderHeader orderObjects orderObject entryBad entries planStepBad planStep fromGoal startsForm fromStart orderForm startsFrom starts entryAt goalFrom goal planFrom plan maskOf same below any has later first least image inapplicable next run wrong saw before after turned learned unboundEffect conflicting domain holding groundAction transition goalEntry schemaOf stepsOfBook transitionsOf startStates planOf goalOf unboundEffects conflictAnswer conflictingMove learnable ruleRow ruleRows learnedFrom ruleSheet learn kept learnBytes planRun orderRun goalAnswer runAnswer startAnswer firstFailing startsAnswer beforePlan check endSheet endAfter checkBytes isRefused unpositioned thenAt twoBytes added add addBytes factsBytes listBytes stepBytes listed stepsBytes bytesAt bodyBytes recordBytes recordsBytes allRecordsBytes converted convert convertBytes digits decimal refusedLine needLetter effectLetter paramShown atomFront atomLine lineIfAtom atomLines moveLines countsLine rulesLines rulesPrinted planLine planPrinted firstRefused inconsistency filedStepAt filedStepBytes learnedRules modelOf rulesFrom written startSize goalAlone leftAlone aloneAt aloneFrom alone flatten
 opened = 0
 
 -- One declaration for each list that `cases` joins: the checker computes at most 50,000,000 steps in one.
@@ -74,6 +77,14 @@ filed-late-right : AllRight filedLate
 unfolding AllRight opened
 filed-late-right = (refl, (refl, (refl, (refl, (refl, (refl, (refl, (refl, (refl, (refl, (refl, (refl, (refl, (refl, (refl, (refl, (refl, (refl, (refl, tt)))))))))))))))))))
 
+starts-alone-right : AllRight startsAlone
+unfolding AllRight opened
+starts-alone-right = (refl, (refl, (refl, (refl, (refl, tt)))))
+
+right-bits-right : AllRight rightBits
+unfolding AllRight opened
+right-bits-right = (refl, (refl, tt))
+
 joined : (cs ds : List Case) → AllRight cs → AllRight ds → AllRight (cs ++ ds)
 unfolding AllRight
 joined [] ds l r = r
@@ -84,4 +95,4 @@ cases-right =
     joined _ _ marked-right
     (joined _ _ kinds-under-right
     (joined _ _ several-starts-right
-    (joined _ _ short-books-right (joined _ _ records-added-right (joined _ _ records-of-nothing-right filed-late-right)))))
+    (joined _ _ short-books-right (joined _ _ records-added-right (joined _ _ records-of-nothing-right (joined _ _ filed-late-right (joined _ _ starts-alone-right right-bits-right)))))))

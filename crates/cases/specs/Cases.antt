@@ -8,9 +8,11 @@ use Rattle.cases.specs.Shorts.{shortBooks}
 use Rattle.cases.specs.Adding.{recordsAdded}
 use Rattle.cases.specs.Stepless.{recordsOfNothing}
 use Rattle.cases.specs.Sequences.{filedLate}
+use Rattle.cases.specs.EachStart.{startsAlone}
+use Rattle.cases.specs.EndSheet.{rightBits}
 
 abbrev pub cases : List Case
-cases = marked ++ (kindsUnder ++ (severalStarts ++ (shortBooks ++ (recordsAdded ++ (recordsOfNothing ++ filedLate)))))
+cases = marked ++ (kindsUnder ++ (severalStarts ++ (shortBooks ++ (recordsAdded ++ (recordsOfNothing ++ (filedLate ++ (startsAlone ++ rightBits)))))))
 
 unfoldable pub AllRight : List Case → Type 0
 AllRight [] = Unit {0}
