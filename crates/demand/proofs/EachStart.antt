@@ -1,6 +1,6 @@
 -- "From each start alone", proved: an order with one of its starts alone is of good form and has that start, the goal and the plan; so its check says
 -- what the plan comes to from that start.
-use Prim.Native.Nat.{ℕ, zero, suc, _≤_}
+use Prim.Native.Nat.{ℕ, zero, suc, _+_, _≤_, _<_}
 use mathlib.Core.Path.{_≡_, refl, sym, ap, _∙_, subst}
 use mathlib.Core.Logic.{_⊎_, inl, inr}
 use mathlib.Core.Bool.{Bool, true, false, not}
@@ -16,12 +16,13 @@ use Rattle.answer.specs.Answer.{_>>=_, refuse, isRefused, unpositioned, thenAt}
 use Rattle.answer.specs.Laws.{bind-good, bind-refused}
 use Rattle.answer.specs.Positions.{then-by}
 use Rattle.answer.specs.Walk.{walk, walk-parted}
-use Rattle.limits.specs.Limits.{endSheetSize, maxFacts}
+use Rattle.limits.specs.Limits.{headerSize, endSheetSize, maxFacts}
+use Rattle.input.specs.Bytes.{byteAt}
 use Rattle.terms.specs.Schema.{Schema, typedObjects}
 use Rattle.format.specs.Form.{Form}
 use Rattle.format.specs.States.{state}
 use Rattle.format.specs.Lists.{listAt, listEnd}
-use Rattle.format.specs.Order.{startCount, stepCount, startAt, goalAt, orderObjects, orderForm, startsFrom, starts, goal, plan}
+use Rattle.format.specs.Order.{objectCount, startCount, stepCount, startAt, goalAt, orderObjects, orderForm, startsFrom, starts, goal, plan}
 use Rattle.format.proofs.States.{list-good, list-ends}
 use Rattle.format.proofs.OrderForm.{OrderGood, order-good}
 use Rattle.model.specs.Quantify.{Mem, here, there, first}
@@ -34,8 +35,8 @@ use Rattle.jobs.specs.Check.{orderRun, goalAnswer, runAnswer, startAnswer, firs
 use Rattle.jobs.specs.Alone.{aloneAt, aloneFrom, alone}
 use Rattle.jobs.proofs.Starts.{failing-none, failing-here, failing-later, failing-same, failing-map}
 use Rattle.demand.specs.EachStart.{FromEachStart}
-use Rattle.demand.proofs.Alone.{StartIn, start-end}
-use Rattle.demand.proofs.AloneRead.{steps-same, starts-alone, goal-same, plan-same}
+use Rattle.demand.proofs.Alone.{StartIn, start-end, objects-there}
+use Rattle.demand.proofs.AloneRead.{objects-same, steps-same, starts-alone, goal-same, plan-same}
 use Rattle.demand.proofs.AloneGood.{alone-good}
 
 -- ---- the starts of an order of good form
@@ -209,6 +210,9 @@ from-each-start form s o m ordered =
     let good = order-good (schemaOf s) o m ordered in
     record {
       one = one-each (schemaOf s) o m good;
+      objects =
+          each-alone (schemaOf s) o m good (λ p. (objectCount p ≡ objectCount o) × ((i : ℕ) → i < objectCount o → byteAt p (headerSize + i) ≡ byteAt o (headerSize + i)))
+          (λ at start right. (objects-same o at start, objects-there o at start .bytes));
       goals = each-alone (schemaOf s) o m good (λ p. goal p ≡ goal o) (λ at start right. goal-same o at start);
       plans = each-alone (schemaOf s) o m good (λ p. plan p ≡ plan o) (λ at start right. plan-same o at start);
       good = each-alone (schemaOf s) o m good (λ p. orderForm (schemaOf s) p ≡ Good (length p)) (λ at start right. alone-good (schemaOf s) o m good at start right);

@@ -1,13 +1,14 @@
 -- "From each start alone", over bytes: what a check says of an order is put together from what it says of the orders that have one of its starts each.
 -- `alone` of jobs/specs/Alone.antt says which bytes those are. Of every book, of good form or not.
-use Prim.Native.Nat.{ℕ}
+use Prim.Native.Nat.{ℕ, _+_, _<_}
 use mathlib.Core.Path.{_≡_}
 use mathlib.Core.List.{List, [], _∷_, map}
 use lib.ListN.{length}
-use Rattle.limits.specs.Limits.{endSheetSize}
+use Rattle.limits.specs.Limits.{headerSize, endSheetSize}
 use Rattle.answer.specs.declared.Answer.the-variants.{Good, Refused}
+use Rattle.input.specs.Bytes.{byteAt}
 use Rattle.format.specs.Form.{Form}
-use Rattle.format.specs.Order.{startCount, stepCount, orderForm, starts, goal, plan}
+use Rattle.format.specs.Order.{objectCount, startCount, stepCount, orderForm, starts, goal, plan}
 use Rattle.model.specs.Quantify.{Mem}
 use Rattle.jobs.specs.Planning.{schemaOf}
 use Rattle.jobs.specs.Learn.{learnable}
@@ -16,8 +17,10 @@ use Rattle.jobs.specs.Alone.{alone}
 
 -- of an order of good form
 pub record EachStart (form : Form) (s o : List ℕ) : Type 0 where
-  -- The orders alone have one start each, the starts of the order in file order, and its goal and plan; and they are of good form.
+  -- Each of these orders has one start, the order's in their sequence, and the order's objects, goal and plan; and it is of good form.
   pub one : map starts (alone o) ≡ map (λ start. start ∷ []) (starts o)
+  pub objects : (p : List ℕ) → Mem p (alone o)
+      → (objectCount p ≡ objectCount o) × ((i : ℕ) → i < objectCount o → byteAt p (headerSize + i) ≡ byteAt o (headerSize + i))
   pub goals : (p : List ℕ) → Mem p (alone o) → goal p ≡ goal o
   pub plans : (p : List ℕ) → Mem p (alone o) → plan p ≡ plan o
   pub good : (p : List ℕ) → Mem p (alone o) → orderForm (schemaOf s) p ≡ Good (length p)
@@ -31,5 +34,6 @@ pub record EachStart (form : Form) (s o : List ℕ) : Type 0 where
   pub only : startCount o ≡ 1 → (p : List ℕ) → Mem p (alone o) → (lent : List ℕ)
       → (check form s o (length lent) ≡ check form s p (length lent)) × (checkBytes form s o lent ≡ checkBytes form s p lent)
 
+-- Of every book, and every order of good form with it.
 abbrev pub FromEachStart : Type 0
 FromEachStart = (form : Form) (s o : List ℕ) (n : ℕ) → orderForm (schemaOf s) o ≡ Good n → EachStart form s o

@@ -21,7 +21,7 @@ use Rattle.jobs.specs.Check.{check, checkBytes}
 abbrev pub RightNumber : List ℕ → List ℕ → ℕ → Type 0
 RightNumber s o n = (f : Fact) × (factBad (schemaOf s) (typedObjects (orderObjects o) o) f ≡ false) × (factNumber f ≡ n)
 
--- bit n is set in a sheet only where n is such a number; else it is 0
+-- each bit that is set in a sheet has such a number; the bits of no right fact are 0
 pub record RightBits (s o sheet : List ℕ) : Type 0 where
   pub set : (n : ℕ) → testBit sheet n ≡ true → RightNumber s o n
   pub others : (n : ℕ) → (RightNumber s o n → ⊥) → testBit sheet n ≡ false

@@ -12,11 +12,11 @@ use Rattle.format.specs.Order.{startCount, goalCount, startAt, goalAt}
 unfoldable pub startSize : List ℕ → ℕ → ℕ
 startSize o at = countSize + factSize * two o at
 
--- where the goal entries begin behind this start alone
+-- where the goal entries begin if no other start stands before them
 unfoldable pub goalAlone : List ℕ → ℕ → ℕ
 goalAlone o at = startAt o + startSize o at
 
--- the order's bytes without its starts but the one at the offset
+-- the order's bytes with the start at an offset, and no other
 unfoldable pub leftAlone : List ℕ → ℕ → List ℕ
 leftAlone o at = take (startAt o) o ++ (take (startSize o at) (drop at o) ++ drop (goalAt o) o)
 
@@ -25,11 +25,11 @@ unfoldable pub aloneAt : List ℕ → ℕ → List ℕ
 aloneAt o at =
     written (written (written (leftAlone o at) 2 (twoBytes 1)) 12 (twoBytes (goalAlone o at))) 14 (twoBytes (goalAlone o at + entrySize * goalCount o))
 
--- so for each start of a number of them, the first of which is at the offset
+-- a number of starts from an offset on, each alone
 unfoldable pub aloneFrom : List ℕ → ℕ → ℕ → List (List ℕ)
 aloneFrom o zero at = []
 aloneFrom o (suc n) at = aloneAt o at ∷ aloneFrom o n (listEnd o at)
 
--- for each start of the order, in file order
+-- all starts of the order in file order, each alone
 unfoldable pub alone : List ℕ → List (List ℕ)
 alone o = aloneFrom o (startCount o) (startAt o)
