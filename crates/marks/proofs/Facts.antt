@@ -8,7 +8,7 @@ use lib.Dec.{leb}
 use lib.ListN.{length}
 use Rattle.terms.specs.declared.Binding.{Binding}
 use Rattle.terms.specs.declared.Fact.{Fact}
-use Rattle.observed.specs.Inverse.{marks, unbound, sameFacts, unboundChanged}
+use Rattle.observed.specs.Inverse.{marks, unbound, inOneAlone, someFact, unboundChanged}
 use Rattle.factlist.specs.declared.ListCursor.{ListCursor}
 use Rattle.lifting.specs.Pairs.{pairOf, markedAs}
 use Rattle.factlist.specs.Rest.{rest, Ahead, next, Comes}
@@ -68,7 +68,7 @@ module _ (s atoms : List ℕ) (b : Binding) where
         }
 
     pub marked-all : c .left ≡ 0 → (m ≡ marks atoms b m₀ (rest s c₀)) × (changed ≡ unboundChanged atoms b [] (rest s c₀))
-    unfolding marks unboundChanged unbound sameFacts
+    unfolding marks unboundChanged unbound inOneAlone someFact
     marked-all e =
         let n = rest-none s c e in
         (ap (marks atoms b m) (sym n) ∙ w .marked, sym (or-false changed) ∙ ap (λ (fs : List Fact). changed || unboundChanged atoms b [] fs) (sym n) ∙ w .met)

@@ -7,21 +7,22 @@ use mathlib.Core.List.{List, []}
 use native.Mathlib.Omega.{arith}
 use borrow.Author.Tests.{ltb-true, ltb-false}
 use lib.Dec.{ltb, leb}
-use Rattle.truth.specs.Bools.{clash, and-out}
+use Rattle.truth.specs.Bools.{clash, and-out, or-right}
 use Rattle.mask.specs.Sets.{empty}
 use Rattle.terms.specs.declared.Binding.{Binding}
 use Rattle.terms.specs.declared.Fact.{Fact}
+use Rattle.terms.specs.Facts.{precedes}
 use Rattle.format.specs.Lists.{listAt}
-use Rattle.observed.specs.Inverse.{marks, atomsIn, sameFact, sameFacts, unbound, unboundChanged}
-use Rattle.observed.proofs.Facts.{same-fact}
+use Rattle.observed.specs.Inverse.{marks, atomsIn, sameFact, unbound, inOneAlone, someFact, unboundChanged}
+use Rattle.observed.proofs.Facts.{same-fact, fact-same}
 use Rattle.states.specs.declared.FactCursor.{FactCursor}
 use Rattle.factlist.specs.declared.ListCursor.{ListCursor}
 use Rattle.marks.specs.declared.Walk.{Walk}
 use Rattle.lifting.specs.Pairs.{pairOf}
 use Rattle.factlist.specs.Rest.{rest, Ahead, Comes}
-use Rattle.marks.specs.Marks.{plain, says, NextMarked, ListAhead, StepMarked}
+use Rattle.marks.specs.Marks.{plain, goingOn, says, NextMarked, ListAhead, StepMarked}
 use Rattle.lifting.proofs.Pairs.{place-bound, place-unbound, pair-test}
-use Rattle.marks.proofs.Unbound.{none-after, both-more, before-more, changed-more}
+use Rattle.marks.proofs.Unbound.{none-after, both-more, before-more, first-more, second-more}
 use Rattle.factlist.proofs.Rest.{rest-none}
 use Rattle.marks.proofs.Facts.{Passes, passed-by}
 use Rattle.marks.proofs.Looks.{suited-next}
@@ -37,7 +38,7 @@ module _ (s atoms : List ℕ) (b : Binding) where
   module _ (w : Walk) (f : Fact) (m n : List ℕ) (now-f : Comes s (w .pre) f) where
     -- a bound fact that does not come next after
     pub marked-before : Ahead s (plain (w .post)) → (x : ℕ) → x ≡ pairOf atoms b f → x < 16 → (p : ListCursor) (m′ : List ℕ) → Passes f x (w .pre) m p m′
-        → NextMarked s atoms b w m n (record { pre = p; post = w .post; changed = w .changed; bad = false }) m′ n
+        → NextMarked s atoms b w m n (goingOn p (w .post) (w .changed)) m′ n
     unfolding says
     marked-before a x is u p m′ d =
         let i = passed-by s atoms b is now-f d in
@@ -57,11 +58,10 @@ module _ (s atoms : List ℕ) (b : Binding) where
           → (p : ListCursor) (q : FactCursor) (m′ n′ : List ℕ)
           → Passes f x (w .pre) m p m′
           → Passes f x (plain (w .post)) n (plain q) n′
-          → NextMarked s atoms b w m n (record { pre = p; post = q; changed = w .changed; bad = false }) m′ n′
+          → NextMarked s atoms b w m n (goingOn p q (w .changed)) m′ n′
       unfolding says plain
       marked-both x is u p q m′ n′ d e =
           let h : f ≡ g = same-fact f g (sym is-t ∙ u) in
-          let k : sameFact f f ≡ true = ap (sameFact f) h ∙ sym is-t ∙ u in
           let i = passed-by s atoms b is now-f d in
           let j = passed-by s atoms b is (rw h now-g) e in
           record {
@@ -70,42 +70,62 @@ module _ (s atoms : List ℕ) (b : Binding) where
             suited = λ table. suited-next table f (rest s p) (rest s (w .pre)) (i .first);
             before = i .marked;
             after = j .marked;
-            same = ap (λ (y : Bool). w .changed || y) (rw (i .first, j .first) (sym (both-more atoms b f (rest s p) (rest s (plain q)) k)));
+            same = ap (λ (y : Bool). w .changed || y) (rw (i .first, j .first) (sym (both-more atoms b f (rest s p) (rest s (plain q)))));
             less = omega (arith, i .less, j .less);
           }
 
-      -- f is no bound fact and differs, so g is a bound fact or a change
-      pub marked-after : Ahead s (w .pre) → t ≡ false
-          → (x y : ℕ)
-          → x ≡ pairOf atoms b f
-          → 16 ≤ x
-          → y ≡ pairOf atoms b g
-          → (q : FactCursor) (n′ : List ℕ)
-          → Passes g y (plain (w .post)) n (plain q) n′
-          → NextMarked s atoms b w m n (record { pre = w .pre; post = q; changed = w .changed || leb 16 y; bad = false }) m n′
-      unfolding says plain
-      marked-after a u x y is v is′ q n′ e =
-          let j = passed-by s atoms b is′ now-g e in
-          let h = place-unbound b f atoms x is v in
-          record {
-            ahead = a;
-            aheadAfter = j .ahead;
-            suited = λ table all. all;
-            before = refl;
-            after = j .marked;
-            same =
-                or-assoc (w .changed) (leb 16 y) (unboundChanged atoms b (rest s (w .pre)) (rest s (plain q)))
-                ∙ ap (λ (z : Bool). w .changed || z)
-                (rw (now-f .first, j .first) (changed-more atoms b f _ g (rest s (plain q)) (leb 16 y) (sym is-t ∙ u) h (pair-test b g atoms y is′)));
-            less = omega (arith, j .less);
-          }
+      -- f is no bound fact and differs; r says whether it precedes g
+      module _ (u : t ≡ false) (x y : ℕ) (is : x ≡ pairOf atoms b f) (v : 16 ≤ x) (is′ : y ≡ pairOf atoms b g) (r : Bool) (order : r ≡ precedes f g) where
+        -- nor is g a bound fact, and f comes first
+        pub marked-first : Ahead s (plain (w .post)) → (leb 16 y && r) ≡ true
+            → (p : ListCursor) (m′ : List ℕ)
+            → Passes f x (w .pre) m p m′
+            → NextMarked s atoms b w m n (goingOn p (w .post) true) m′ n
+        unfolding says
+        marked-first a both p m′ e =
+            let i = passed-by s atoms b is now-f e in
+            let h = place-unbound b f atoms x is v in
+            record {
+              ahead = i .ahead;
+              aheadAfter = a;
+              suited = λ table. suited-next table f (rest s p) (rest s (w .pre)) (i .first);
+              before = i .marked;
+              after = refl;
+              same =
+                  sym (or-right (w .changed) _
+                  (rw (i .first, now-g .first) (sym (first-more atoms b f (rest s p) g _ r h order (leb 16 y) (pair-test b g atoms y is′) both))));
+              less = omega (arith, i .less);
+            }
+
+        -- g is a bound fact, or comes first
+        pub marked-after : Ahead s (w .pre) → (leb 16 y && r) ≡ false
+            → (q : FactCursor) (n′ : List ℕ)
+            → Passes g y (plain (w .post)) n (plain q) n′
+            → NextMarked s atoms b w m n (goingOn (w .pre) q (w .changed || leb 16 y)) m n′
+        unfolding says plain
+        marked-after a either q n′ e =
+            let j = passed-by s atoms b is′ now-g e in
+            let h = place-unbound b f atoms x is v in
+            record {
+              ahead = a;
+              aheadAfter = j .ahead;
+              suited = λ table all. all;
+              before = refl;
+              after = j .marked;
+              same =
+                  or-assoc (w .changed) (leb 16 y) (unboundChanged atoms b (rest s (w .pre)) (rest s (plain q)))
+                  ∙ ap (λ (z : Bool). w .changed || z)
+                  (rw (now-f .first, j .first)
+                  (second-more atoms b f _ g (rest s (plain q)) r h order (leb 16 y) (pair-test b g atoms y is′) either (λ d. clash _ (fact-same f) (rw (← d) at (sym is-t ∙ u)))));
+              less = omega (arith, j .less);
+            }
 
   -- ---- all turns
 
   -- at the end of one state, what is left of the other decides
   end-says : (p q : ListCursor) → (ltb 0 (p .left) && ltb 0 (q .left)) ≡ false
       → (unboundChanged atoms b [] (rest s p) || unboundChanged atoms b [] (rest s q)) ≡ unboundChanged atoms b (rest s p) (rest s q)
-  unfolding unboundChanged unbound sameFacts
+  unfolding unboundChanged unbound inOneAlone someFact
   end-says p q u = go (ltb 0 (p .left)) (ltb 0 (q .left)) refl refl u
     where
       go : (x y : Bool) → ltb 0 (p .left) ≡ x → ltb 0 (q .left) ≡ y → (x && y) ≡ false
@@ -131,7 +151,7 @@ module _ (s atoms : List ℕ) (b : Binding) where
       → ListAhead s post q
       → m ≡ empty 32
       → n ≡ empty 32
-      → Stands pre (listAt s post) (record { pre = p; post = q; changed = false; bad = false }) m n
+      → Stands pre (listAt s post) (goingOn p q false) m n
   unfolding atomsIn says
   stands-first pre post p q m n d e i j =
       record { ahead = d .1; aheadAfter = e .ahead; before = rw (i, d .0); after = rw (j, e .facts); same = rw (d .0, e .facts) }

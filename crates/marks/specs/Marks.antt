@@ -62,6 +62,10 @@ pub record RestMarked (s table atoms : List ℕ) (b : Binding) (c : FactCursor) 
 
 -- ---- the facts of two states
 
+-- the walk from two cursors, no fact being wrong
+abbrev pub goingOn : ListCursor → FactCursor → Bool → Walk
+goingOn p q changed = record { pre = p; post = q; changed = changed; bad = false }
+
 abbrev pub toCome : Walk → ℕ
 toCome w = w .pre .left + w .post .left
 

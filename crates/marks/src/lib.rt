@@ -16,7 +16,7 @@ ghost use Rattle.states.specs.Looked.{ListLooked};
 ghost use Rattle.observed.specs.Inverse.{marks, sameFact, unboundChanged};
 ghost use Rattle.lifting.specs.Pairs.{noDigits, Inverts, markedAs};
 ghost use Rattle.factlist.specs.Rest.{rest, next, Ahead};
-ghost use Rattle.marks.specs.Marks.{plain, RightForFew, Suited, ListAhead, Looks, RestMarked, NextMarked, StepMarked, StepTurned};
+ghost use Rattle.marks.specs.Marks.{plain, RightForFew, Suited, ListAhead, Looks, RestMarked, goingOn, NextMarked, StepMarked, StepTurned};
 use answer::Answer;
 use factlist::ListCursor;
 use states::FactCursor;
@@ -121,9 +121,21 @@ fn wrong(w: Walk) -> Walk
     }
 }
 
-// One fact more of a state, or of both. Facts stand in order, so what is no bound fact stayed as it was if it comes in the same order in
-// both states: where the next ones differ and neither is a bound fact, a fact changed, whatever follows. A fact that comes next in both is
-// looked up once, and suits, as it did before the step.
+// The walk that goes on from two cursors.
+fn going_on(pre: ListCursor, post: FactCursor, changed: bool) -> Walk
+    ensures { λ r. ⌜ r ≡ goingOn pre post changed ⌝ }
+{
+    Walk {
+        pre,
+        post,
+        changed,
+        bad: false,
+    }
+}
+
+// One fact more of a state, or of both. What comes next in both is looked up once, and suits, as it did before the step. What is no bound fact is merged
+// by key: facts stand in order, so of two that differ the one with the smaller key is in its list alone, and the other is compared with those that
+// follow. Bound facts are passed as they come: they are compared as sets, and to ask for their order costs time.
 fn mark_next(
     before: &mut [u8],
     after: &mut [u8],
@@ -150,33 +162,21 @@ fn mark_next(
         }
         let post = q.next(s);
         lifting::mark(after, f, x);
-        return Walk {
-            pre: pass(p, before, f, x),
-            post,
-            changed: w.changed,
-            bad: false,
-        };
+        return going_on(pass(p, before, f, x), post, w.changed);
     }
     if x < lifting::UNBOUND {
-        return Walk {
-            pre: pass(p, before, f, x),
-            post: q,
-            changed: w.changed,
-            bad: false,
-        };
+        return going_on(pass(p, before, f, x), q, w.changed);
     }
     if q.bad(s, table) {
         return wrong(w);
     }
-    let post = q.next(s);
     let y = lifting::pair(t, atoms, b, g);
-    lifting::mark(after, g, y);
-    Walk {
-        pre: p,
-        post,
-        changed: w.changed | (lifting::UNBOUND <= y),
-        bad: false,
+    if (lifting::UNBOUND <= y) & g.follows(f, f.key()) {
+        return going_on(pass(p, before, f, x), q, true);
     }
+    let post = q.next(s);
+    lifting::mark(after, g, y);
+    going_on(p, post, w.changed | (lifting::UNBOUND <= y))
 }
 
 // The facts of the list at an offset, yet to be looked over.

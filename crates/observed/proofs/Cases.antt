@@ -9,9 +9,10 @@ use Rattle.mask.specs.Bits.{bitOf, without, testBit, setBit}
 use Rattle.mask.specs.Sets.{bytewise, intersection, union, difference, empty}
 use Rattle.terms.specs.declared.Binding.{Binding}
 use Rattle.terms.specs.declared.Fact.{Fact}
+use Rattle.terms.specs.Facts.{precedes}
 use Rattle.terms.specs.Steps.{objectOf}
 use Rattle.observed.specs.Observed.{everBefore, added, deleted, setAt, observedSet, onSet, noted}
-use Rattle.observed.specs.Inverse.{gives, paramOf, placeBound, factBound, atomOf, mark, marks, atomsIn, unbound, sameFact, sameFacts, unboundChanged}
+use Rattle.observed.specs.Inverse.{gives, paramOf, placeBound, factBound, atomOf, mark, marks, atomsIn, unbound, alone, inOneAlone, someFact, unboundChanged}
 
 abbrev roll : ℕ → ℕ → ℕ → Binding
 roll bank from to = record { objects = record { 0 = bank } ∷ record { 0 = from } ∷ record { 0 = to } ∷ record { 0 = 0 } ∷ [] }
@@ -37,8 +38,13 @@ roll-right :
     × (atomsIn lacking (roll 1 2 3) (fact 1 1 2 ∷ fact 2 3 0 ∷ []) ≡ (2 ∷ []) ++ replicate 31 0)
     × (unboundChanged lacking (roll 1 2 3) (fact 1 1 2 ∷ fact 2 3 0 ∷ []) (fact 1 1 3 ∷ fact 2 2 0 ∷ []) ≡ true)
     × (unboundChanged lacking (roll 1 2 3) (fact 1 1 2 ∷ fact 2 3 0 ∷ []) (fact 1 1 3 ∷ fact 2 2 0 ∷ fact 2 3 0 ∷ []) ≡ false)
-unfolding objectOf bitOf testBit setBit empty gives paramOf placeBound factBound atomOf mark marks atomsIn unbound sameFact sameFacts unboundChanged
+unfolding objectOf bitOf testBit setBit empty gives paramOf placeBound factBound atomOf mark marks atomsIn unbound precedes alone inOneAlone someFact unboundChanged
 roll-right = (refl, refl, refl, refl, refl, refl, refl)
+
+-- a fact that stands in one list alone does not end the comparison
+alone-right : inOneAlone (fact 1 1 2 ∷ fact 2 3 0 ∷ fact 2 4 0 ∷ []) (fact 1 1 3 ∷ fact 2 3 0 ∷ []) ≡ fact 1 1 2 ∷ fact 1 1 3 ∷ fact 2 4 0 ∷ []
+unfolding precedes alone inOneAlone
+alone-right = refl
 
 -- ---- two steps, in either sequence
 

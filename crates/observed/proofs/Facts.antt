@@ -1,13 +1,14 @@
--- Two facts, or two lists of facts, that the test finds to be the same are the same, and the other way round.
-use mathlib.Core.Path.{_≡_, refl, ap₂}
+-- Two facts that the test finds to be the same are the same, and the other way round; and the facts that stand in one of two lists alone.
+use mathlib.Core.Path.{_≡_, refl}
 use mathlib.Core.Bool.{true, false, _&&_}
-use mathlib.Core.List.{List, [], _∷_}
+use mathlib.Core.List.{List, _∷_}
 use lib.Dec.{eqb}
 use borrow.Author.Tests.{eqb-true, eq-eqb}
-use Rattle.truth.specs.Bools.{clash, and-in, and-out}
+use Rattle.truth.specs.Bools.{and-out}
 use Rattle.terms.specs.declared.Fact.{Fact}
+use Rattle.terms.specs.Facts.{precedes}
 use Rattle.terms.proofs.Atoms.{fact-path}
-use Rattle.observed.specs.Inverse.{sameFact, sameFacts}
+use Rattle.observed.specs.Inverse.{sameFact, alone, inOneAlone}
 
 pub same-fact : (f g : Fact) → sameFact f g ≡ true → f ≡ g
 unfolding sameFact
@@ -20,16 +21,17 @@ pub fact-same : (f : Fact) → sameFact f f ≡ true
 unfolding sameFact
 fact-same f = rw (eq-eqb (f .relation .0) _ refl, eq-eqb (f .first .0) _ refl, eq-eqb (f .second .0) _ refl)
 
-pub same-facts : (fs gs : List Fact) → sameFacts fs gs ≡ true → fs ≡ gs
-unfolding sameFacts
-same-facts [] [] e = refl
-same-facts [] (g ∷ gs) e = clash false e refl
-same-facts (f ∷ fs) [] e = clash false e refl
-same-facts (f ∷ fs) (g ∷ gs) e =
-    let (h, t) = and-out (sameFact f g) (sameFacts fs gs) e in
-    ap₂ (λ (x : Fact) (xs : List Fact). x ∷ xs) (same-fact f g h) (same-facts fs gs t)
+-- ---- the facts in one list alone, by the next ones of both
 
-pub facts-same : (fs : List Fact) → sameFacts fs fs ≡ true
-unfolding sameFacts
-facts-same [] = refl
-facts-same (f ∷ fs) = and-in _ _ (fact-same f) (facts-same fs)
+module _ (f : Fact) (fs : List Fact) (g : Fact) (gs : List Fact) where
+  pub alone-before : precedes f g ≡ true → inOneAlone (f ∷ fs) (g ∷ gs) ≡ f ∷ inOneAlone fs (g ∷ gs)
+  unfolding inOneAlone alone
+  alone-before e = rw e
+
+  pub alone-after : precedes f g ≡ false → precedes g f ≡ true → inOneAlone (f ∷ fs) (g ∷ gs) ≡ g ∷ inOneAlone (f ∷ fs) gs
+  unfolding inOneAlone alone
+  alone-after e d = rw (e, d)
+
+pub alone-both : (f : Fact) (fs gs : List Fact) → precedes f f ≡ false → inOneAlone (f ∷ fs) (f ∷ gs) ≡ inOneAlone fs gs
+unfolding inOneAlone alone
+alone-both f fs gs e = rw e

@@ -10,6 +10,7 @@ use Rattle.mask.specs.Sets.{empty}
 use Rattle.terms.specs.declared.Object.{Object}
 use Rattle.terms.specs.declared.Binding.{Binding}
 use Rattle.terms.specs.declared.Fact.{Fact}
+use Rattle.terms.specs.Facts.{precedes}
 use Rattle.terms.specs.Steps.{objectOf}
 use Rattle.model.specs.Quantify.{any}
 
@@ -54,15 +55,25 @@ unbound atoms b (f ∷ fs) = cond (factBound atoms b f) (unbound atoms b fs) (f 
 unfoldable pub sameFact : Fact → Fact → Bool
 sameFact f g = eqb (f .relation .0) (g .relation .0) && eqb (f .first .0) (g .first .0) && eqb (f .second .0) (g .second .0)
 
-unfoldable pub sameFacts : List Fact → List Fact → Bool
-sameFacts [] [] = true
-sameFacts [] (g ∷ gs) = false
-sameFacts (f ∷ fs) [] = false
-sameFacts (f ∷ fs) (g ∷ gs) = sameFact f g && sameFacts fs gs
+-- the facts that stand in one alone of f ∷ fs and a list, both in order, where `more` says it of fs and a list: of the next two facts, if they differ, the one
+-- that precedes stands in its list alone, and the other is compared with those that follow
+unfoldable pub alone : Fact → List Fact → (List Fact → List Fact) → List Fact → List Fact
+alone f fs more [] = f ∷ fs
+alone f fs more (g ∷ gs) = cond (precedes f g) (f ∷ more (g ∷ gs)) (cond (precedes g f) (g ∷ alone f fs more gs) (more gs))
 
--- row 11, for facts in order: what is no bound fact did not stay as it was
+-- the facts that stand in one alone of two lists in order (symmetric difference), by a merge. It is `toggled` of format where the second list is in order, which
+-- is not known of a list that is still being looked over.
+unfoldable pub inOneAlone : List Fact → List Fact → List Fact
+inOneAlone [] gs = gs
+inOneAlone (f ∷ fs) gs = alone f fs (λ l. inOneAlone fs l) gs
+
+unfoldable pub someFact : List Fact → Bool
+someFact [] = false
+someFact (f ∷ fs) = true
+
+-- row 11, for facts in order: some fact that is no bound fact holds before the step alone, or after it alone
 unfoldable pub unboundChanged : List ℕ → Binding → List Fact → List Fact → Bool
-unboundChanged atoms b pre post = not (sameFacts (unbound atoms b pre) (unbound atoms b post))
+unboundChanged atoms b pre post = someFact (inOneAlone (unbound atoms b pre) (unbound atoms b post))
 
 -- ---- facts that turn
 

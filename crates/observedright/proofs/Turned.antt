@@ -1,14 +1,14 @@
 -- A right step whose list has the facts that turn: its bound facts before and after it, and row 11, from the mask of the state before it and the list.
 use Prim.Native.Nat.{ℕ, _≤_, _<_}
 use native.Mathlib.Omega.{arith}
-use mathlib.Core.Path.{_≡_, refl, sym, _∙_, subst}
-use mathlib.Core.Logic.{_⊎_, inl, inr}
+use mathlib.Core.Path.{_≡_, refl, sym, _∙_}
+use mathlib.Core.Logic.{_⊎_, inl, inr, _↔_}
 use mathlib.Core.Bool.{Bool, true, false, cond, _&&_, not}
 use mathlib.Core.List.{List, [], _∷_}
 use lib.Dec.{eqb}
 use lib.ListN.{length}
 use borrow.Author.Tests.{not-true}
-use Rattle.truth.specs.Bools.{clash, is-true, is-false, bool-eq, not-in}
+use Rattle.truth.specs.Bools.{bool-eq, not-in}
 use Rattle.mask.specs.Bits.{testBit, flipBit, Bytes}
 use Rattle.mask.specs.Sets.{maskOf}
 use Rattle.mask.proofs.Whole.{mask-ext, is-maskOf, test-maskOf}
@@ -26,17 +26,16 @@ use Rattle.model.specs.Quantify.{Mem, here, there, any}
 use Rattle.model.proofs.Quantify.{any-in, any-out}
 use Rattle.jobs.specs.Planning.{holding}
 use Rattle.atoms.specs.Atoms.{atomSet}
-use Rattle.observed.specs.Inverse.{factBound, atomOf, atomsIn, unbound, sameFacts, unboundChanged, turnMark, turnMarks, someUnbound}
-use Rattle.observed.proofs.Facts.{same-facts, facts-same}
+use Rattle.observed.specs.Inverse.{factBound, atomOf, atomsIn, unboundChanged, turnMark, turnMarks, someUnbound}
 use Rattle.observed.proofs.Observe.{length-atomsIn, bytes-atomsIn}
 use Rattle.wellformed.specs.Right.{Increasing, RightStep}
 use Rattle.wellformed.proofs.Atoms.{ground-below}
-use Rattle.wellformed.proofs.Sorted.{sorted, mem-decide, same-members}
+use Rattle.wellformed.proofs.Sorted.{mem-decide}
 use Rattle.wellformed.proofs.Toggled.{increasing-after, toggle-increasing, toggle-from, toggled-increasing, OneOf, toggled-mem}
 use Rattle.wellformed.proofs.Turned.{holding-toggle}
 use Rattle.observedright.proofs.Atoms.{found, found-out}
 use Rattle.observedright.proofs.States.{atoms-found}
-use Rattle.observedright.proofs.Unbound.{unbound-in, unbound-out, sorted-unbound}
+use Rattle.observedright.proofs.Unbound.{changed-in, changed-out}
 
 module _ (sch : Schema) (known : sch .relations ≤ maxRelations) (ob : TypedObjects) (few : ob .count ≤ maxObjects) (st : Step) (right : RightStep sch ob st) where
   abbrev own : List ℕ
@@ -119,45 +118,46 @@ module _ (sch : Schema) (known : sch .relations ≤ maxRelations) (ob : TypedObj
 
 -- ---- row 11, for any set of bound facts
 module _ (atoms : List ℕ) (b : Binding) (fs ts : List Fact) (order : Increasing noFact fs) (order′ : Increasing noFact ts) where
-  -- a fact that turns and is no bound fact is left over of one of the two states alone
-  left-over : (t : Fact) → Mem t ts → factBound atoms b t ≡ false → unbound atoms b fs ≡ unbound atoms b (toggled fs ts) → ⊥
-  left-over t m e same = go (mem-decide t fs)
-    where
-      go : Dec (Mem t fs) → ⊥
-      go (yes k) = both (toggled-mem noFact fs ts order order′ t .0 (unbound-out atoms b (toggled fs ts) (subst (Mem t) same (unbound-in atoms b fs k e)) .0))
-        where
-          both : OneOf (Mem t fs) (Mem t ts) → ⊥
-          both (inl h) = h .1 m
-          both (inr h) = h .0 k
-      go (no k) = k (unbound-out atoms b fs (subst (Mem t) (sym same) (unbound-in atoms b (toggled fs ts) (toggled-mem noFact fs ts order order′ t .1 (inr (k, m))) e)) .0)
+  turned-order : Increasing noFact (toggled fs ts)
+  turned-order = toggled-increasing noFact fs ts order order′
 
-  -- where every fact that turns is a bound fact, the others stay
-  none-over : any (λ f. not (factBound atoms b f)) ts ≡ false → unbound atoms b fs ≡ unbound atoms b (toggled fs ts)
-  none-over none =
-      same-members (unbound atoms b fs) (unbound atoms b (toggled fs ts)) (sorted-unbound atoms b fs (sorted noFact fs order))
-      (sorted-unbound atoms b (toggled fs ts) (sorted noFact (toggled fs ts) (toggled-increasing noFact fs ts order order′)))
-      (λ f m.
-      let (k, e) = unbound-out atoms b fs m in
-      unbound-in atoms b (toggled fs ts) (toggled-mem noFact fs ts order order′ f .1 (inl (k, λ l. stays f l e))) e)
-      (λ f m.
-      let (k, e) = unbound-out atoms b (toggled fs ts) m in
-      unbound-in atoms b fs (from f e (toggled-mem noFact fs ts order order′ f .0 k)) e)
-    where
-      stays : (f : Fact) → Mem f ts → factBound atoms b f ≡ false → ⊥
-      stays f l e = clash _ (any-in (λ g. not (factBound atoms b g)) ts l (not-in _ e)) none
+  turned-mem : (f : Fact) → Mem f (toggled fs ts) ↔ OneOf (Mem f fs) (Mem f ts)
+  turned-mem = toggled-mem noFact fs ts order order′
 
-      from : (f : Fact) → factBound atoms b f ≡ false → OneOf (Mem f fs) (Mem f ts) → Mem f fs
-      from f e (inl h) = h .0
-      from f e (inr h) = absurd (stays f (h .1) e)
+  -- a fact turns exactly if it is in one alone of the two states
+  turns-one : (t : Fact) → Mem t ts → OneOf (Mem t fs) (Mem t (toggled fs ts))
+  turns-one t m = go (mem-decide t fs)
+    where
+      never : Mem t fs → OneOf (Mem t fs) (Mem t ts) → ⊥
+      never k (inl h) = h .1 m
+      never k (inr h) = h .0 k
+
+      go : Dec (Mem t fs) → OneOf (Mem t fs) (Mem t (toggled fs ts))
+      go (yes k) = inl (k, λ l. never k (turned-mem t .0 l))
+      go (no k) = inr (k, turned-mem t .1 (inr (k, m)))
+
+  one-turns : (t : Fact) → OneOf (Mem t fs) (Mem t (toggled fs ts)) → Mem t ts
+  one-turns t (inl (k, a)) = go (mem-decide t ts)
+    where
+      go : Dec (Mem t ts) → Mem t ts
+      go (yes m) = m
+      go (no c) = absurd (a (turned-mem t .1 (inl (k, c))))
+  one-turns t (inr (a, m)) = go (turned-mem t .0 m)
+    where
+      go : OneOf (Mem t fs) (Mem t ts) → Mem t ts
+      go (inl h) = absurd (a (h .0))
+      go (inr h) = h .1
 
   pub some-unbound : someUnbound atoms b ts ≡ unboundChanged atoms b fs (toggled fs ts)
-  unfolding someUnbound unboundChanged
+  unfolding someUnbound
   some-unbound = bool-eq _ _ into out
     where
-      into : any (λ f. not (factBound atoms b f)) ts ≡ true → not (sameFacts (unbound atoms b fs) (unbound atoms b (toggled fs ts))) ≡ true
+      into : any (λ f. not (factBound atoms b f)) ts ≡ true → unboundChanged atoms b fs (toggled fs ts) ≡ true
       into e =
           let (t, m, h) = any-out (λ f. not (factBound atoms b f)) ts e in
-          not-in _ (is-false _ (λ same. left-over t m (not-true _ h) (same-facts _ _ same)))
+          changed-in atoms b fs (toggled fs ts) order turned-order t (not-true _ h) (turns-one t m)
 
-      out : not (sameFacts (unbound atoms b fs) (unbound atoms b (toggled fs ts))) ≡ true → any (λ f. not (factBound atoms b f)) ts ≡ true
-      out e = is-true _ (λ none. clash (sameFacts (unbound atoms b fs) (unbound atoms b (toggled fs ts))) (rw (← none-over none) (facts-same (unbound atoms b fs))) (not-true _ e))
+      out : unboundChanged atoms b fs (toggled fs ts) ≡ true → any (λ f. not (factBound atoms b f)) ts ≡ true
+      out e =
+          let (t, h, one) = changed-out atoms b fs (toggled fs ts) order turned-order e in
+          any-in (λ f. not (factBound atoms b f)) ts (one-turns t one) (not-in _ h)

@@ -1,35 +1,35 @@
--- Row 11 of one right step: the facts that are no bound facts stayed as they were, exactly if no such fact changed its value.
+-- Row 11 of one right step: a fact that is no bound fact is in one of the two states alone, exactly if such a fact changed its value.
 use Prim.Native.Nat.{ℕ, _*_, _≤_, _<_}
 use native.Mathlib.Omega.{arith}
-use mathlib.Core.Path.{_≡_, refl, sym, ap, _∙_}
-use mathlib.Core.Bool.{Bool, true, false, _&&_, not}
+use mathlib.Core.Path.{_≡_, sym, ap, _∙_}
+use mathlib.Core.Logic.{_⊎_, inl, inr}
+use mathlib.Core.Bool.{Bool, true, false, _&&_}
 use mathlib.Core.List.{List}
 use lib.Dec.{eqb}
-use borrow.Author.Tests.{eqb-true, eq-eqb, not-false, not-true}
-use Rattle.truth.specs.Bools.{clash, is-true, bool-eq, and-in, and-out, not-in}
+use borrow.Author.Tests.{eqb-true, eq-eqb}
+use Rattle.truth.specs.Bools.{clash, decide, bool-eq, and-in, and-out}
 use Rattle.terms.specs.declared.Step.{Step}
 use Rattle.terms.specs.declared.Fact.{Fact}
 use Rattle.terms.specs.Schema.{Schema, TypedObjects}
-use Rattle.terms.specs.Facts.{factBad, factNumber, noFact}
+use Rattle.terms.specs.Facts.{factBad, factNumber}
 use Rattle.terms.specs.Steps.{isAtom, ground}
 use Rattle.terms.proofs.Atoms.{atom-below}
 use Rattle.limits.specs.Limits.{maxRelations, maxObjects}
 use Rattle.format.specs.Decode.{RecordedStep}
-use Rattle.model.specs.Quantify.{same, below, Mem}
+use Rattle.model.specs.Quantify.{below, Mem}
 use Rattle.model.specs.Model.{image}
 use Rattle.model.specs.Learned.{unboundEffect}
-use Rattle.model.proofs.Truth.{same-in, same-out}
 use Rattle.model.proofs.Quantify.{below-in, below-out}
+use Rattle.model.proofs.Rows as rows
 use Rattle.jobs.specs.Planning.{domain, holding, groundAction, transition}
 use Rattle.atoms.specs.Atoms.{atomSet}
-use Rattle.observed.specs.Inverse.{factBound, unbound, sameFacts, unboundChanged}
-use Rattle.observed.proofs.Facts.{same-facts, facts-same}
+use Rattle.observed.specs.Inverse.{factBound, unboundChanged}
 use Rattle.wellformed.specs.Right.{RightStep, Right}
 use Rattle.wellformed.proofs.Numbers.{number-below, number-injective}
 use Rattle.wellformed.proofs.Holding.{holding-in, holding-out}
 use Rattle.observedright.proofs.Atoms.{atomsOf, found-in, found-out}
-use Rattle.wellformed.proofs.Sorted.{sorted, same-members}
-use Rattle.observedright.proofs.Unbound.{unbound-in, unbound-out, sorted-unbound}
+use Rattle.wellformed.proofs.Toggled.{OneOf}
+use Rattle.observedright.proofs.Unbound.{changed-in, changed-out}
 
 -- the fact is that of a bound fact of the step
 pub imaged : Schema → Step → ℕ → Bool
@@ -55,44 +55,31 @@ module _ (sch : Schema) (relations : sch .relations ≤ maxRelations) (ob : Type
           let (atom, grounds) = and-out (isAtom sch (st .action .0) n) (eqb (ground sch (st .binding) n) (factNumber f)) h in
           found-in sch ob st right few f good n (omega arith) atom (eqb-true _ _ grounds) .0
 
-  module _ (fs gs : List Fact) (suit : (f : Fact) → Mem f fs → factBad sch ob f ≡ false) (suit′ : (f : Fact) → Mem f gs → factBad sch ob f ≡ false) where
-    -- where the facts left over are among the others, what is no bound fact and holds, holds in the others
-    holds-too : ((f : Fact) → Mem f (unbound (atomsOf sch ob st right) (st .binding) fs) → Mem f (unbound (atomsOf sch ob st right) (st .binding) gs))
-        → (x : ℕ) → imaged sch st x ≡ false → holding fs x ≡ true → holding gs x ≡ true
-    holds-too into x off h =
-        let (f, m, e) = holding-out fs x h in
-        let u : factBound (atomsOf sch ob st right) (st .binding) f ≡ false = bound-image f (suit f m) ∙ ap (imaged sch st) e ∙ off in
-        let k = unbound-out (atomsOf sch ob st right) (st .binding) gs (into f (unbound-in (atomsOf sch ob st right) (st .binding) fs m u)) .0 in
-        rw e at (holding-in gs k)
+  -- a fact in the first alone of two states that suit holds there alone
+  alone-holds : (fs gs : List Fact) → ((g : Fact) → Mem g gs → factBad sch ob g ≡ false)
+      → (f : Fact) → factBad sch ob f ≡ false → Mem f fs → (Mem f gs → ⊥) → holding fs (factNumber f) ≡ holding gs (factNumber f) → ⊥
+  alone-holds fs gs suit f good m away same =
+      let (g, l, e) = holding-out gs (factNumber f) (sym same ∙ holding-in fs m) in
+      away (rw (number-injective sch ob few g f (suit g l) good e) at l)
 
-    -- where nothing but bound facts changed, the facts left over are among the others
-    left-too : ((x : ℕ) → x < 256 * sch .relations → imaged sch st x ≡ false → holding fs x ≡ holding gs x)
-        → (f : Fact) → Mem f (unbound (atomsOf sch ob st right) (st .binding) fs) → Mem f (unbound (atomsOf sch ob st right) (st .binding) gs)
-    left-too stay f m =
-        let (k, u) = unbound-out (atomsOf sch ob st right) (st .binding) fs m in
-        let off : imaged sch st (factNumber f) ≡ false = sym (bound-image f (suit f k)) ∙ u in
-        let h = sym (stay (factNumber f) (number-below sch ob few f (suit f k)) off) ∙ holding-in fs k in
-        let (g, l, e) = holding-out gs (factNumber f) h in
-        let q : g ≡ f = number-injective sch ob few g f (suit′ g l) (suit f k) e in
-        unbound-in (atomsOf sch ob st right) (st .binding) gs (rw q at l) u
+  -- what holds in the first alone is a fact in it alone, and no bound fact if its number is none's
+  holds-alone : (fs gs : List Fact) → ((g : Fact) → Mem g fs → factBad sch ob g ≡ false) → (x : ℕ) → imaged sch st x ≡ false → holding fs x ≡ true → holding gs x ≡ false
+      → (f : Fact) × (factBound (atomsOf sch ob st right) (st .binding) f ≡ false) × Mem f fs × (Mem f gs → ⊥)
+  holds-alone fs gs suit x off here-x gone =
+      let (f, m, e) = holding-out fs x here-x in
+      (f, bound-image f (suit f m) ∙ ap (imaged sch st) e ∙ off, m, λ l. clash (holding gs x) (rw e at (holding-in gs l)) gone)
 
 module _ (sch : Schema) (relations : sch .relations ≤ maxRelations) (ob : TypedObjects) (few : ob .count ≤ maxObjects) (f : RecordedStep) (right : Right sch ob f) where
-  differs : ℕ → Bool
-  differs x = not (same (holding (f .pre) x) (holding (f .post) x)) && not (imaged sch (f .step) x)
+  abbrev changes : Bool
+  changes = unboundChanged (atomSet sch (f .step .action .0)) (f .step .binding) (f .pre) (f .post)
 
-  unbound-differs : unboundEffect (domain sch) (transition sch f) ≡ below (256 * sch .relations) differs
-  unfolding unboundEffect domain transition groundAction differs imaged
-  unbound-differs = refl
+  abbrev Unbound : Fact → Type 0
+  Unbound g = factBound (atomSet sch (f .step .action .0)) (f .step .binding) g ≡ false
 
-  left : List Fact
-  left = unbound (atomSet sch (f .step .action .0)) (f .step .binding) (f .pre)
-
-  left′ : List Fact
-  left′ = unbound (atomSet sch (f .step .action .0)) (f .step .binding) (f .post)
-
-  unbound-changed-differs : unboundChanged (atomSet sch (f .step .action .0)) (f .step .binding) (f .pre) (f .post) ≡ below (256 * sch .relations) differs
-  unfolding unboundChanged differs left left′
-  unbound-changed-differs = bool-eq _ _ (λ e. is-true _ (none e)) (λ e. is-true _ (some e))
+  -- Row 11 found from the facts is row 11 of the transition.
+  pub unbound-changed-right : changes ≡ unboundEffect (domain sch) (transition sch f)
+  unfolding domain transition imaged groundAction
+  unbound-changed-right = bool-eq _ _ into out
     where
       suit : (g : Fact) → Mem g (f .pre) → factBad sch ob g ≡ false
       suit = right .pre .suits
@@ -100,31 +87,36 @@ module _ (sch : Schema) (relations : sch .relations ≤ maxRelations) (ob : Type
       suit′ : (g : Fact) → Mem g (f .post) → factBad sch ob g ≡ false
       suit′ = right .post .suits
 
-      stays : below (256 * sch .relations) differs ≡ false → (x : ℕ) → x < 256 * sch .relations → imaged sch (f .step) x ≡ false
-          → holding (f .pre) x ≡ holding (f .post) x
-      stays e x l off = same-out _ _ (is-true _ (λ d. clash _ (below-in _ differs x l (and-in _ _ (not-in _ d) (not-in _ off))) e))
+      effect : (g : Fact) → factBad sch ob g ≡ false → Unbound g → (holding (f .pre) (factNumber g) ≡ holding (f .post) (factNumber g) → ⊥)
+          → unboundEffect (domain sch) (transition sch f) ≡ true
+      effect g good e turns =
+          rows.unbound-in (domain sch) (transition sch f) (factNumber g) (number-below sch ob few g good) turns
+          (sym (bound-image sch relations ob few (f .step) (right .step) g good) ∙ e)
 
-      none : not (sameFacts left left′) ≡ true → below (256 * sch .relations) differs ≡ false → ⊥
-      none e h =
-          let q : left ≡ left′ =
-          same-members left left′ (sorted-unbound _ _ _ (sorted noFact (f .pre) (right .pre .increasing)))
-          (sorted-unbound _ _ _ (sorted noFact (f .post) (right .post .increasing)))
-          (left-too sch relations ob few (f .step) (right .step) (f .pre) (f .post) suit suit′ (stays h))
-          (left-too sch relations ob few (f .step) (right .step) (f .post) (f .pre) suit′ suit (λ x l off. sym (stays h x l off))) in
-          clash (sameFacts left left′) (ap (sameFacts left) (sym q) ∙ facts-same left) (not-true _ e)
+      into : changes ≡ true → unboundEffect (domain sch) (transition sch f) ≡ true
+      into h =
+          let (g, e, one) = changed-out _ _ _ _ (right .pre .increasing) (right .post .increasing) h in
+          go g e one
+        where
+          go : (g : Fact) → Unbound g → OneOf (Mem g (f .pre)) (Mem g (f .post)) → unboundEffect (domain sch) (transition sch f) ≡ true
+          go g e (inl (m, a)) = effect g (suit g m) e (alone-holds sch relations ob few (f .step) (right .step) (f .pre) (f .post) suit′ g (suit g m) m a)
+          go g e (inr (a, m)) = effect g (suit′ g m) e (λ q. alone-holds sch relations ob few (f .step) (right .step) (f .post) (f .pre) suit g (suit′ g m) m a (sym q))
 
-      some : below (256 * sch .relations) differs ≡ true → not (sameFacts left left′) ≡ false → ⊥
-      some e h =
-          let q : left ≡ left′ = same-facts left left′ (not-false _ h) in
-          let (x, l, d) = below-out _ differs e in
-          let (turned, away) = and-out (not (same (holding (f .pre) x) (holding (f .post) x))) (not (imaged sch (f .step) x)) d in
-          let off = not-true _ away in
-          let z : holding (f .pre) x ≡ holding (f .post) x =
-          bool-eq _ _
-          (holds-too sch relations ob few (f .step) (right .step) (f .pre) (f .post) suit suit′ (λ g m. rw q at m) x off)
-          (holds-too sch relations ob few (f .step) (right .step) (f .post) (f .pre) suit′ suit (λ g m. rw (← q) at m) x off) in
-          clash _ (same-in _ _ z) (not-true _ turned)
+      out : unboundEffect (domain sch) (transition sch f) ≡ true → changes ≡ true
+      out h =
+          let (x, turns, off) = rows.unbound-out (domain sch) (transition sch f) h in
+          go x turns off (decide (holding (f .pre) x)) (decide (holding (f .post) x))
+        where
+          changed : (g : Fact) → Unbound g → OneOf (Mem g (f .pre)) (Mem g (f .post)) → changes ≡ true
+          changed = changed-in _ _ _ _ (right .pre .increasing) (right .post .increasing)
 
-  -- Row 11 found from the facts is row 11 of the transition.
-  pub unbound-changed-right : unboundChanged (atomSet sch (f .step .action .0)) (f .step .binding) (f .pre) (f .post) ≡ unboundEffect (domain sch) (transition sch f)
-  unbound-changed-right = unbound-changed-differs ∙ sym unbound-differs
+          go : (x : ℕ) → (holding (f .pre) x ≡ holding (f .post) x → ⊥) → imaged sch (f .step) x ≡ false
+              → (holding (f .pre) x ≡ true) ⊎ (holding (f .pre) x ≡ false) → (holding (f .post) x ≡ true) ⊎ (holding (f .post) x ≡ false) → changes ≡ true
+          go x turns off (inl p) (inl q) = absurd (turns (p ∙ sym q))
+          go x turns off (inr p) (inr q) = absurd (turns (p ∙ sym q))
+          go x turns off (inl p) (inr q) =
+              let (g, e, m, a) = holds-alone sch relations ob few (f .step) (right .step) (f .pre) (f .post) suit x off p q in
+              changed g e (inl (m, a))
+          go x turns off (inr p) (inl q) =
+              let (g, e, m, a) = holds-alone sch relations ob few (f .step) (right .step) (f .post) (f .pre) suit′ x off q p in
+              changed g e (inr (a, m))
