@@ -1,5 +1,5 @@
 -- Row 11 of one right step: a fact that is no bound fact is in one of the two states alone, exactly if such a fact changed its value.
-use Prim.Native.Nat.{ℕ, _*_, _≤_, _<_}
+use Prim.Native.Nat.{ℕ, _*_, _≤_}
 use native.Mathlib.Omega.{arith}
 use mathlib.Core.Path.{_≡_, sym, ap, _∙_}
 use mathlib.Core.Logic.{_⊎_, inl, inr}
