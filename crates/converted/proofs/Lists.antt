@@ -12,6 +12,7 @@ use Rattle.terms.specs.declared.Fact.{Fact}
 use Rattle.terms.specs.Schema.{Schema, TypedObjects}
 use Rattle.terms.specs.Facts.{factBad, noFact}
 use Rattle.limits.specs.Limits.{countSize, factSize}
+use Rattle.format.specs.Filed.{asWritten}
 use Rattle.format.specs.States.{cut, countBad, factRefused, facts, list}
 use Rattle.jobs.specs.Convert.{factsBytes, listBytes}
 use Rattle.model.specs.Quantify.{Mem, here, there}
@@ -21,7 +22,7 @@ use Rattle.converted.proofs.Rendered.{fact-read, facts-behind, length-l
 
 module _ (num : ℕ) (sch : Schema) (ob : TypedObjects) (t : List ℕ) (end : ℕ) where
   facts-in : (fs : List Fact) (last : Fact) (at : ℕ) → Stands (factsBytes fs) t at → ((f : Fact) → Mem f fs → factBad sch ob f ≡ false) → Increasing last fs
-      → at + factSize * length fs ≤ end → facts num sch ob t end (length fs) last at ≡ Good (at + factSize * length fs)
+      → at + factSize * length fs ≤ end → facts asWritten num sch ob t end (length fs) last at ≡ Good (at + factSize * length fs)
   unfolding facts factRefused cut
   facts-in [] last at h suits order l = ap Good (omega arith)
   facts-in (f ∷ fs) last at h suits order l =
@@ -30,7 +31,7 @@ module _ (num : ℕ) (sch : Schema) (ob : TypedObjects) (t : List ℕ) (end : �
 
   -- A rendered list is of good form.
   pub list-in : (most : ℕ) (fs : List Fact) (at : ℕ) → Stands (listBytes fs) t at → ((f : Fact) → Mem f fs → factBad sch ob f ≡ false) → Increasing noFact fs
-      → length fs ≤ most → most < 65536 → at + length (listBytes fs) ≤ end → list num most sch ob t end at ≡ Good (at + length (listBytes fs))
+      → length fs ≤ most → most < 65536 → at + length (listBytes fs) ≤ end → list asWritten num most sch ob t end at ≡ Good (at + length (listBytes fs))
   unfolding list countBad cut
   list-in most fs at h suits order few small l =
       let n = length-listBytes fs in

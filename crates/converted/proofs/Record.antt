@@ -19,6 +19,7 @@ use Rattle.terms.specs.Schema.{schema, typedObjects, outOfRange}
 use Rattle.terms.specs.Typing.{Falling}
 use Rattle.terms.specs.Agree.{SameSchema}
 use Rattle.terms.proofs.Agree.{SameObjects, fact-over}
+use Rattle.format.specs.Filed.{filedFact}
 use Rattle.format.specs.Lists.{listAt, listEnd}
 use Rattle.format.specs.Form.{Form}
 use Rattle.format.specs.States.{cut, state}
@@ -72,9 +73,10 @@ module _ (form to : Form) (h k : Sections) (s t : List ℕ) (at next at′ : ℕ
 
   -- in the first book the first state stands within the record, and the record within the book
   start-within : (firstAt s at ≤ listEnd s (firstAt s at)) × (listEnd s (firstAt s at) ≤ at + lengthIn s at) × (at + lengthIn s at ≤ length s)
-  start-within = (low-end s (firstAt s at), list-ends maxFacts 8 _ _ s (at + lengthIn s at) _ _ (was .start) .1, head-limits s at (was .head) .2)
+  start-within = (low-end s (firstAt s at), list-ends _ maxFacts 8 _ _ s (at + lengthIn s at) _ _ (was .start) .1, head-limits s at (was .head) .2)
 
   start-right : RightState (schema h s) (typedObjects (objectsOf s at) s) (listAt s (firstAt s at))
+  unfolding filedFact
   start-right = state-right 8 _ _ s _ _ _ (was .start)
 
   -- the objects, the first state and the steps, each where it stands now
@@ -152,8 +154,8 @@ module _ (form to : Form) (h k : Sections) (s t : List ℕ) (at next at′ : ℕ
 
   module _ (kinds : h .kinds ≡ k .kinds) (same : SameSchema (schema h s) (schema k t)) (fall : Falling (schema h s)) where
     start-in : at′ + length (recordIn form to s at) ≤ at′ + lengthIn t at′
-        → state 8 (schema k t) (typedObjects (objectsOf t at′) t) t (at′ + lengthIn t at′) (firstAt t at′) ≡ Good (listEnd t (firstAt t at′))
-    unfolding schema
+        → state (filedFact to) 8 (schema k t) (typedObjects (objectsOf t at′) t) t (at′ + lengthIn t at′) (firstAt t at′) ≡ Good (listEnd t (firstAt t at′))
+    unfolding schema filedFact
     start-in l =
         let e = parts .end in
         list-in 8 (schema k t) (typedObjects (objectsOf t at′) t) t (at′ + lengthIn t at′) maxFacts (listAt s (firstAt s at)) (firstAt t at′) (parts .first)

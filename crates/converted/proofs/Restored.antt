@@ -16,6 +16,7 @@ use Rattle.terms.specs.declared.Sections.{Sections}
 use Rattle.terms.specs.declared.Fact.{Fact}
 use Rattle.terms.specs.Schema.{Schema, TypedObjects}
 use Rattle.terms.specs.Facts.{factAt}
+use Rattle.format.specs.Filed.{filedFact}
 use Rattle.format.specs.Lists.{factsAt, listAt, listEnd}
 use Rattle.format.specs.Form.{Form, mostListed, stateAfter}
 use Rattle.format.specs.Records.{objectsIn, stepsIn, lengthIn, step, steps, recordAt}
@@ -90,7 +91,7 @@ module _ (s : List ℕ) (bytes : Bytes s) where
 module _ (form : Form) (sch : Schema) (ob : TypedObjects) (s : List ℕ) (end : ℕ) where
   list-again : (before : List Fact) (at next : ℕ) → step form sch ob s end before at ≡ Good next → RightState sch ob before
       → listed form (recordedStep form s before at) ≡ listAt s (at + stepSize)
-  unfolding recordedStep
+  unfolding recordedStep filedFact
   list-again before at next e right =
       let behind = next-good form sch ob s end before (at + stepSize) next (step-good form sch ob s end before at next e .2) .0 in
       listed-again form sch ob s (recordedStep form s before at) (at + stepSize) right (list-increasing (mostListed form) 8 sch ob s end (at + stepSize) next behind) refl
@@ -129,11 +130,11 @@ module _ (form : Form) (sch : Schema) (ob : TypedObjects) (s : List ℕ) (end : 
 module _ (form : Form) (h : Sections) (s : List ℕ) where
   record-own : (at next : ℕ) → recordAt form h s at ≡ Good next
       → (length (recordIn form form s at) ≡ lengthIn s at) × (Bytes s → Stands (recordIn form form s at) s at)
-  unfolding recordIn bodyIn stepsOfRecord
+  unfolding recordIn bodyIn stepsOfRecord filedFact
   record-own at next e =
       let g = record-good form h s at next e in
       let within = head-limits s at (g .head) .2 in
-      let reach = list-ends maxFacts 8 _ _ s (at + lengthIn s at) _ _ (g .start) .1 in
+      let reach = list-ends _ maxFacts 8 _ _ s (at + lengthIn s at) _ _ (g .start) .1 in
       let low = low-end s (firstAt s at) in
       let full = ltb-false (g .last) (at + lengthIn s at) (g .full) in
       let (up, most) = steps-within form _ _ s (at + lengthIn s at) (stepsIn s at) _ _ (g .last) reach (g .steps) in

@@ -16,7 +16,7 @@ use Rattle.terms.specs.Agree.{SameSchema}
 use Rattle.terms.proofs.Agree.{SameObjects, fact-over, step-over}
 use Rattle.limits.specs.Limits.{stepSize}
 use Rattle.format.specs.Lists.{listAt, listEnd}
-use Rattle.format.specs.Filed.{filedStepAt}
+use Rattle.format.specs.Filed.{filedStepAt, filedFact}
 use Rattle.format.specs.Form.{Form, mostListed, stateAfter}
 use Rattle.format.specs.States.{cut}
 use Rattle.format.specs.Records.{step, steps, stepRefused}
@@ -71,7 +71,7 @@ module _ (form to : Form) (S T : Schema) (same : SameSchema S T) (fall : Falling
     -- and it is good
     step-in : at′ + stepSize + length (listBytes (listed to (recordedStep form s before at))) ≤ end′
         → step to T K t end′ before at′ ≡ Good (at′ + stepSize + length (listBytes (listed to (recordedStep form s before at))))
-    unfolding step stepRefused cut recordedStep
+    unfolding step stepRefused cut recordedStep filedFact
     step-in l =
         let (suits, different, behind) = step-good form S H s end before at next good in
         let g = recordedStep form s before at in

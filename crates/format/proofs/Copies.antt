@@ -22,7 +22,7 @@ use Rattle.terms.specs.Typing.{Falling}
 use Rattle.terms.specs.Agree.{SameSchema}
 use Rattle.terms.proofs.Agree.{SameObjects, fact-over, step-over}
 use Rattle.limits.specs.Limits.{headSize, countSize, factSize, stepSize, maxFacts, maxObjects, maxSteps}
-use Rattle.format.specs.Filed.{filedStepAt}
+use Rattle.format.specs.Filed.{filedStepAt, filedFact}
 use Rattle.format.specs.Form.{Form, mostListed, stateAfter}
 use Rattle.format.specs.States.{cut, countBad, factRefused, facts, list, nextState}
 use Rattle.format.specs.Records.{objectsIn, stepsIn, lengthIn, headBad, recordHead, object, step, steps, objectsOf, recordAt, stepRefused}
@@ -57,24 +57,24 @@ module _ {s t : List ℕ} {at at′ size : ℕ} (c : Copied s at t at′ size) w
   -- ---- within a record that ends at `end`
 
   module _ (S T : Schema) (same : SameSchema S T) (fall : Falling S) (kinds : S .kinds ≡ T .kinds) (H K : TypedObjects) (typed : SameObjects (S .kinds) H K) (end end′ : ℕ) (ends : Facing at at′ end end′) (short : end ≤ at + size) where
-    facts-beside : (n : ℕ) (last : Fact) (a b next : ℕ) → Facing at at′ a b → facts 8 S H s end n last a ≡ Good next
-        → (m : ℕ) × Facing at at′ next m × (facts 8 T K t end′ n last b ≡ Good m)
+    facts-beside : (read : Fact → Fact) (n : ℕ) (last : Fact) (a b next : ℕ) → Facing at at′ a b → facts read 8 S H s end n last a ≡ Good next
+        → (m : ℕ) × Facing at at′ next m × (facts read 8 T K t end′ n last b ≡ Good m)
     unfolding facts factRefused cut
-    facts-beside zero last a b next f e = let p : a ≡ next = cc in (b, rw (← p) f, refl)
-    facts-beside (suc n) last a b next f e =
+    facts-beside read zero last a b next f e = let p : a ≡ next = cc in (b, rw (← p) f, refl)
+    facts-beside read (suc n) last a b next f e =
         let (test, rest) = passed _ _ _ _ _ e in
-        let (reach, right, order) = fact-good S H s end last a test in
+        let (reach, right, order) = fact-good read S H s end last a test in
         let i = fact-copied c a b f (omega arith) in
-        let (m, g, good) = facts-beside n (factAt s a) (a + factSize) (b + factSize) next (facing-on f factSize) rest in
-        (m, g, refuse-unmet _ _ _ _ (rw (i, le-ltb end′ (b + factSize) (omega arith), fact-over S T same fall (S .kinds) (omega arith) (omega (arith, kinds)) H K typed (factAt s a) right, order)) ∙ rw i good)
+        let (m, g, good) = facts-beside read n (read (factAt s a)) (a + factSize) (b + factSize) next (facing-on f factSize) rest in
+        (m, g, refuse-unmet _ _ _ _ (rw (i, le-ltb end′ (b + factSize) (omega arith), fact-over S T same fall (S .kinds) (omega arith) (omega (arith, kinds)) H K typed (read (factAt s a)) right, order)) ∙ rw i good)
 
-    list-beside : (most : ℕ) → Beside (list 8 most S H s end) (list 8 most T K t end′) at at′ end
+    list-beside : (read : Fact → Fact) (most : ℕ) → Beside (list read 8 most S H s end) (list read 8 most T K t end′) at at′ end
     unfolding list countBad cut
-    list-beside most a b next f l e =
+    list-beside read most a b next f l e =
         let (test, rest) = passed _ _ _ _ _ e in
         let (reach, few) = count-within most s end a test in
         let i = two-copied c a b f (omega arith) in
-        let (m, g, good) = facts-beside (two s a) noFact (a + countSize) (b + countSize) next (facing-on f countSize) rest in
+        let (m, g, good) = facts-beside read (two s a) noFact (a + countSize) (b + countSize) next (facing-on f countSize) rest in
         (m, g, refuse-unmet _ _ _ _ (rw (i, le-ltb end′ (b + countSize) (omega arith), le-ltb most (two s a) few)) ∙ rw i good)
 
     module _ (form : Form) where
@@ -86,8 +86,8 @@ module _ {s t : List ℕ} {at at′ size : ℕ} (c : Copied s at t at′ size) w
       next-beside : (before : List Fact) → Beside (nextState form S H s end before) (nextState form T K t end′ before) at at′ end
       next-beside before a b next f l e =
           let (good, few) = next-good form S H s end before a next e in
-          let reach = list-ends (mostListed form) 8 S H s end a next good .1 in
-          let (m, g, good′) = list-beside (mostListed form) a b next f l good in
+          let reach = list-ends _ (mostListed form) 8 S H s end a next good .1 in
+          let (m, g, good′) = list-beside (filedFact form) (mostListed form) a b next f l good in
           (m, g, next-in form T K t end′ before b m good′ (rw (after-beside before a b f reach) few))
 
       step-beside : (before : List Fact) → Beside (step form S H s end before) (step form T K t end′ before) at at′ end
@@ -167,13 +167,13 @@ module _ {s t : List ℕ} {at at′ size : ℕ} (c : Copied s at t at′ size) w
         let end′ : ℕ = b + lengthIn t b in
         let short : end ≤ at + size = omega arith in
         let ends : Facing at at′ end end′ = record { low = omega arith; level = omega arith } in
-        let within = list-ends maxFacts 8 _ _ s end _ _ (g .start) .1 in
+        let within = list-ends _ maxFacts 8 _ _ s end _ _ (g .start) .1 in
         let low = low-end s (firstAt s a) in
         let first : Facing at at′ (firstAt s a) (firstAt t b) = record { low = omega arith; level = omega arith } in
         let typed = typed-beside (h .kinds) a b f (omega arith) x end _ (g .objects) in
         let objects = objects-beside (h .kinds) end end′ ends short (objectsIn s a) (a + headSize) (b + headSize) _ (facing-on f headSize) (g .objects) in
-        let (m₂, f₂, start) = list-beside _ _ same fall kinds _ _ typed end end′ ends short maxFacts _ _ _ first within (g .start) in
-        let after : m₂ ≡ listEnd t (firstAt t b) = list-ends maxFacts 8 _ _ t end′ _ m₂ start .0 in
+        let (m₂, f₂, start) = list-beside _ _ same fall kinds _ _ typed end end′ ends short (filedFact form) maxFacts _ _ _ first within (g .start) in
+        let after : m₂ ≡ listEnd t (firstAt t b) = list-ends _ maxFacts 8 _ _ t end′ _ m₂ start .0 in
         let reach = steps-within form _ _ s end (stepsIn s a) _ _ (g .last) within (g .steps) .1 in
         let (m₃, f₃, steps) = steps-beside _ _ same fall kinds _ _ typed end end′ ends short form (stepsIn s a) (listAt s (firstAt s a)) _ m₂ (g .last) f₂ reach (g .steps) in
         let full : end ≤ g .last = ltb-false (g .last) end (g .full) in (
@@ -237,7 +237,7 @@ module _ {s t : List ℕ} {at at′ size : ℕ} (c : Copied s at t at′ size) w
           let r = record-good form h s a next e in
           let place = r .end in
           let limits = head-limits s a (r .head) in
-          let within = list-ends maxFacts 8 _ _ s (a + lengthIn s a) _ _ (r .start) .1 in
+          let within = list-ends _ maxFacts 8 _ _ s (a + lengthIn s a) _ _ (r .start) .1 in
           let low = low-end s (firstAt s a) in
           let (x, y, z) = head-copied c a b face (omega arith) in
           let first : Facing at at′ (firstAt s a) (firstAt t b) = record { low = omega arith; level = omega arith } in

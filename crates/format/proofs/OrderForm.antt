@@ -20,6 +20,7 @@ use Rattle.answer.specs.Bounds.{Bounded, bounded-of}
 use Rattle.terms.specs.Schema.{Schema, TypedObjects, typedObjects, outOfRange}
 use Rattle.terms.specs.Facts.{noFact}
 use Rattle.limits.specs.Limits.{headerSize, maxStarts, maxFacts, entrySize, stepSize}
+use Rattle.format.specs.Filed.{asWritten}
 use Rattle.format.specs.States.{state}
 use Rattle.format.specs.Order.{objectCount, startCount, goalCount, stepCount, startAt, goalAt, stepsAt, startsForm, fromStart, fromGoal, orderCountsBad, orderOffsetsBad, orderHeader}
 use Rattle.format.specs.Order.{orderObjects, orderObject, entries, planStep, orderForm}
@@ -32,7 +33,7 @@ use Rattle.format.proofs.Orders.{order-object-entry, plan-step-entry, g
 pub record OrderGood (sch : Schema) (o : List ℕ) (n : ℕ) : Type 0 where
   pub header : OrderHeaderGood o
   pub objects : walk (orderObject (sch .kinds) o) (objectCount o) headerSize ≡ Good (startAt o)
-  pub starts : walk (state 16 sch (typedObjects (orderObjects o) o) o (goalAt o)) (startCount o) (startAt o) ≡ Good (goalAt o)
+  pub starts : walk (state asWritten 16 sch (typedObjects (orderObjects o) o) o (goalAt o)) (startCount o) (startAt o) ≡ Good (goalAt o)
   pub goal : entries sch (typedObjects (orderObjects o) o) o (goalCount o) noFact (goalAt o) ≡ Good (stepsAt o)
   pub plan : walk (planStep sch (typedObjects (orderObjects o) o) o) (stepCount o) (stepsAt o) ≡ Good (length o)
   pub end : n ≡ length o
@@ -44,7 +45,7 @@ good-at a n m e p = rw (← p) e
 
 module _ (sch : Schema) (ob : TypedObjects) (o : List ℕ) where
   abbrev start : ℕ → Answer
-  start = state 16 sch ob o (goalAt o)
+  start = state asWritten 16 sch ob o (goalAt o)
 
   -- row 16: the starts are good, and end where the goal entries begin; so these do not begin far behind
   starts-good : (m : ℕ) → startsForm sch ob o ≡ Good m → startAt o ≤ goalAt o
@@ -52,8 +53,8 @@ module _ (sch : Schema) (ob : TypedObjects) (o : List ℕ) where
   unfolding startsForm
   starts-good m e touch =
       let (last, good, rest) = parted (walk start (startCount o) (startAt o)) m _ e in
-      let within = walk-within start (goalAt o) (list-within maxFacts 16 sch ob o (goalAt o)) (startCount o) (startAt o) last touch good in
-      let reach = items-end start 16 longestState (state-reach 16 sch ob o (goalAt o)) (state-place 16 sch ob o (goalAt o)) (startCount o) (startAt o) last good in
+      let within = walk-within start (goalAt o) (list-within asWritten maxFacts 16 sch ob o (goalAt o)) (startCount o) (startAt o) last touch good in
+      let reach = items-end start 16 longestState (state-reach asWritten 16 sch ob o (goalAt o)) (state-place asWritten 16 sch ob o (goalAt o)) (startCount o) (startAt o) last good in
       let whole = ltb-false last (goalAt o) (passed (ltb last (goalAt o)) 16 last m _ rest .0) in
       (good-at _ last (goalAt o) good (omega arith), omega arith)
 
@@ -61,9 +62,9 @@ module _ (sch : Schema) (ob : TypedObjects) (o : List ℕ) where
   unfolding startsForm
   starts-place k p e =
       refused-cases (walk start (startCount o) (startAt o)) _ k p e
-      (items-place start 16 longestState (state-reach 16 sch ob o (goalAt o)) (state-place 16 sch ob o (goalAt o)) (startCount o) (startAt o) k p)
+      (items-place start 16 longestState (state-reach asWritten 16 sch ob o (goalAt o)) (state-place asWritten 16 sch ob o (goalAt o)) (startCount o) (startAt o) k p)
       (λ last good f.
-      let reach = items-end start 16 longestState (state-reach 16 sch ob o (goalAt o)) (state-place 16 sch ob o (goalAt o)) (startCount o) (startAt o) last good in
+      let reach = items-end start 16 longestState (state-reach asWritten 16 sch ob o (goalAt o)) (state-place asWritten 16 sch ob o (goalAt o)) (startCount o) (startAt o) last good in
       row-cases (ltb last (goalAt o)) 16 last _ k p f (λ x y. (x, omega arith)) (λ unmet g. good-refused (goalAt o) k p g))
 
 -- with counts in their limits, and the goal entries after starts of at most the longest state, no section ends past the longest order

@@ -18,7 +18,7 @@ use Rattle.terms.specs.declared.Fact.{Fact}
 use Rattle.terms.specs.Schema.{Schema, TypedObjects, schema, typedObjects, outOfRange}
 use Rattle.terms.specs.Steps.{stepBad, repeats}
 use Rattle.limits.specs.Limits.{headSize, maxObjects, maxSteps, maxFacts, stepSize}
-use Rattle.format.specs.Filed.{filedStepAt}
+use Rattle.format.specs.Filed.{filedStepAt, filedFact}
 use Rattle.format.specs.Form.{Form, stateAfter}
 use Rattle.format.specs.States.{cut, state, nextState}
 use Rattle.format.specs.Records.{objectsIn, stepsIn, lengthIn, headBad, recordHead, object, step, steps, objectsOf, trajectory, body, recordAt, stepRefused, closed}
@@ -123,7 +123,7 @@ pub record RecordGood (form : Form) (h : Sections) (s : List ℕ) (at next : ℕ
   pub last : ℕ
   pub head : recordHead s at ≡ Good (at + lengthIn s at)
   pub objects : walk (object (h .kinds) s (at + lengthIn s at)) (objectsIn s at) (at + headSize) ≡ Good (firstAt s at)
-  pub start : state 8 (schema h s) (typedObjects (objectsOf s at) s) s (at + lengthIn s at) (firstAt s at) ≡ Good (listEnd s (firstAt s at))
+  pub start : state (filedFact form) 8 (schema h s) (typedObjects (objectsOf s at) s) s (at + lengthIn s at) (firstAt s at) ≡ Good (listEnd s (firstAt s at))
   pub steps : steps form (schema h s) (typedObjects (objectsOf s at) s) s (at + lengthIn s at) (stepsIn s at) (listAt s (firstAt s at)) (listEnd s (firstAt s at)) ≡ Good last
   pub full : ltb last (at + lengthIn s at) ≡ false
   pub end : next ≡ at + lengthIn s at
@@ -146,8 +146,8 @@ module _ (form : Form) (h : Sections) (s : List ℕ) (at next : ℕ) (good : rec
       let (last, way, tail) = parted (trajectory form (schema h s) (typedObjects (objectsOf s at) s) s end (stepsIn s at) first) next _ behind in
       let place = objects-end (h .kinds) s end (objectsIn s at) (at + headSize) first objects in
       let way′ : trajectory form (schema h s) (typedObjects (objectsOf s at) s) s end (stepsIn s at) (firstAt s at) ≡ Good last = subst (λ (x : ℕ). trajectory form (schema h s) (typedObjects (objectsOf s at) s) s end (stepsIn s at) x ≡ Good last) place way in
-      let (after, start, behind′) = parted (state 8 (schema h s) (typedObjects (objectsOf s at) s) s end (firstAt s at)) last _ way′ in
-      let ends = list-ends maxFacts 8 (schema h s) (typedObjects (objectsOf s at) s) s end (firstAt s at) after start .0 in
+      let (after, start, behind′) = parted (state (filedFact form) 8 (schema h s) (typedObjects (objectsOf s at) s) s end (firstAt s at)) last _ way′ in
+      let ends = list-ends _ maxFacts 8 (schema h s) (typedObjects (objectsOf s at) s) s end (firstAt s at) after start .0 in
       let (full, same) = passed _ 6 at next _ tail in
       record {
         last = last;

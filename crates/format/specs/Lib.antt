@@ -3,8 +3,8 @@ pub mod Header
 pub mod Lists
 pub mod Toggled
 pub mod Form
-pub mod States
 pub mod Filed
+pub mod States
 pub mod Records
 pub mod LookOver
 pub mod Decode

@@ -16,6 +16,7 @@ use Rattle.terms.specs.Schema.{Schema, TypedObjects, typedObjects, outOfRange}
 use Rattle.terms.specs.Facts.{factAt, factBad, precedes, noFact}
 use Rattle.terms.specs.Steps.{stepAt, stepBad, repeats}
 use Rattle.limits.specs.Limits.{headerSize, maxObjects, maxStarts, maxEntries, maxSteps, entrySize, stepSize}
+use Rattle.format.specs.Filed.{asWritten}
 use Rattle.format.specs.States.{state}
 use Rattle.format.specs.Lists.{listAt, listEnd}
 
@@ -76,7 +77,7 @@ orderObject kinds o at = do
 -- row 16: the starts, each written as a state of a book, and no bytes left before the goal entries
 unfoldable pub startsForm : Schema → TypedObjects → List ℕ → Answer
 startsForm sch ob o = do
-  last ← walk (state 16 sch ob o (goalAt o)) (startCount o) (startAt o)
+  last ← walk (state asWritten 16 sch ob o (goalAt o)) (startCount o) (startAt o)
   _ ← refuse (ltb last (goalAt o)) 16 last
   Good (goalAt o)
 

@@ -17,7 +17,7 @@ use Rattle.terms.specs.Steps.{stepBad, repeats}
 use Rattle.limits.specs.Limits.{headSize, maxObjects, maxSteps, stepSize}
 use Rattle.format.specs.Lists.{listAt}
 use Rattle.format.specs.Form.{Form, stateAfter}
-use Rattle.format.specs.Filed.{filedStepAt}
+use Rattle.format.specs.Filed.{filedStepAt, filedFact}
 use Rattle.format.specs.States.{cut, state, nextState}
 
 -- a record's head: object count, step count, length
@@ -76,7 +76,7 @@ objectsOf s at = record { count = objectsIn s at; at = at + headSize }
 -- the part of a record after its objects: a state, then steps each with the state after it
 unfoldable pub trajectory : (form : Form) (sch : Schema) (ob : TypedObjects) (s : List ℕ) (end n at : ℕ) → Answer
 trajectory form sch ob s end n at = do
-  next ← state 8 sch ob s end at
+  next ← state (filedFact form) 8 sch ob s end at
   steps form sch ob s end n (listAt s at) next
 
 -- the record at an offset, after what its trajectory answers: no bytes are left

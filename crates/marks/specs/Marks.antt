@@ -13,6 +13,7 @@ use Rattle.terms.specs.Told.{suits}
 use Rattle.answer.specs.declared.Answer.the-variants.{Good, Refused}
 use Rattle.limits.specs.Limits.{countSize, maxObjects, maxRelations}
 use Rattle.input.specs.Bytes.{two}
+use Rattle.format.specs.Filed.{asWritten}
 use Rattle.format.specs.Lists.{listAt, listEnd}
 use Rattle.format.specs.States.{facts}
 use Rattle.model.specs.Quantify.{Mem}
@@ -53,11 +54,11 @@ pub record ListAhead (s : List ℕ) (at : ℕ) (c : FactCursor) : Type 0 where
 -- From the cursor c to c′, which is past a fact or the same: a fact that is passed is right and in order, or else the list is refused at it.
 pub record Looks (s table : List ℕ) (c c′ : FactCursor) (bad : Bool) : Type 0 where
   pub on : bad ≡ false → (end n from : ℕ) → Looked 8 s table end n from c → Looked 8 s table end n from c′
-  pub refused : bad ≡ true → (end n from : ℕ) → Looked 8 s table end n from c → ForRightByPlace table (λ sch ob. Refused 8 (c .at) ≡ facts 8 sch ob s end n noFact from)
+  pub refused : bad ≡ true → (end n from : ℕ) → Looked 8 s table end n from c → ForRightByPlace table (λ sch ob. Refused 8 (c .at) ≡ facts asWritten 8 sch ob s end n noFact from)
 
 -- the facts from a cursor on, looked over and marked
 pub record RestMarked (s table atoms : List ℕ) (b : Binding) (c : FactCursor) (m m′ : List ℕ) (r : MarkedList) : Type 0 where
-  pub answers : (end n from : ℕ) → Looked 8 s table end n from c → ForRightByPlace table (λ sch ob. r .answer ≡ facts 8 sch ob s end n noFact from)
+  pub answers : (end n from : ℕ) → Looked 8 s table end n from c → ForRightByPlace table (λ sch ob. r .answer ≡ facts asWritten 8 sch ob s end n noFact from)
   pub marked : (k : ℕ) → r .answer ≡ Good k → (m′ ≡ marks atoms b m (rest s (plain c))) × (r .unbound ≡ unboundChanged atoms b [] (rest s (plain c)))
 
 -- ---- the facts of two states

@@ -21,7 +21,7 @@ use Rattle.terms.specs.Facts.{factBad, noFact}
 use Rattle.terms.specs.Told.{suits}
 use Rattle.terms.proofs.Atoms.{atom-below}
 use Rattle.limits.specs.Limits.{maxLength, stepSize}
-use Rattle.format.specs.Filed.{filedStepAt}
+use Rattle.format.specs.Filed.{filedStepAt, asWritten}
 use Rattle.format.specs.Lists.{listAt, listEnd}
 use Rattle.format.specs.Toggled.{toggled}
 use Rattle.format.specs.Form.{Form, full, mostListed, stateAfter}
@@ -100,7 +100,7 @@ module _ (s : List ℕ) (c : Scope) (table : List ℕ) (obs : Observable s c tab
       let place = alone-behind (schemaIn s c) (typedIn s c) s (c .end) at listed alone .3 in
       record {
         alone = alone ∙ ap Good place;
-        list = good-whole (mostListed (c .short)) 8 (schemaIn s c) (typedIn s c) s (c .end) (at + stepSize) next (rw place at good);
+        list = good-whole _ (mostListed (c .short)) 8 (schemaIn s c) (typedIn s c) s (c .end) (at + stepSize) next (rw place at good);
       }
 
   module _ (at : ℕ) (whole : Whole s c at) where
@@ -163,7 +163,7 @@ module _ (s : List ℕ) (c : Scope) (table : List ℕ) (obs : Observable s c tab
           }
 
       -- ---- of a short one, whose list is good
-      module _ (e : c .short ≡ true) (next : ℕ) (good : list 8 (mostListed (c .short)) (schemaIn s c) (typedIn s c) s (c .end) (at + stepSize) ≡ Good next) where
+      module _ (e : c .short ≡ true) (next : ℕ) (good : list asWritten 8 (mostListed (c .short)) (schemaIn s c) (typedIn s c) s (c .end) (at + stepSize) ≡ Good next) where
         abbrev own : List ℕ
         own = atomSet (schemaIn s c) (filedStepAt s at .action .0)
 

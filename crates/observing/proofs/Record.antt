@@ -13,6 +13,7 @@ use Rattle.terms.specs.declared.Sections.{Sections}
 use Rattle.terms.specs.Schema.{Schema, TypedObjects, schema, typedObjects}
 use Rattle.terms.specs.Typing.{Falling}
 use Rattle.limits.specs.Limits.{maxLength, maxFacts, maxMoves, maxObjects, maxRelations, headSize}
+use Rattle.format.specs.Filed.{filedFact}
 use Rattle.format.specs.Lists.{listAt, listEnd}
 use Rattle.format.specs.Form.{Form}
 use Rattle.format.specs.States.{state}
@@ -47,12 +48,12 @@ stays-observes sch a after bytes named r b p q e =
 
 -- its steps behind a first state that was found good
 pub trajectory-observes : (form : Form) (sch : Schema) (ob : TypedObjects) (s : List ℕ) (end n at v : ℕ) (before : Observed) (bytes : List ℕ) (w : Walked)
-    → state 8 sch ob s end at ≡ Good v
+    → state (filedFact form) 8 sch ob s end at ≡ Good v
     → Observes sch (steps form sch ob s end n (listAt s at) v) (observeAll (recordedStepsAt form s n (listAt s at) v) before) bytes w
     → Observes sch (trajectory form sch ob s end n at) (observeAll (recordedStepsAt form s n (listAt s at) (listEnd s at)) before) bytes w
 unfolding trajectory
 trajectory-observes form sch ob s end n at v before bytes w good o =
-    let place = list-ends maxFacts 8 sch ob s end at v good .0 in
+    let place = list-ends _ maxFacts 8 sch ob s end at v good .0 in
     record {
       says = o .says ∙ sym (bind-good _ _ v good);
       observes = subst (λ (x : ℕ). (k : ℕ) → w .answer ≡ Good k → IsObserved (observeAll (recordedStepsAt form s n (listAt s at) x) before) bytes (w .named) × Begun sch bytes) place (o .observes);

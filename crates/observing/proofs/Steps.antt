@@ -11,6 +11,7 @@ use Rattle.answer.specs.declared.Answer.the-variants.{Good}
 use Rattle.mask.specs.Sets.{empty}
 use Rattle.terms.specs.declared.Fact.{Fact}
 use Rattle.limits.specs.Limits.{maxLength, maxFacts, stepSize, stateSize, nearCeiling}
+use Rattle.format.specs.Filed.{filedFact}
 use Rattle.format.specs.Lists.{listAt, listEnd}
 use Rattle.format.specs.Form.{mostListed, stateAfter}
 use Rattle.format.specs.States.{state}
@@ -45,7 +46,7 @@ pub record Observing (s : List ℕ) (c : Scope) (first from : ℕ) (m : List ℕ
 
 module _ (s : List ℕ) (c : Scope) (ks table : List ℕ) (readable : Readable s c ks table) where
   -- ---- the first state
-  pub observing-first : (first from : ℕ) → first ≤ nearCeiling → state 8 (schemaIn s c) (typedIn s c) s (c .end) first ≡ Good from
+  pub observing-first : (first from : ℕ) → first ≤ nearCeiling → state (filedFact (c .short)) 8 (schemaIn s c) (typedIn s c) s (c .end) first ≡ Good from
       → (m m′ : List ℕ) (held : ℕ)
       → m ≡ empty stateSize
       → length m′ ≡ stateSize
@@ -57,7 +58,7 @@ module _ (s : List ℕ) (c : Scope) (ks table : List ℕ) (readable : Readable s
       record {
         before = listAt s first;
         going = going-first s c ks table readable first from near good m m′ held e long carried;
-        listed = λ f. (refl, omega (arith, list-good maxFacts 8 _ _ s (c .end) first from good .0, readable .near), omega (arith, list-ends maxFacts 8 _ _ s (c .end) first from good .1, readable .within));
+        listed = λ f. (refl, omega (arith, list-good _ maxFacts 8 _ _ s (c .end) first from good .0, readable .near), omega (arith, list-ends _ maxFacts 8 _ _ s (c .end) first from good .1, readable .within));
         begun = begun;
         rest = refl;
       }
@@ -82,7 +83,7 @@ module _ (s : List ℕ) (c : Scope) (ks table : List ℕ) (readable : Readable s
       ends : (next ≡ listEnd s (at + stepSize)) × (listEnd s (at + stepSize) ≤ c .end) × (at + stepSize ≤ c .end)
       ends =
           let (fits, behind) = listed-good (c .short) (schemaIn s c) (typedIn s c) s (c .end) at next (sym told ∙ good) in
-          let (place, within) = list-ends (mostListed (c .short)) 8 _ _ s (c .end) (at + stepSize) next behind in
+          let (place, within) = list-ends _ (mostListed (c .short)) 8 _ _ s (c .end) (at + stepSize) next behind in
           (place, within, fits)
 
       one-more : (k : ℕ) (masks′ : List ℕ) (r : ℕ) → left ≡ suc k → IsObserved (observedStep (c .short) s (obs .before) at masks named) masks′ r

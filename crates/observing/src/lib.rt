@@ -16,6 +16,7 @@ ghost use Rattle.limits.specs.Limits.{maxLength, maxObjects, maxRelations, maxM
 ghost use Rattle.answer.specs.declared.Answer.the-variants.{Good};
 ghost use Rattle.terms.specs.Schema.{schema};
 ghost use Rattle.terms.specs.Typing.{Falling};
+ghost use Rattle.format.specs.Filed.{filedFact};
 ghost use Rattle.format.specs.Lists.{listAt, listEnd};
 ghost use Rattle.format.specs.States.{state};
 ghost use Rattle.format.specs.Records.{steps, trajectory, body};
@@ -124,7 +125,7 @@ fn observe_steps(
     named: usize,
 ) -> Walked
     requires { ⌜ Readable (now s) c (now kinds) (now table) × Observable (now s) c (now table) × Begun (schemaIn (now s) c) (now observed) ⌝ }
-    requires { ⌜ (first ≤ nearCeiling) × (from ≤ maxLength) × (state 8 (schemaIn (now s) c) (typedIn (now s) c) (now s) (c .end) first ≡ Good from) ⌝ }
+    requires { ⌜ (first ≤ nearCeiling) × (from ≤ maxLength) × (state (filedFact (c .short)) 8 (schemaIn (now s) c) (typedIn (now s) c) (now s) (c .end) first ≡ Good from) ⌝ }
     ensures { λ r. ⌜ Observes (schemaIn (now (s .entry)) c) (steps (c .short) (schemaIn (now (s .entry)) c) (typedIn (now (s .entry)) c) (now (s .entry)) (c .end) (c .steps) (listAt (now (s .entry)) first) from) (observeAll (recordedStepsAt (c .short) (now (s .entry)) (c .steps) (listAt (now (s .entry)) first) from) (record { masks = now (observed .entry); named = named })) (now (observed .exit)) r ⌝ }
 {
     let mut t = lifting::no_digits();

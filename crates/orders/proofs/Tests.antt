@@ -20,6 +20,7 @@ use Rattle.terms.specs.Schema.{Schema, TypedObjects, schema, typedObjects, outO
 use Rattle.terms.specs.Facts.{factAt, factBad, precedes}
 use Rattle.terms.specs.Steps.{stepAt, stepBad, repeats}
 use Rattle.limits.specs.Limits.{headerSize, maxObjects, entrySize, nearCeiling}
+use Rattle.format.specs.Filed.{asWritten}
 use Rattle.format.specs.States.{state}
 use Rattle.format.specs.Order.{objectCount, startCount, startAt, goalAt, orderObjects, orderHeader, orderObject, startsForm, entryBad, orderForm, fromStart, planStepBad}
 use Rattle.tables.specs.Tables.{RightByKind}
@@ -29,7 +30,7 @@ use Rattle.states.proofs.Cursors.{fact-of}
 
 module _ (sch : Schema) (ob : TypedObjects) (o : List ℕ) where
   abbrev start : ℕ → Answer
-  start = state 16 sch ob o (goalAt o)
+  start = state asWritten 16 sch ob o (goalAt o)
 
   -- row 16 behind the starts, by what their walk and the header say
   module _ (a : Answer) (b : Bool) (walked : a ≡ walk start (startCount o) (startAt o)) (told : b ≡ isRefused a) where

@@ -13,6 +13,7 @@ ghost use Rattle.terms.specs.Schema.{schema, typedObjects};
 ghost use Rattle.terms.specs.Facts.{noFact};
 ghost use Rattle.terms.specs.Steps.{repeats};
 ghost use Rattle.limits.specs.Limits.{headerSize, maxObjects, stepSize, farCeiling};
+ghost use Rattle.format.specs.Filed.{asWritten};
 ghost use Rattle.format.specs.States.{state};
 ghost use Rattle.format.specs.Order.{objectCount, startCount, goalCount, stepCount, startAt, goalAt, stepsAt, orderObjects};
 ghost use Rattle.format.specs.Order.{orderObject, startsForm, entries, planStepBad, planStep, fromGoal, fromStart, orderForm};
@@ -37,7 +38,7 @@ fn objects(o: &[u8], kinds: u16) -> Answer
 // Row 16 of each start, which is looked at as a state of a book is: where the last one ends.
 fn starts(o: &[u8], table: &[u32; 512]) -> Answer
     requires { ⌜ (goalAt (now o) ≤ length (now o)) × RightForSome (now table) ⌝ }
-    ensures { λ r. ⌜ ForRightByPlace (now (table .entry)) (λ sch ob. r ≡ walk (state 16 sch ob (now (o .entry)) (goalAt (now (o .entry)))) (startCount (now (o .entry))) (startAt (now (o .entry)))) ⌝ }
+    ensures { λ r. ⌜ ForRightByPlace (now (table .entry)) (λ sch ob. r ≡ walk (state asWritten 16 sch ob (now (o .entry)) (goalAt (now (o .entry)))) (startCount (now (o .entry))) (startAt (now (o .entry)))) ⌝ }
 {
     let end = orderhead::goal_at(o);
     let mut left = orderhead::start_count(o);

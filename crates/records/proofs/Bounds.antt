@@ -45,7 +45,7 @@ module _ (form : Form) (sch : Schema) (ob : TypedObjects) (s : List ℕ) (end : 
   trajectory-bounded : (n at : ℕ) → at ≤ end → Bounded end (trajectory form sch ob s end n at)
   unfolding trajectory
   trajectory-bounded n at h =
-      bounded-then end _ _ (list-bounded maxFacts 8 sch ob s end (omega arith) at h)
+      bounded-then end _ _ (list-bounded _ maxFacts 8 sch ob s end (omega arith) at h)
       (λ next e i. steps-bounded n (listAt s at) next i)
 
 head-bounded : (s : List ℕ) (at : ℕ) → at ≤ length s → Bounded (length s) (recordHead s at)

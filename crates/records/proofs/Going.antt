@@ -13,6 +13,7 @@ use Rattle.answer.specs.declared.Answer.the-variants.{Good, Refused}
 use Rattle.mask.specs.Sets.{empty, cardinality}
 use Rattle.terms.specs.declared.Fact.{Fact}
 use Rattle.terms.specs.Schema.{schema, typedObjects}
+use Rattle.format.specs.Filed.{filedFact}
 use Rattle.format.specs.Lists.{listAt}
 use Rattle.format.specs.Form.{mostListed, stateAfter}
 use Rattle.format.specs.States.{list, state}
@@ -46,15 +47,17 @@ module _ (s : List ℕ) (c : Scope) (ks t : List ℕ) (readable : Readable s c k
 
   -- ---- the first state
 
-  module _ (first from : ℕ) (near : first ≤ nearCeiling) (good : state 8 (schemaIn s c) (typedIn s c) s (c .end) first ≡ Good from) where
+  module _ (first from : ℕ) (near : first ≤ nearCeiling) (good : state (filedFact (c .short)) 8 (schemaIn s c) (typedIn s c) s (c .end) first ≡ Good from) where
     pub first-turnable : Turnable s first
+    unfolding filedFact
     first-turnable = list-turnable maxFacts 8 (schemaIn s c) (typedIn s c) few known s (c .end) first from good (readable .within) near
 
     pub going-first : (m m′ : List ℕ) (count : ℕ) → m ≡ empty stateSize → length m′ ≡ stateSize → Carried (c .short) s first m m′ count → Going s c first from (listAt s first) m′ count (c .steps) from
+    unfolding filedFact
     going-first m m′ count e long carried =
         let order = list-increasing maxFacts 8 (schemaIn s c) (typedIn s c) s (c .end) first from good in
         record {
-          near = omega (arith, list-within maxFacts 8 (schemaIn s c) (typedIn s c) s (c .end) first from good, readable .near);
+          near = omega (arith, list-within _ maxFacts 8 (schemaIn s c) (typedIn s c) s (c .end) first from good, readable .near);
           long = long;
           right = state-right 8 (schemaIn s c) (typedIn s c) s (c .end) first from good;
           carries = subst (λ (fs : List Fact). Carries (c .short) fs m′ count) (after-none (c .short) s first order)
@@ -74,15 +77,17 @@ module _ (s : List ℕ) (c : Scope) (ks t : List ℕ) (readable : Readable s c k
       going-refused k p e = steps-refused (c .short) (schemaIn s c) (typedIn s c) s (c .end) _ left at before (going .rest) some a listed k p e
 
       module _ (next : ℕ) (good : a ≡ Good next) where
-        behind : (at + stepSize ≤ c .end) × (list 8 (mostListed (c .short)) (schemaIn s c) (typedIn s c) s (c .end) (at + stepSize) ≡ Good next)
+        behind : (at + stepSize ≤ c .end) × (list (filedFact (c .short)) 8 (mostListed (c .short)) (schemaIn s c) (typedIn s c) s (c .end) (at + stepSize) ≡ Good next)
         behind = listed-good (c .short) (schemaIn s c) (typedIn s c) s (c .end) at next (sym listed ∙ good)
 
         pub going-turnable : Turnable s (at + stepSize)
+        unfolding filedFact
         going-turnable =
             list-turnable (mostListed (c .short)) 8 (schemaIn s c) (typedIn s c) few known s (c .end) (at + stepSize) next (behind .1) (readable .within) (omega (arith, behind .0, readable .near))
 
         module _ (m′ : List ℕ) (count′ : ℕ) (carried : Carried (c .short) s (at + stepSize) m m′ count′) where
           many : ltb maxFacts count′ ≡ ltb maxFacts (length (stateAfter (c .short) s before (at + stepSize)))
+          unfolding filedFact
           many =
               carried-many (schemaIn s c) (typedIn s c) few known (c .short) before m count (going .right .suits) (going .right .increasing) (going .carries) s (at + stepSize)
               (list-suits (mostListed (c .short)) 8 _ _ s (c .end) _ next (behind .1)) (list-increasing (mostListed (c .short)) 8 _ _ s (c .end) _ next (behind .1)) m′ count′ carried
@@ -92,10 +97,11 @@ module _ (s : List ℕ) (c : Scope) (ks t : List ℕ) (readable : Readable s c k
           going-many l = steps-many (c .short) (schemaIn s c) (typedIn s c) s (c .end) _ left at before (going .rest) some a listed next good _ many (lt-ltb _ _ l)
 
           pub going-on : length m′ ≡ stateSize → count′ ≤ maxFacts → Going s c first from (stateAfter (c .short) s before (at + stepSize)) m′ count′ (left - 1) next
+          unfolding filedFact
           going-on long l =
               let size = ltb-false maxFacts (length (stateAfter (c .short) s before (at + stepSize))) (sym many ∙ le-ltb maxFacts count′ l) in
               record {
-                near = omega (arith, list-within (mostListed (c .short)) 8 _ _ s (c .end) _ next (behind .1), readable .near);
+                near = omega (arith, list-within _ (mostListed (c .short)) 8 _ _ s (c .end) _ next (behind .1), readable .near);
                 long = long;
                 right = next-right (c .short) _ _ s (c .end) before (at + stepSize) next (going .right) (next-in (c .short) _ _ s (c .end) before (at + stepSize) next (behind .1) size);
                 carries = carried-on (schemaIn s c) (typedIn s c) few known (c .short) before m count (going .right .suits) (going .right .increasing) (going .carries) s (at + stepSize)

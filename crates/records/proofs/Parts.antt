@@ -21,7 +21,7 @@ use Rattle.terms.specs.Schema.{Schema, TypedObjects, outOfRange}
 use Rattle.terms.specs.Steps.{stepBad, repeats}
 use Rattle.limits.specs.Limits.{stepSize, maxFacts}
 use Rattle.format.specs.Lists.{listAt}
-use Rattle.format.specs.Filed.{filedStepAt}
+use Rattle.format.specs.Filed.{filedStepAt, asWritten, filedFact}
 use Rattle.format.specs.Form.{Form, mostListed, stateAfter}
 use Rattle.format.specs.States.{cut, list, state, nextState}
 use Rattle.format.specs.Records.{stepRefused, step, steps, trajectory}
@@ -89,9 +89,9 @@ module _ (form : Form) (sch : Schema) (ob : TypedObjects) (s : List ℕ) (end : 
   step-stays at a b p q r = part-stays _ _ a b p q r
 
   pub step-follows : (at : ℕ) (a : Answer) (b : Bool) (v : ℕ) → a ≡ stepAlone sch ob s end at → b ≡ isRefused a → b ≡ false → v ≡ valueOf a
-      → list 8 (mostListed form) sch ob s end v ≡ stepListed form sch ob s end at
-  unfolding stepListed
-  step-follows at a b v p q r u = part-follows _ (list 8 (mostListed form) sch ob s end) a b v p q r u
+      → list asWritten 8 (mostListed form) sch ob s end v ≡ stepListed form sch ob s end at
+  unfolding stepListed filedFact
+  step-follows at a b v p q r u = part-follows _ (list (filedFact form) 8 (mostListed form) sch ob s end) a b v p q r u
 
   -- a step is its list, and then how many facts that leaves
   step-parts : (before : List Fact) (at : ℕ)
@@ -102,14 +102,14 @@ module _ (form : Form) (sch : Schema) (ob : TypedObjects) (s : List ℕ) (end : 
     where
       go : (x y : Bool)
           → (refuse x 9 at >>= λ _. refuse y 10 at >>= λ _. nextState form sch ob s end before (at + stepSize))
-          ≡ ((refuse x 9 at >>= λ _. refuse y 10 at >>= λ _. Good (at + stepSize)) >>= list 8 (mostListed form) sch ob s end
+          ≡ ((refuse x 9 at >>= λ _. refuse y 10 at >>= λ _. Good (at + stepSize)) >>= list (filedFact form) 8 (mostListed form) sch ob s end
           >>= λ next. refuse (ltb maxFacts (length (stateAfter form s before (at + stepSize)))) 8 (at + stepSize) >>= λ _. Good next)
       go true y = refl
       go false true = refl
       go false false = refl
 
   -- a good list behind a step
-  pub listed-good : (at next : ℕ) → stepListed form sch ob s end at ≡ Good next → (at + stepSize ≤ end) × (list 8 (mostListed form) sch ob s end (at + stepSize) ≡ Good next)
+  pub listed-good : (at next : ℕ) → stepListed form sch ob s end at ≡ Good next → (at + stepSize ≤ end) × (list (filedFact form) 8 (mostListed form) sch ob s end (at + stepSize) ≡ Good next)
   unfolding stepListed
   listed-good at next e =
       let (listed, alone, good) = parted (stepAlone sch ob s end at) next _ e in
@@ -150,16 +150,16 @@ module _ (form : Form) (sch : Schema) (ob : TypedObjects) (s : List ℕ) (end : 
         pub steps-on : b ≡ false → steps form sch ob s end (n - 1) (stateAfter form s before (at + stepSize)) next ≡ whole
         steps-on e = sym (bind-good _ _ next (behind-list ∙ refuse-unmet _ _ _ _ e)) ∙ one-more
 
-  pub trajectory-stays : (n at : ℕ) (a : Answer) (b : Bool) → a ≡ state 8 sch ob s end at → b ≡ isRefused a → b ≡ true → a ≡ trajectory form sch ob s end n at
-  unfolding trajectory
+  pub trajectory-stays : (n at : ℕ) (a : Answer) (b : Bool) → a ≡ state asWritten 8 sch ob s end at → b ≡ isRefused a → b ≡ true → a ≡ trajectory form sch ob s end n at
+  unfolding trajectory filedFact
   trajectory-stays n at a b p q r = part-stays _ _ a b p q r
 
   pub trajectory-steps : (n at : ℕ) (a : Answer) (b : Bool) (v : ℕ) (w : Answer)
-      → a ≡ state 8 sch ob s end at
+      → a ≡ state asWritten 8 sch ob s end at
       → b ≡ isRefused a
       → b ≡ false
       → v ≡ valueOf a
       → w ≡ steps form sch ob s end n (listAt s at) v
       → w ≡ trajectory form sch ob s end n at
-  unfolding trajectory
+  unfolding trajectory filedFact
   trajectory-steps n at a b v w p q r t u = u ∙ part-follows _ (steps form sch ob s end n (listAt s at)) a b v p q r t

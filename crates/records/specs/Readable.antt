@@ -9,7 +9,7 @@ use Rattle.answer.specs.Answer.{_>>=_, refuse}
 use Rattle.terms.specs.declared.Sections.{Sections}
 use Rattle.terms.specs.Schema.{Schema, TypedObjects, schema, typedObjects}
 use Rattle.terms.specs.Steps.{repeats}
-use Rattle.format.specs.Filed.{filedStepAt}
+use Rattle.format.specs.Filed.{filedStepAt, filedFact}
 use Rattle.format.specs.Form.{Form, mostListed}
 use Rattle.format.specs.States.{list}
 use Rattle.format.specs.Records.{stepRefused}
@@ -50,4 +50,4 @@ stepAlone sch ob s end at = do
 unfoldable pub stepListed : Form → Schema → TypedObjects → List ℕ → ℕ → ℕ → Answer
 stepListed form sch ob s end at = do
   listed ← stepAlone sch ob s end at
-  list 8 (mostListed form) sch ob s end listed
+  list (filedFact form) 8 (mostListed form) sch ob s end listed

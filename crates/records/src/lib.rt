@@ -10,6 +10,7 @@ ghost use lib.ListN.{length};
 ghost use Rattle.answer.specs.Walk.{walk};
 ghost use Rattle.terms.specs.Schema.{schema, typedObjects};
 ghost use Rattle.limits.specs.Limits.{maxLength, maxObjects, maxRelations, maxTurns, stepSize, nearCeiling};
+ghost use Rattle.format.specs.Filed.{filedFact};
 ghost use Rattle.format.specs.Lists.{listAt};
 ghost use Rattle.format.specs.Form.{mostListed};
 ghost use Rattle.format.specs.States.{state};
@@ -158,7 +159,7 @@ fn steps(
     first: usize,
     from: usize,
 ) -> Answer
-    requires { ⌜ Readable (now book) c (now kinds) (now table) × (first ≤ nearCeiling) × (from ≤ maxLength) × (state 8 (schema (c .h) (now book)) (typedObjects (c .objects) (now book)) (now book) (c .end) first ≡ Good from) ⌝ }
+    requires { ⌜ Readable (now book) c (now kinds) (now table) × (first ≤ nearCeiling) × (from ≤ maxLength) × (state (filedFact (c .short)) 8 (schema (c .h) (now book)) (typedObjects (c .objects) (now book)) (now book) (c .end) first ≡ Good from) ⌝ }
     ensures { λ r. ⌜ r ≡ steps (c .short) (schema (c .h) (now (book .entry))) (typedObjects (c .objects) (now (book .entry))) (now (book .entry)) (c .end) (c .steps) (listAt (now (book .entry)) first) from ⌝ }
 {
     let mut state = mask::empty512();

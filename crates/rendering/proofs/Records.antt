@@ -14,6 +14,7 @@ use Rattle.terms.specs.Facts.{noFact}
 use Rattle.terms.specs.Sections.{sectionsOf}
 use Rattle.terms.specs.Schema.{schema, typedObjects}
 use Rattle.limits.specs.Limits.{maxLength, maxFacts, headSize}
+use Rattle.format.specs.Filed.{filedFact}
 use Rattle.format.specs.Lists.{listAt, listEnd}
 use Rattle.format.specs.Toggled.{toggled}
 use Rattle.format.specs.Form.{Form, stateAfter}
@@ -73,12 +74,13 @@ module _ (form : Form) (s : List ℕ) (n at : ℕ) (good : GoodTrajectory form s
 module _ (form : Form) (s : List ℕ) (at : ℕ) (g : GoodRecord form s at) where
   -- its parts are good
   parts-good : GoodTrajectory form s (stepsIn s at) (firstAt s at)
+  unfolding filedFact
   parts-good =
       let h = sectionsOf s in
       let r = record-good form h s at (g .next) (g .good) in
       let end : ℕ = at + lengthIn s at in
       let reach : end ≤ length s = head-limits s at (r .head) .2 in
-      let within = list-ends maxFacts 8 (schema h s) (typedObjects (objectsOf s at) s) s end (firstAt s at) _ (r .start) .1 in
+      let within = list-ends _ maxFacts 8 (schema h s) (typedObjects (objectsOf s at) s) s end (firstAt s at) _ (r .start) .1 in
       record {
         list = record { within = omega arith; near = g .near; order = list-increasing maxFacts 8 _ _ s end (firstAt s at) _ (r .start) };
         few = list-few maxFacts 8 _ _ s end (firstAt s at) _ (r .start);

@@ -7,6 +7,7 @@ use mathlib.Core.Bool.{true, false, not}
 use mathlib.Core.List.{List, [], _++_}
 use Rattle.terms.specs.declared.Fact.{Fact}
 use Rattle.limits.specs.Limits.{maxLength, stepSize}
+use Rattle.format.specs.Filed.{filedFact}
 use Rattle.format.specs.Lists.{listAt, listEnd}
 use Rattle.format.specs.Toggled.{toggled}
 use Rattle.format.specs.Form.{Form, mostListed, stateAfter}
@@ -26,6 +27,7 @@ module _ (form : Form) (s : List ℕ) where
   -- the list after the first of some steps, and the others
   pub steps-next : (n : ℕ) (before : List Fact) (at : ℕ) → 0 < n → GoodSteps form s n before at
       → GoodNext form s before (at + stepSize) × GoodSteps form s (n - 1) (stateAfter form s before (at + stepSize)) (listEnd s (at + stepSize))
+  unfolding filedFact
   steps-next zero before at h g = absurd (omega arith)
   steps-next (suc n) before at h g =
       let (first, others) = steps-parted form (g .sch) (g .ob) s (g .end) n before at (g .last) (g .good) in

@@ -19,6 +19,7 @@ use Rattle.input.specs.Bytes.{two}
 use Rattle.limits.specs.Limits.{maxLength, maxFacts, countSize}
 use Rattle.terms.specs.declared.Fact.{Fact}
 use Rattle.terms.specs.Schema.{Schema}
+use Rattle.format.specs.Filed.{asWritten}
 use Rattle.format.specs.States.{state}
 use Rattle.format.specs.Lists.{factsAt, listAt, listEnd}
 use Rattle.format.specs.Order.{goalAt, startCount, startAt, stepCount, startsFrom, starts, goal, plan}
@@ -56,14 +57,14 @@ pub next-start : (o : List ℕ) (n at : ℕ) → StartsGood o n at → 0 < n
     → (listEnd o at ≤ maxLength) × (listEnd o at ≤ length o) × StartsGood o (n - 1) (listEnd o at)
 next-start o zero at g h = absurd (omega arith)
 next-start o (suc n) at g h =
-    let (next, good, rest) = walk-parted (state 16 (g .sch) (g .ob) o (goalAt o)) n at (goalAt o) (g .good) in
-    let (place, end) = list-ends maxFacts 16 (g .sch) (g .ob) o (goalAt o) at next good in (
+    let (next, good, rest) = walk-parted (state asWritten 16 (g .sch) (g .ob) o (goalAt o)) n at (goalAt o) (g .good) in
+    let (place, end) = list-ends _ maxFacts 16 (g .sch) (g .ob) o (goalAt o) at next good in (
       omega (arith, g .near),
       omega (arith, g .within),
       record {
         sch = g .sch;
         ob = g .ob;
-        good = rw sub-one (subst (λ (x : ℕ). walk (state 16 (g .sch) (g .ob) o (goalAt o)) n x ≡ Good (goalAt o)) place rest);
+        good = rw sub-one (subst (λ (x : ℕ). walk (state asWritten 16 (g .sch) (g .ob) o (goalAt o)) n x ≡ Good (goalAt o)) place rest);
         near = g .near;
         within = g .within;
       },

@@ -11,6 +11,7 @@ use Rattle.answer.specs.Walk.{walk}
 use Rattle.limits.specs.Limits.{maxLength}
 use Rattle.terms.specs.declared.Fact.{Fact}
 use Rattle.terms.specs.Schema.{Schema, TypedObjects}
+use Rattle.format.specs.Filed.{asWritten}
 use Rattle.format.specs.States.{state}
 use Rattle.format.specs.Order.{GoalEntry, goalAt, stepCount, starts, goal, plan}
 use Rattle.jobs.specs.Check.{firstFailing, endAfter}
@@ -33,7 +34,7 @@ answerFrom sch l o start = executedAnswer (stepCount o) (goal o) (executedFrom s
 pub record StartsGood (o : List ℕ) (n at : ℕ) : Type 0 where
   pub sch : Schema
   pub ob : TypedObjects
-  pub good : walk (state 16 sch ob o (goalAt o)) n at ≡ Good (goalAt o)
+  pub good : walk (state asWritten 16 sch ob o (goalAt o)) n at ≡ Good (goalAt o)
   pub near : goalAt o ≤ maxLength
   pub within : goalAt o ≤ length o
 

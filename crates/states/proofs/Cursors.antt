@@ -10,6 +10,7 @@ use Rattle.terms.specs.Schema.{Schema, TypedObjects}
 use Rattle.terms.specs.Facts.{factAt, precedes}
 use Rattle.terms.specs.Told.{suits}
 use Rattle.limits.specs.Limits.{factSize}
+use Rattle.format.specs.Filed.{asWritten}
 use Rattle.format.specs.States.{cut, factRefused}
 use Rattle.tables.specs.Tables.{RightByPlace}
 use Rattle.states.specs.declared.FactCursor.{FactCursor}
@@ -32,10 +33,10 @@ module _ (sch : Schema) (ob : TypedObjects) (s : List ℕ) where
   misplaced-by table right c f a b l p q r = rw (q, right f l, r, p) refl
 
   module _ (end : ℕ) where
-    pub fact-cut : (last : Fact) (at : ℕ) → end < at + factSize → true ≡ factRefused sch ob s end last at
+    pub fact-cut : (last : Fact) (at : ℕ) → end < at + factSize → true ≡ factRefused asWritten sch ob s end last at
     unfolding factRefused cut
     fact-cut last at h = rw (lt-ltb end (at + factSize) h) refl
 
-    pub fact-whole : (c : FactCursor) (b : Bool) → c .size ≡ factSize → c .at + factSize ≤ end → b ≡ misplaced sch ob s c → b ≡ factRefused sch ob s end (c .last) (c .at)
+    pub fact-whole : (c : FactCursor) (b : Bool) → c .size ≡ factSize → c .at + factSize ≤ end → b ≡ misplaced sch ob s c → b ≡ factRefused asWritten sch ob s end (c .last) (c .at)
     unfolding misplaced factRefused cut
     fact-whole c b e h p = rw (p, fact-of c (c .at) (omega arith), le-ltb end (c .at + factSize) h) refl

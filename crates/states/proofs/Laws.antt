@@ -10,6 +10,7 @@ use Rattle.answer.specs.Laws.{refuse-met, refuse-unmet}
 use Rattle.input.specs.Bytes.{two}
 use Rattle.terms.specs.Schema.{Schema, TypedObjects}
 use Rattle.terms.specs.Facts.{noFact}
+use Rattle.format.specs.Filed.{asWritten}
 use Rattle.format.specs.States.{cut, countBad, facts, list}
 
 module _ (most : ℕ) (s : List ℕ) (end : ℕ) where
@@ -23,10 +24,10 @@ module _ (most : ℕ) (s : List ℕ) (end : ℕ) where
 
 module _ (num most : ℕ) (sch : Schema) (ob : TypedObjects) (s : List ℕ) (end : ℕ) where
   -- a list whose count is refused, and one whose count is not
-  pub list-refused : (at : ℕ) → countBad most s end at ≡ true → list num most sch ob s end at ≡ Refused num at
+  pub list-refused : (at : ℕ) → countBad most s end at ≡ true → list asWritten num most sch ob s end at ≡ Refused num at
   unfolding list
   list-refused at e = refuse-met _ _ _ _ e
 
-  pub list-facts : (at n : ℕ) → countBad most s end at ≡ false → n ≡ two s at → list num most sch ob s end at ≡ facts num sch ob s end n noFact (at + 2)
+  pub list-facts : (at n : ℕ) → countBad most s end at ≡ false → n ≡ two s at → list asWritten num most sch ob s end at ≡ facts asWritten num sch ob s end n noFact (at + 2)
   unfolding list
   list-facts at n e q = rw q (refuse-unmet _ _ _ _ e)

@@ -9,6 +9,7 @@ use Rattle.input.specs.Bytes.{two}
 use Rattle.terms.specs.Facts.{noFact}
 use Rattle.terms.specs.Told.{factKey}
 use Rattle.limits.specs.Limits.{countSize, factSize}
+use Rattle.format.specs.Filed.{asWritten}
 use Rattle.format.specs.Lists.{listEnd}
 use Rattle.format.specs.States.{countBad, facts}
 use Rattle.tables.specs.Tables.{ForRightByPlace}
@@ -23,10 +24,10 @@ pub record Looked (number : ℕ) (s table : List ℕ) (end n from : ℕ) (c : Fa
   pub size : c .size ≡ factSize
   pub key : c .key ≡ factKey (c .last)
   pub whole : c .at + factSize * c .left ≤ end
-  pub answers : ForRightByPlace table (λ sch ob. facts number sch ob s end (c .left) (c .last) (c .at) ≡ facts number sch ob s end n noFact from)
+  pub answers : ForRightByPlace table (λ sch ob. facts asWritten number sch ob s end (c .left) (c .last) (c .at) ≡ facts asWritten number sch ob s end n noFact from)
 
 -- what row 8 answers of the facts of the whole list at an offset, whatever end they do not reach past
 abbrev pub ListLooked : List ℕ → List ℕ → ℕ → Answer → Type 0
 ListLooked s table at a =
     (end : ℕ) → listEnd s at ≤ end
-    → ForRightByPlace table (λ sch ob. a ≡ facts 8 sch ob s end (two s at) noFact (at + countSize))
+    → ForRightByPlace table (λ sch ob. a ≡ facts asWritten 8 sch ob s end (two s at) noFact (at + countSize))

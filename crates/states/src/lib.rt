@@ -10,6 +10,7 @@ ghost use Rattle.limits.specs.Limits.{maxLength, countSize, maxTurns, factSize,
 ghost use Rattle.input.specs.Bytes.{two};
 ghost use Rattle.terms.specs.Facts.{noFact};
 ghost use Rattle.terms.specs.Told.{factKey};
+ghost use Rattle.format.specs.Filed.{asWritten};
 ghost use Rattle.format.specs.States.{countBad, facts, list, state};
 ghost use Rattle.format.specs.Lists.{listEnd};
 ghost use Rattle.tables.specs.Tables.{ForRightByPlace};
@@ -88,7 +89,7 @@ fn uncut(end: usize, n: usize, from: usize) -> usize
 // A number of facts from an offset, each refused with the number given.
 fn facts(number: usize, t: &[u8], table: &[u32; 512], end: usize, n: usize, from: usize) -> Answer
     requires { ⌜ (end ≤ length (now t)) × (from ≤ nearCeiling + countSize) × (n ≤ maxTurns) ⌝ }
-    ensures { λ r. ⌜ ForRightByPlace (now (table .entry)) (λ sch ob. r ≡ facts number sch ob (now (t .entry)) end n noFact from) ⌝ }
+    ensures { λ r. ⌜ ForRightByPlace (now (table .entry)) (λ sch ob. r ≡ facts asWritten number sch ob (now (t .entry)) end n noFact from) ⌝ }
 {
     let whole = uncut(end, n, from);
     let mut c = FactCursor::new(limits::FACT_SIZE, whole, from);
@@ -150,7 +151,7 @@ pub fn is_whole(s: &[u8], most: u16, end: usize, at: usize) -> bool
 // A list of facts, at most so many, refused with the number given.
 pub fn list(number: usize, most: u16, t: &[u8], table: &[u32; 512], end: usize, at: usize) -> Answer
     requires { ⌜ (most ≤ maxTurns) × (end ≤ length (now t)) × (at ≤ nearCeiling) ⌝ }
-    ensures { λ r. ⌜ ForRightByPlace (now (table .entry)) (λ sch ob. r ≡ list number most sch ob (now (t .entry)) end at) ⌝ }
+    ensures { λ r. ⌜ ForRightByPlace (now (table .entry)) (λ sch ob. r ≡ list asWritten number most sch ob (now (t .entry)) end at) ⌝ }
 {
     if count_bad(t, most, end, at) {
         return Answer::Refused(number, at);
@@ -168,7 +169,7 @@ pub fn list(number: usize, most: u16, t: &[u8], table: &[u32; 512], end: usize, 
 // Row 8 of a record's first state, row 16 of an order's start.
 pub fn state(number: usize, t: &[u8], table: &[u32; 512], end: usize, at: usize) -> Answer
     requires { ⌜ (end ≤ length (now t)) × (at ≤ nearCeiling) ⌝ }
-    ensures { λ r. ⌜ ForRightByPlace (now (table .entry)) (λ sch ob. r ≡ state number sch ob (now (t .entry)) end at) ⌝ }
+    ensures { λ r. ⌜ ForRightByPlace (now (table .entry)) (λ sch ob. r ≡ state asWritten number sch ob (now (t .entry)) end at) ⌝ }
 {
     list(number, limits::MAX_FACTS, t, table, end, at)
 }

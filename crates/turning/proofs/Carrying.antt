@@ -15,6 +15,7 @@ use Rattle.mask.proofs.Whole.{empty-maskOf}
 use Rattle.terms.specs.declared.Fact.{Fact}
 use Rattle.terms.specs.Schema.{Schema, TypedObjects}
 use Rattle.terms.specs.Facts.{factBad, noFact}
+use Rattle.format.specs.Filed.{asWritten}
 use Rattle.format.specs.Lists.{listAt}
 use Rattle.format.specs.Toggled.{toggle, toggled}
 use Rattle.format.specs.Form.{Form, mostListed, stateAfter}
@@ -110,10 +111,10 @@ after-none form s at order = go form
 
 -- A list of good form can be turned.
 pub list-turnable : (most num : ℕ) (sch : Schema) (ob : TypedObjects) → ob .count ≤ maxObjects → sch .relations ≤ maxRelations
-    → (s : List ℕ) (end at next : ℕ) → list num most sch ob s end at ≡ Good next → end ≤ length s → at ≤ nearCeiling → Turnable s at
+    → (s : List ℕ) (end at next : ℕ) → list asWritten num most sch ob s end at ≡ Good next → end ≤ length s → at ≤ nearCeiling → Turnable s at
 list-turnable most num sch ob few known s end at next good within near =
     record {
       near = near;
-      within = omega (arith, list-ends most num sch ob s end at next good .1);
+      within = omega (arith, list-ends _ most num sch ob s end at next good .1);
       numbered = suits-numbered sch ob few known (listAt s at) (list-suits most num sch ob s end at next good);
     }

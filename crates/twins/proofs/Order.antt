@@ -23,6 +23,7 @@ use Rattle.terms.specs.Steps.{stepAt, stepBad, repeats}
 use Rattle.terms.specs.Typing.{Falling}
 use Rattle.terms.specs.Agree.{SameSchema}
 use Rattle.terms.proofs.Agree.{SameObjects, same-sym, fact-over, step-over}
+use Rattle.format.specs.Filed.{asWritten}
 use Rattle.format.specs.States.{cut, factRefused, facts, list, state}
 use Rattle.format.specs.Order.{objectCount, startCount, goalCount, stepCount, startAt, goalAt, stepsAt, orderHeader, orderObjects, orderObject, startsForm}
 use Rattle.format.specs.Order.{entryBad, entries, planStepBad, planStep, fromGoal, fromStart, orderForm}
@@ -49,14 +50,14 @@ module _ (S T : Schema) (same : SameSchema S T) (kinds : S .kinds ≡ T .kinds) 
         (step-over T S (same-sym S T same) fall′ (S .kinds) (omega (arith, kinds)) (omega arith) ob ob own st)
 
     -- row 16
-    facts-same : (end n : ℕ) (last : Fact) (at : ℕ) → facts 16 S ob o end n last at ≡ facts 16 T ob o end n last at
+    facts-same : (end n : ℕ) (last : Fact) (at : ℕ) → facts asWritten 16 S ob o end n last at ≡ facts asWritten 16 T ob o end n last at
     unfolding facts factRefused
     facts-same end zero last at = refl
     facts-same end (suc n) last at =
         ap₂ (λ (b : Bool) (rest : Answer). refuse (cut end at factSize || b || not (precedes last (factAt o at))) 16 at >>= λ _. rest)
         (fact-same (factAt o at)) (facts-same end n (factAt o at) (at + factSize))
 
-    state-same : (end at : ℕ) → state 16 S ob o end at ≡ state 16 T ob o end at
+    state-same : (end at : ℕ) → state asWritten 16 S ob o end at ≡ state asWritten 16 T ob o end at
     unfolding list
     state-same end at = bind-cong _ _ _ (λ x. facts-same end (two o at) noFact (at + countSize))
 

@@ -15,6 +15,7 @@ use Rattle.terms.specs.Typing.{Falling, RightObjects}
 use Rattle.terms.specs.Facts.{factAt, factBad, noFact}
 use Rattle.terms.specs.Steps.{stepAt, stepBad, repeats, isAtom}
 use Rattle.limits.specs.Limits.{maxObjects, maxFacts, entrySize, stepSize}
+use Rattle.format.specs.Filed.{asWritten}
 use Rattle.format.specs.States.{state}
 use Rattle.format.specs.Lists.{listEnd}
 use Rattle.format.specs.Order.{GoalEntry, startCount, goalCount, stepCount, startAt, goalAt, stepsAt, orderObjects, entries, planStep, orderForm, startsFrom, starts, goalFrom, goal, planFrom, plan, entryAt, planStepBad}
@@ -50,15 +51,15 @@ module _ (sch : Schema) (ob : TypedObjects) (typed : RightObjects sch ob) (o : L
   plan-right (suc n) at last e st (there m) = plan-right n (at + stepSize) last (plan-parted n at last e .1) st m
 
   -- good starts are right
-  starts-right : (end n at last : ℕ) → walk (state 16 sch ob o end) n at ≡ Good last → (fs : List Fact) → Mem fs (startsFrom o n at) → RightState sch ob fs
+  starts-right : (end n at last : ℕ) → walk (state asWritten 16 sch ob o end) n at ≡ Good last → (fs : List Fact) → Mem fs (startsFrom o n at) → RightState sch ob fs
   unfolding startsFrom
   starts-right end (suc n) at last e fs here =
-      let (next, good, rest) = walk-parted (state 16 sch ob o end) n at last e in
+      let (next, good, rest) = walk-parted (state asWritten 16 sch ob o end) n at last e in
       state-right 16 sch ob o end at next good
   starts-right end (suc n) at last e fs (there m) =
-      let (next, good, rest) = walk-parted (state 16 sch ob o end) n at last e in
-      let place = list-ends maxFacts 16 sch ob o end at next good .0 in
-      starts-right end n (listEnd o at) last (subst (λ (x : ℕ). walk (state 16 sch ob o end) n x ≡ Good last) place rest) fs m
+      let (next, good, rest) = walk-parted (state asWritten 16 sch ob o end) n at last e in
+      let place = list-ends _ maxFacts 16 sch ob o end at next good .0 in
+      starts-right end n (listEnd o at) last (subst (λ (x : ℕ). walk (state asWritten 16 sch ob o end) n x ≡ Good last) place rest) fs m
 
   -- the facts of good goal entries suit
   goal-right : (n : ℕ) (last : Fact) (at next : ℕ) → entries sch ob o n last at ≡ Good next

@@ -13,6 +13,7 @@ use Rattle.terms.specs.Schema.{Schema, TypedObjects, schema, typedObjects}
 use Rattle.terms.specs.declared.Object.{Object}
 use Rattle.terms.specs.Typing.{IsKind, Falling, RightObjects}
 use Rattle.limits.specs.Limits.{stepSize, maxObjects}
+use Rattle.format.specs.Filed.{filedFact}
 use Rattle.format.specs.Form.{Form, stateAfter}
 use Rattle.format.specs.Records.{objectsIn, stepsIn, lengthIn, step, steps, objectsOf, recordAt}
 use Rattle.format.specs.LookOver.{lookOver}
@@ -54,7 +55,7 @@ module _ (form : Form) (h : Sections) (s : List ℕ) (fall : Falling (schema h s
   -- A record of good form ends where its length says, has at most 16 objects, and every step recorded in it is right over them.
   pub record-right : (at next : ℕ) → recordAt form h s at ≡ Good next
       → (next ≡ at + lengthIn s at) × (typedObjects (objectsOf s at) s .count ≤ maxObjects) × ((f : RecordedStep) → Mem f (stepsOfRecord form s at) → Right (schema h s) (typedObjects (objectsOf s at) s) f)
-  unfolding stepsOfRecord typedObjects objectsOf schema
+  unfolding stepsOfRecord typedObjects objectsOf schema filedFact
   record-right at next e =
       let g = record-good form h s at next e in
       let known : (x : Object) → 1 ≤ x .0 → x .0 ≤ objectsIn s at → IsKind (schema h s) (typedObjects (objectsOf s at) s .kind x) =

@@ -37,7 +37,7 @@ returns-2 c =
     let listed = rw (m .most-listed .ensures .0) at (c .list .ensures _ _ (p .0 .table)) in
     let (fits, alone, place) = alone-found _ _ _ _ _ _ _ (d .step-alone .ensures _ (p .0 .kinds)) (i .before .is-refused .ensures) (i .if1 .left) in (
       listed ∙ step-follows _ _ _ _ _ _ _ _ _ (d .step-alone .ensures _ (p .0 .kinds)) (i .before .is-refused .ensures) (i .if1 .left) place,
-      λ k e. clash _ (good-whole _ _ _ _ _ _ _ _ (sym listed ∙ e)) (sym (rw (m .most-listed .ensures .0) at (c .before .before .is-whole .ensures)) ∙ not-true _ (c .before .if2 .taken)),
+      λ k e. clash _ (good-whole _ _ _ _ _ _ _ _ _ (sym listed ∙ e)) (sym (rw (m .most-listed .ensures .0) at (c .before .before .is-whole .ensures)) ∙ not-true _ (c .before .if2 .taken)),
     )
 
 observe-list-requires : tie.Need-observe-list-requires

@@ -1,6 +1,7 @@
 -- `observing::observe_trajectory` meets its contract, by what `states::state` and `observe_steps` say.
 use mathlib.Core.Path.{sym, _∙_}
 use native.Mathlib.Omega.{arith}
+use Rattle.format.specs.Filed.{filedFact}
 use Rattle.format.proofs.States.{list-within}
 use Rattle.answer.specs.Turns.{is-good}
 use Rattle.records.proofs.Parts.{trajectory-stays}
@@ -21,19 +22,19 @@ returns c =
     (trajectory-stays _ _ _ _ _ _ _ _ _ (d .state .ensures _ _ (p .0 .table)) (i .before .is-refused .ensures) (i .if1 .taken)))
 
 observe-steps-requires : tie.Need-observe-steps-requires
-unfolding ForRightByPlace
+unfolding ForRightByPlace filedFact
 observe-steps-requires c κs =
     let i = c .before .before in
     let d = i .before .before in
     let p = d .before .before .before .pre in
     let good = sym (d .state .ensures _ _ (p .0 .table)) ∙ is-good _ (sym (i .before .is-refused .ensures) ∙ i .if1 .left) in
-    let w = list-within _ _ _ _ _ _ _ _ good in
+    let w = list-within _ _ _ _ _ _ _ _ _ good in
     let v = c .before .value-of .ensures in
     let n = p .0 .near in
     ((p .0, p .1, p .2), (p .3, omega arith, rw v good))
 
 returns-2 : tie.Need-returns-2
-unfolding ForRightByPlace
+unfolding ForRightByPlace filedFact
 returns-2 c =
     let o = c .before .before in
     let v = o .before .before in

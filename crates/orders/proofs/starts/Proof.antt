@@ -5,6 +5,7 @@ use native.Mathlib.Omega.{arith}
 use Rattle.answer.specs.Walk.{walk}
 use Rattle.answer.specs.Turns.{turn-none, turn-refused, turn-good}
 use Rattle.limits.specs.Limits.{nearCeiling}
+use Rattle.format.specs.Filed.{asWritten}
 use Rattle.format.specs.States.{state}
 use Rattle.format.specs.Order.{startCount, startAt, goalAt}
 use Rattle.format.proofs.States.{list-within}
@@ -19,7 +20,7 @@ Inv-loop o table end left₀ at₀ left at =
     (end ≡ goalAt o)
     × (end ≤ nearCeiling)
     × (at ≤ nearCeiling)
-    × ForRightByPlace table (λ sch ob. walk (state 16 sch ob o end) left at ≡ walk (state 16 sch ob o (goalAt o)) (startCount o) (startAt o))
+    × ForRightByPlace table (λ sch ob. walk (state asWritten 16 sch ob o end) left at ≡ walk (state asWritten 16 sch ob o (goalAt o)) (startCount o) (startAt o))
 
 abbrev μ-loop : tie.MeasureT-loop
 μ-loop o table end left₀ at₀ left at = left
@@ -44,7 +45,7 @@ loop-again c =
     let l = d .before .before in
     let e = c .before .next .given .1 in
     let (sch₁, ob₁, right₁) = l .before .before .before .before .before .pre .1 in
-    let w = list-within _ 16 sch₁ ob₁ _ _ _ _ (sym (d .state .ensures sch₁ ob₁ right₁) ∙ e) in (
+    let w = list-within _ _ 16 sch₁ ob₁ _ _ _ _ (sym (d .state .ensures sch₁ ob₁ right₁) ∙ e) in (
       l .loop .inv .0,
       l .loop .inv .1,
       omega arith,

@@ -1,6 +1,7 @@
 -- `trajectory` meets its contract, by what `states::state` and `steps` say.
 use mathlib.Core.Path.{sym, _∙_}
 use native.Mathlib.Omega.{arith}
+use Rattle.format.specs.Filed.{filedFact}
 use Rattle.format.proofs.States.{list-within}
 use Rattle.answer.specs.Turns.{is-good}
 use Rattle.records.proofs.Parts.{trajectory-stays, trajectory-steps}
@@ -16,11 +17,11 @@ returns c =
     trajectory-stays _ _ _ _ _ _ _ _ _ (d .state .ensures _ _ (d .before .before .pre .0 .table)) (c .before .is-refused .ensures) (c .if1 .taken)
 
 steps-requires : tie.Need-steps-requires
-unfolding ForRightByPlace
+unfolding ForRightByPlace filedFact
 steps-requires c κs =
     let p = c .before .before .before .before .before .pre in
     let d = c .before .before .before .state .ensures _ _ (p .0 .table) in
-    let w = list-within _ _ _ _ _ _ _ _ (sym d ∙ is-good _ (sym (c .before .before .is-refused .ensures) ∙ c .before .if1 .left)) in
+    let w = list-within _ _ _ _ _ _ _ _ _ (sym d ∙ is-good _ (sym (c .before .before .is-refused .ensures) ∙ c .before .if1 .left)) in
     let v = c .value-of .ensures in
     (p .0, omega arith, omega arith, rw v (sym d ∙ is-good _ (sym (c .before .before .is-refused .ensures) ∙ c .before .if1 .left)))
 
