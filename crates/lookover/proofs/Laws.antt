@@ -1,17 +1,13 @@
 -- Looking over as the code does it, rows 1 to 5 and then the records; and bounds of every answer, for packing it.
-use Prim.Native.Nat.{ℕ, _≤_, _<_}
+use Prim.Native.Nat.{ℕ}
 use mathlib.Core.Path.{_≡_, refl, sym, ap, _∙_}
 use mathlib.Core.Bool.{Bool, true, false}
 use mathlib.Core.List.{List}
 use native.Mathlib.Nat.{add-zero}
 use native.Mathlib.Omega.{arith}
-use borrow.Author.Tests.{lt-ltb, le-ltb}
-use lib.Dec.{ltb}
-use lib.ListN.{length}
 use Rattle.answer.specs.declared.Answer.{Answer}
-use Rattle.answer.specs.declared.Answer.the-variants.{Good, Refused}
-use Rattle.answer.specs.Answer.{_>>=_, refuse, isRefused, valueOf}
-use Rattle.answer.specs.Laws.{bind-unit, refuse-met, refuse-unmet}
+use Rattle.answer.specs.Answer.{_>>=_, isRefused, valueOf}
+use Rattle.answer.specs.Laws.{bind-unit}
 use Rattle.answer.specs.Walk.{walk}
 use Rattle.terms.specs.declared.Sections.{Sections}
 use Rattle.terms.specs.Sections.{sectionsOf}
@@ -25,6 +21,7 @@ use Rattle.answer.specs.Bounds.{Bounded, bounded-of, bounded-good, bounded-then
 use Rattle.answer.specs.Turns.{part-stays, part-follows}
 use Rattle.records.specs.declared.Head.{Head}
 use Rattle.records.specs.Head.{headOf}
+use Rattle.records.specs.Rows.{bookEnd}
 use Rattle.records.proofs.Bounds.{records-bounded, total-bounded}
 
 module _ (form : Form) (h : Sections) (s : List ℕ) (is : h ≡ sectionsOf s) (a : Answer) (b : Bool) (first : a ≡ sections h s) (told : b ≡ isRefused a) where
@@ -61,14 +58,14 @@ look-over-bounded form s = look-over-by-bounded form (sectionsOf s) s
 
 -- one record that ends the book: its own rows, then the book's tail
 pub one-record : (form : Form) (h : Sections) (s : List ℕ) (at : ℕ)
-    → allRecords form h s 1 at ≡ (recordAt form h s at >>= λ last. refuse (ltb last (length s)) 6 last >>= λ _. Good (stepsIn s at))
-unfolding allRecords walk stepTotal
+    → allRecords form h s 1 at ≡ (recordAt form h s at >>= λ last. bookEnd s last (stepsIn s at))
+unfolding allRecords walk stepTotal bookEnd
 one-record form h s at = rw (bind-unit, add-zero)
 
--- its three answers, by what the calls in the code return
+-- its two answers, by what the calls in the code return
 module _ (form : Form) (h : Sections) (s : List ℕ) (at : ℕ) (read : h ≡ sectionsOf s) (a : Answer) (is : a ≡ recordAt form h s at) (b : Bool) (told : b ≡ isRefused a) where
   rest : ℕ → Answer
-  rest last = refuse (ltb last (length s)) 6 last >>= λ _. Good (stepsIn s at)
+  rest last = bookEnd s last (stepsIn s at)
 
   own : (recordAt form h s at >>= rest) ≡ allRecords form (sectionsOf s) s 1 at
   unfolding rest
@@ -77,14 +74,6 @@ module _ (form : Form) (h : Sections) (s : List ℕ) (at : ℕ) (read : h ≡ se
   pub last-refused : b ≡ true → a ≡ allRecords form (sectionsOf s) s 1 at
   last-refused e = part-stays _ rest a b is told e ∙ own
 
-  module _ (e : b ≡ false) (v : ℕ) (value : v ≡ valueOf a) where
-    after : rest v ≡ allRecords form (sectionsOf s) s 1 at
-    after = part-follows _ rest a b v is told e value ∙ own
-
-    pub last-tail : v < length s → Refused 6 v ≡ allRecords form (sectionsOf s) s 1 at
-    unfolding rest
-    last-tail l = sym (refuse-met _ _ _ _ (lt-ltb v (length s) l)) ∙ after
-
-    pub last-good : length s ≤ v → (head : Head) → head ≡ headOf s at → Good (head .steps) ≡ allRecords form (sectionsOf s) s 1 at
-    unfolding rest headOf
-    last-good l head f = ap (λ (x : Head). Good (x .steps)) f ∙ sym (refuse-unmet _ _ _ _ (le-ltb v (length s) l)) ∙ after
+  pub last-ended : b ≡ false → (v : ℕ) → v ≡ valueOf a → (head : Head) → head ≡ headOf s at → bookEnd s v (head .steps) ≡ allRecords form (sectionsOf s) s 1 at
+  unfolding rest headOf
+  last-ended e v value head f = ap (λ (x : Head). bookEnd s v (x .steps)) f ∙ part-follows _ rest a b v is told e value ∙ own

@@ -1,5 +1,5 @@
 // Looking over a book of either form: rows 1 to 10 of the refusal table, for any bytes; the count of all steps is good.
-// Uses answer, terms, sections, records for a head, the reader of one record, and the definitions of format. Nothing is observed; learning has a walk
+// Uses answer, terms, sections, records for a head and the book's tail, the reader of one record, and the definitions of format. Nothing is observed; learning has a walk
 // of its own (observing), which looks over and observes at once.
 use answer::Answer;
 use records::Head;
@@ -32,10 +32,7 @@ fn records(s: &[u8], short: bool, h: Sections, n: usize, from: usize) -> Answer
         }
         left -= 1;
     }
-    if at < s.len() {
-        return Answer::Refused(6, at);
-    }
-    Answer::Good(total)
+    records::book_end(s, at, total)
 }
 
 // The record at an offset, which ends the book; the count of its steps is good.
@@ -48,12 +45,8 @@ pub fn last_record(s: &[u8], short: bool, at: usize) -> Answer
     if answer::is_refused(record) {
         return record;
     }
-    let next = answer::value_of(record);
-    if next < s.len() {
-        return Answer::Refused(6, next);
-    }
     let head = Head::read(s, at);
-    Answer::Good(head.steps as usize)
+    records::book_end(s, answer::value_of(record), head.steps as usize)
 }
 
 pub fn look_over(s: &[u8], short: bool) -> Answer

@@ -3,11 +3,12 @@
 use Prim.Native.Nat.{ℕ, zero, suc, _+_, _-_, _≤_, _<_}
 use native.Mathlib.Omega.{arith}
 use mathlib.Core.Path.{_≡_, refl, sym, ap, _∙_}
-use mathlib.Core.Bool.{false}
+use mathlib.Core.Bool.{Bool, false}
 use mathlib.Core.List.{List}
 use lib.ListN.{length}
 use Rattle.answer.specs.declared.Answer.{Answer}
 use Rattle.answer.specs.declared.Answer.the-variants.{Good}
+use Rattle.answer.specs.Answer.{isRefused}
 use Rattle.mask.specs.Sets.{empty}
 use Rattle.terms.specs.declared.Fact.{Fact}
 use Rattle.limits.specs.Limits.{maxLength, maxFacts, stepSize, stateSize, nearCeiling}
@@ -22,6 +23,7 @@ use Rattle.observed.specs.Observed.{bound, Observed, observedSet, observe, obse
 use Rattle.observed.proofs.Noted.{length-noted, noted-bound}
 use Rattle.records.specs.declared.Scope.{Scope}
 use Rattle.records.specs.Readable.{schemaIn, typedIn, Readable, stepListed}
+use Rattle.records.specs.Rows.{stepAfter}
 use Rattle.records.proofs.Parts.{listed-good}
 use Rattle.records.proofs.Going.{Going, going-first, going-on}
 use Rattle.notes.specs.declared.Noted.{Noted}
@@ -93,13 +95,14 @@ module _ (s : List ℕ) (c : Scope) (ks table : List ℕ) (readable : Readable s
 
       pub observing-on : (m′ masks′ : List ℕ) (r : Noted)
           → Done (c .short) s (obs .before) at m masks named m′ masks′ r
+          → (after : Answer) → after ≡ stepAfter at (r .count) next → (b : Bool) → b ≡ isRefused after
           → length m′ ≡ stateSize
-          → r .count ≤ maxFacts
+          → b ≡ false
           → Observing s c first from m′ (r .count) (left - 1) (at + stepSize) next masks′ (r .named) whole
-      observing-on m′ masks′ r done long l =
+      observing-on m′ masks′ r done after is b refused long e =
           record {
             before = stateAfter (c .short) s (obs .before) (at + stepSize);
-            going = going-on s c ks table readable first from (obs .before) m held left at (obs .going) some a told next good m′ (r .count) (done .carried) long l;
+            going = going-on s c ks table readable first from (obs .before) m held left at (obs .going) some a told next good m′ (r .count) (done .carried) after is b refused long e;
             listed = λ f. (sym (after-full (c .short) s (obs .before) (at + stepSize) f), omega (arith, ends .2, readable .near), omega (arith, ends .1, readable .within));
             begun = begun-on masks′ (r .named) (done .observed);
             rest = one-more (left - 1) masks′ (r .named) (omega arith) (done .observed);

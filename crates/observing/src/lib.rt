@@ -155,12 +155,13 @@ fn observe_steps(
                 return stopped(Answer::Refused(k, p));
             }
             Answer::Good(next) => {
+                let after = records::step_after(at, r.count, next);
+                if answer::is_refused(after) {
+                    return stopped(after);
+                }
                 pre = at + limits::STEP_SIZE;
                 held = r.count;
                 name = r.named;
-                if (limits::MAX_FACTS as usize) < held {
-                    return stopped(Answer::Refused(8, pre));
-                }
                 at = next;
             }
         }

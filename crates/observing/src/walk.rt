@@ -1,5 +1,5 @@
 // The learner's walk over the records of a book, once and in file order: each looked over to its end, rows 6 to 10, and observed on the way.
-// Uses this crate's root for one record, reader for where the walk stands, records for a head, answer, terms, and the definitions of format and
+// Uses this crate's root for one record, reader for where the walk stands, records for a head and the book's tail, answer, terms, and the definitions of format and
 // observed. Where a book is looked over alone, lookover walks, with nothing lent.
 use super::Walked;
 use answer::Answer;
@@ -72,8 +72,8 @@ pub fn records(
         }
         left -= 1;
     }
-    if at < s.len() {
-        return super::stopped(Answer::Refused(6, at));
+    Walked {
+        answer: records::book_end(s, at, total),
+        named,
     }
-    super::ended(total, named)
 }

@@ -2,14 +2,14 @@
 use Prim.Native.Nat.{ℕ, _+_, _-_, _≤_, _<_}
 use native.Mathlib.Omega.{arith}
 use mathlib.Core.Path.{_≡_, refl, sym, _∙_, subst}
-use mathlib.Core.Bool.{true}
+use mathlib.Core.Bool.{Bool, true, false}
 use mathlib.Core.List.{List, []}
 use lib.Dec.{ltb}
 use lib.ListN.{length}
-use borrow.Author.Tests.{ltb-false, lt-ltb, le-ltb}
 use Rattle.limits.specs.Limits.{maxLength, maxFacts, stepSize, stateSize, nearCeiling}
 use Rattle.answer.specs.declared.Answer.{Answer}
 use Rattle.answer.specs.declared.Answer.the-variants.{Good, Refused}
+use Rattle.answer.specs.Answer.{isRefused}
 use Rattle.mask.specs.Sets.{empty, cardinality}
 use Rattle.terms.specs.declared.Fact.{Fact}
 use Rattle.terms.specs.Schema.{schema, typedObjects}
@@ -26,7 +26,8 @@ use Rattle.turning.specs.Turning.{Turnable, Carried, Carries}
 use Rattle.turning.proofs.Carrying.{carries-none, carries-count, carried-on, carried-many, after-none, list-turnable}
 use Rattle.records.specs.declared.Scope.{Scope}
 use Rattle.records.specs.Readable.{schemaIn, typedIn, Readable, stepListed}
-use Rattle.records.proofs.Parts.{listed-good, steps-none, steps-refused, steps-many, steps-on}
+use Rattle.records.specs.Rows.{stepAfter}
+use Rattle.records.proofs.Parts.{after-good, listed-good, steps-none, steps-refused, steps-stop, steps-on}
 
 -- the steps that are left, from the facts that hold before them, answer as all of them do; the state of these facts is carried
 pub record Going (s : List ℕ) (c : Scope) (first from : ℕ) (before : List Fact) (m : List ℕ) (count left at : ℕ) : Type 0 where
@@ -93,21 +94,26 @@ module _ (s : List ℕ) (c : Scope) (ks t : List ℕ) (readable : Readable s c k
               (list-suits (mostListed (c .short)) 8 _ _ s (c .end) _ next (behind .1)) (list-increasing (mostListed (c .short)) 8 _ _ s (c .end) _ next (behind .1)) m′ count′ carried
               (list-few (mostListed (c .short)) 8 _ _ s (c .end) _ next (behind .1))
 
-          pub going-many : maxFacts < count′ → Refused 8 (at + stepSize) ≡ steps (c .short) (schemaIn s c) (typedIn s c) s (c .end) (c .steps) (listAt s first) from
-          going-many l = steps-many (c .short) (schemaIn s c) (typedIn s c) s (c .end) _ left at before (going .rest) some a listed next good _ many (lt-ltb _ _ l)
+          module _ (r : Answer) (after : r ≡ stepAfter at count′ next) (b : Bool) (refused : b ≡ isRefused r) where
+            counted : r ≡ stepAfter at (length (stateAfter (c .short) s before (at + stepSize))) next
+            unfolding stepAfter
+            counted = rw (← many) after
 
-          pub going-on : length m′ ≡ stateSize → count′ ≤ maxFacts → Going s c first from (stateAfter (c .short) s before (at + stepSize)) m′ count′ (left - 1) next
-          unfolding filedFact
-          going-on long l =
-              let size = ltb-false maxFacts (length (stateAfter (c .short) s before (at + stepSize))) (sym many ∙ le-ltb maxFacts count′ l) in
-              record {
-                near = omega (arith, list-within _ (mostListed (c .short)) 8 _ _ s (c .end) _ next (behind .1), readable .near);
-                long = long;
-                right = next-right (c .short) _ _ s (c .end) before (at + stepSize) next (going .right) (next-in (c .short) _ _ s (c .end) before (at + stepSize) next (behind .1) size);
-                carries = carried-on (schemaIn s c) (typedIn s c) few known (c .short) before m count (going .right .suits) (going .right .increasing) (going .carries) s (at + stepSize)
-                    (list-suits (mostListed (c .short)) 8 _ _ s (c .end) _ next (behind .1)) (list-increasing (mostListed (c .short)) 8 _ _ s (c .end) _ next (behind .1)) m′ count′ carried;
-                rest = steps-on (c .short) (schemaIn s c) (typedIn s c) s (c .end) _ left at before (going .rest) some a listed next good _ many (le-ltb _ _ l);
-              }
+            pub going-stops : b ≡ true → r ≡ steps (c .short) (schemaIn s c) (typedIn s c) s (c .end) (c .steps) (listAt s first) from
+            going-stops e = steps-stop (c .short) (schemaIn s c) (typedIn s c) s (c .end) _ left at before (going .rest) some a listed next good r counted b refused e
+
+            pub going-on : length m′ ≡ stateSize → b ≡ false → Going s c first from (stateAfter (c .short) s before (at + stepSize)) m′ count′ (left - 1) next
+            unfolding filedFact
+            going-on long e =
+                let size = after-good at (length (stateAfter (c .short) s before (at + stepSize))) next r b counted refused e .0 in
+                record {
+                  near = omega (arith, list-within _ (mostListed (c .short)) 8 _ _ s (c .end) _ next (behind .1), readable .near);
+                  long = long;
+                  right = next-right (c .short) _ _ s (c .end) before (at + stepSize) next (going .right) (next-in (c .short) _ _ s (c .end) before (at + stepSize) next (behind .1) size);
+                  carries = carried-on (schemaIn s c) (typedIn s c) few known (c .short) before m count (going .right .suits) (going .right .increasing) (going .carries) s (at + stepSize)
+                      (list-suits (mostListed (c .short)) 8 _ _ s (c .end) _ next (behind .1)) (list-increasing (mostListed (c .short)) 8 _ _ s (c .end) _ next (behind .1)) m′ count′ carried;
+                  rest = steps-on (c .short) (schemaIn s c) (typedIn s c) s (c .end) _ left at before (going .rest) some a listed next good r counted b refused e;
+                }
 
     pub going-none : left ≡ 0 → Good at ≡ steps (c .short) (schemaIn s c) (typedIn s c) s (c .end) (c .steps) (listAt s first) from
     going-none e = steps-none (c .short) (schemaIn s c) (typedIn s c) s (c .end) _ left at before (going .rest) e

@@ -26,6 +26,7 @@ use Rattle.records.specs.declared.Head.{Head}
 use Rattle.records.specs.declared.Scope.{Scope}
 use Rattle.records.specs.Head.{headOf}
 use Rattle.records.specs.Readable.{scopeOf, Readable}
+use Rattle.records.specs.Rows.{bookEnd}
 
 -- a record whose head is right, by the scope that is made of it
 module _ (form : Form) (h : Sections) (s : List ℕ) (at end : ℕ) (head : Head) (read : head ≡ headOf s at) (c : Scope) (is : c ≡ scopeOf form h head at end) where
@@ -117,17 +118,19 @@ module _ (form : Form) (h : Sections) (s : List ℕ) where
   unfolding allRecords
   all-refused n from k p e = sym (bind-refused _ _ _ _ (sym e))
 
-  pub all-left : (n from last : ℕ) → Good last ≡ walk (recordAt form h s) n from → last < length s → Refused 6 last ≡ allRecords form h s n from
-  unfolding allRecords
-  all-left n from last e l = sym (bind-good _ _ _ (sym e) ∙ refuse-met _ _ _ _ (lt-ltb _ _ l))
+  pub all-ended : (n from last total : ℕ) → Good last ≡ walk (recordAt form h s) n from → total ≡ stepTotal s n from → bookEnd s last total ≡ allRecords form h s n from
+  unfolding allRecords bookEnd
+  all-ended n from last total e t = rw t (sym (bind-good _ _ _ (sym e)))
 
-  pub all-good : (n from last total : ℕ)
-      → Good last ≡ walk (recordAt form h s) n from
-      → length s ≤ last
-      → total ≡ stepTotal s n from
-      → Good total ≡ allRecords form h s n from
-  unfolding allRecords
-  all-good n from last total e l t = rw t (sym (bind-good _ _ _ (sym e) ∙ refuse-unmet _ _ _ _ (le-ltb _ _ l)))
+-- the book's tail, as the code meets it
+module _ (s : List ℕ) (last total : ℕ) where
+  pub end-left : last < length s → Refused 6 last ≡ bookEnd s last total
+  unfolding bookEnd
+  end-left l = sym (refuse-met _ _ _ _ (lt-ltb _ _ l))
+
+  pub end-none : length s ≤ last → Good total ≡ bookEnd s last total
+  unfolding bookEnd
+  end-none l = sym (refuse-unmet _ _ _ _ (le-ltb _ _ l))
 
 module _ (s : List ℕ) (whole : ℕ) where
   pub total-none : (n at total : ℕ) → total + stepTotal s n at ≡ whole → n ≡ 0 → total ≡ whole

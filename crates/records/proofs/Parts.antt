@@ -26,7 +26,26 @@ use Rattle.format.specs.Form.{Form, mostListed, stateAfter}
 use Rattle.format.specs.States.{cut, list, state, nextState}
 use Rattle.format.specs.Records.{stepRefused, step, steps, trajectory}
 use Rattle.records.specs.Readable.{stepAlone, stepListed}
+use Rattle.records.specs.Rows.{stepAfter}
 use Rattle.answer.specs.Turns.{is-good, part-stays, part-follows}
+
+-- a step after its list, as the code meets it
+module _ (at held next : ℕ) where
+  pub after-many : maxFacts < held → Refused 8 (at + stepSize) ≡ stepAfter at held next
+  unfolding stepAfter
+  after-many l = sym (refuse-met _ _ _ _ (lt-ltb _ _ l))
+
+  pub after-few : held ≤ maxFacts → Good next ≡ stepAfter at held next
+  unfolding stepAfter
+  after-few l = sym (refuse-unmet _ _ _ _ (le-ltb _ _ l))
+
+  -- where it is good
+  pub after-good : (r : Answer) (b : Bool) → r ≡ stepAfter at held next → b ≡ isRefused r → b ≡ false → (held ≤ maxFacts) × (r ≡ Good next)
+  unfolding stepAfter
+  after-good r b told refused e =
+      let good = is-good r (sym refused ∙ e) in
+      let (few, end) = passed _ 8 (at + stepSize) (valueOf r) _ (sym told ∙ good) in
+      (ltb-false _ _ few, good ∙ sym end)
 
 -- row 7, as the code meets it
 pub object-bad-by : (kinds : ℕ) (s : List ℕ) (end at x : ℕ) (b : Bool)
@@ -96,8 +115,8 @@ module _ (form : Form) (sch : Schema) (ob : TypedObjects) (s : List ℕ) (end : 
   -- a step is its list, and then how many facts that leaves
   step-parts : (before : List Fact) (at : ℕ)
       → step form sch ob s end before at
-      ≡ (stepListed form sch ob s end at >>= λ next. refuse (ltb maxFacts (length (stateAfter form s before (at + stepSize)))) 8 (at + stepSize) >>= λ _. Good next)
-  unfolding step stepListed stepAlone nextState _>>=_ refuse
+      ≡ (stepListed form sch ob s end at >>= λ next. stepAfter at (length (stateAfter form s before (at + stepSize))) next)
+  unfolding step stepListed stepAlone nextState stepAfter _>>=_ refuse
   step-parts before at = go (stepRefused sch ob s end at) (repeats (filedStepAt s at))
     where
       go : (x y : Bool)
@@ -140,15 +159,15 @@ module _ (form : Form) (sch : Schema) (ob : TypedObjects) (s : List ℕ) (end : 
       steps-refused k p e =
           sym (bind-refused _ _ k p (step-parts before at ∙ bind-refused _ _ k p (sym listed ∙ e))) ∙ one-more
 
-      module _ (next : ℕ) (good : a ≡ Good next) (b : Bool) (told : b ≡ ltb maxFacts (length (stateAfter form s before (at + stepSize)))) where
-        behind-list : step form sch ob s end before at ≡ (refuse b 8 (at + stepSize) >>= λ _. Good next)
-        behind-list = rw told (step-parts before at ∙ bind-good _ _ next (sym listed ∙ good))
+      module _ (next : ℕ) (good : a ≡ Good next) (r : Answer) (told : r ≡ stepAfter at (length (stateAfter form s before (at + stepSize))) next) (b : Bool) (refused : b ≡ isRefused r) where
+        behind-list : r ≡ step form sch ob s end before at
+        behind-list = sym (step-parts before at ∙ bind-good _ _ next (sym listed ∙ good) ∙ sym told)
 
-        pub steps-many : b ≡ true → Refused 8 (at + stepSize) ≡ whole
-        steps-many e = sym (bind-refused _ _ 8 (at + stepSize) (behind-list ∙ refuse-met _ _ _ _ e)) ∙ one-more
+        pub steps-stop : b ≡ true → r ≡ whole
+        steps-stop e = part-stays _ _ r b behind-list refused e ∙ one-more
 
         pub steps-on : b ≡ false → steps form sch ob s end (n - 1) (stateAfter form s before (at + stepSize)) next ≡ whole
-        steps-on e = sym (bind-good _ _ next (behind-list ∙ refuse-unmet _ _ _ _ e)) ∙ one-more
+        steps-on e = sym (bind-good _ _ next (sym behind-list ∙ after-good at _ next r b told refused e .1)) ∙ one-more
 
   pub trajectory-stays : (n at : ℕ) (a : Answer) (b : Bool) → a ≡ state asWritten 8 sch ob s end at → b ≡ isRefused a → b ≡ true → a ≡ trajectory form sch ob s end n at
   unfolding trajectory filedFact

@@ -19,6 +19,7 @@ ghost use Rattle.answer.specs.declared.Answer.the-variants.{Good};
 ghost use Rattle.tables.specs.Tables.{ForRightByKind};
 ghost use Rattle.records.specs.Head.{headOf};
 ghost use Rattle.records.specs.Readable.{scopeOf, Readable, stepAlone, stepListed};
+ghost use Rattle.records.specs.Rows.{stepAfter, bookEnd};
 
 // A record's head: how many objects it has, how many steps, and how many bytes.
 pub struct Head {
@@ -150,7 +151,18 @@ fn step(book: &[u8], c: Scope, kinds: &[u32; 256], table: &[u32; 512], at: usize
     )
 }
 
-// The steps behind a record's first state, each with the state after it, which is refused at its count if it has too many facts.
+// The step at an offset, once the list behind it is good, by how many facts hold after it: row 8 for too many, else where the next step starts.
+pub fn step_after(at: usize, held: usize, next: usize) -> Answer
+    requires { ⌜ at ≤ maxLength ⌝ }
+    ensures { λ r. ⌜ r ≡ stepAfter at held next ⌝ }
+{
+    if (limits::MAX_FACTS as usize) < held {
+        return Answer::Refused(8, at + limits::STEP_SIZE);
+    }
+    Answer::Good(next)
+}
+
+// The steps behind a record's first state, each with the state after it.
 fn steps(
     book: &[u8],
     c: Scope,
@@ -174,8 +186,9 @@ fn steps(
             Answer::Good(next) => {
                 let listed = at + limits::STEP_SIZE;
                 count = turning::carry(book, c.short, listed, &mut state, count);
-                if (limits::MAX_FACTS as usize) < count {
-                    return Answer::Refused(8, listed);
+                let after = step_after(at, count, next);
+                if answer::is_refused(after) {
+                    return after;
                 }
                 at = next;
             }
@@ -257,4 +270,14 @@ pub fn record_at(s: &[u8], short: bool, h: Sections, at: usize) -> Answer
         return end;
     }
     body(s, short, h, head, at, answer::value_of(end))
+}
+
+// The book, once its last record has ended: bytes left are row 6, else the count of all steps is good.
+pub fn book_end(s: &[u8], last: usize, total: usize) -> Answer
+    ensures { λ r. ⌜ r ≡ bookEnd (now (s .entry)) last total ⌝ }
+{
+    if last < s.len() {
+        return Answer::Refused(6, last);
+    }
+    Answer::Good(total)
 }

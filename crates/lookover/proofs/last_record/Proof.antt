@@ -1,6 +1,7 @@
 -- `last_record` meets its contract: the record's own rows, then the book's tail.
+use mathlib.Core.Path.{_∙_}
 use borrow.Author.Needs.{needs}
-use Rattle.lookover.proofs.Laws.{last-refused, last-tail, last-good}
+use Rattle.lookover.proofs.Laws.{last-refused, last-ended}
 use Rattle.lookover.proofs.last_record.Statement.{statement}
 use Rattle.lookover.proofs.last_record.Tie as tie
 
@@ -14,22 +15,13 @@ returns c =
 
 returns-2 : tie.Need-returns-2
 returns-2 c =
-    let v = c .before in
-    let x = v .before in
+    let v = c .before .before in
+    let r = v .before in
+    let x = r .before in
     let d = x .before .before in
-    last-tail _ _ _ _ (d .before .read .ensures) _ (d .record-from .ensures) _ (x .before .is-refused .ensures) (x .if1 .left) _ (v .value-of .ensures) (c .if2 .taken)
-
-returns-3 : tie.Need-returns-3
-returns-3 c =
-    let r = c .before in
-    let y = r .before in
-    let v = y .before in
-    let x = v .before in
-    let d = x .before .before in
-    last-good _ _ _ _ (d .before .read .ensures) _ (d .record-from .ensures) _ (x .before .is-refused .ensures) (x .if1 .left) _ (v .value-of .ensures) (y .if2 .left)
-    _ (r .read2 .ensures)
+    c .book-end .ensures ∙ last-ended _ _ _ _ (d .before .read .ensures) _ (d .record-from .ensures) _ (x .before .is-refused .ensures) (x .if1 .left) _ (v .value-of .ensures) _ (r .read2 .ensures)
 
 pub last-record-spec : {M : Type 1} → statement M
 last-record-spec =
     tie.close
-    (tie.spec (λ c κs. search needs) record-from-requires (λ c κs. search needs) returns (λ c κs. search needs) returns-2 (λ c κs. search needs) (λ c. search needs) returns-3)
+    (tie.spec (λ c κs. search needs) record-from-requires (λ c κs. search needs) returns (λ c κs. search needs) (λ c κs. search needs) (λ c. search needs) (λ c κs. search needs) returns-2)

@@ -8,7 +8,7 @@ use Rattle.limits.specs.Limits.{maxLength}
 use Rattle.format.specs.Records.{recordAt}
 use Rattle.format.specs.LookOver.{stepTotal}
 use Rattle.format.proofs.Records.{record-within}
-use Rattle.records.proofs.Laws.{all-refused, all-left, all-good, total-none, total-more}
+use Rattle.records.proofs.Laws.{all-refused, all-ended, total-none, total-more}
 use borrow.Author.Needs.{needs}
 use Rattle.lookover.proofs.records.Statement.{statement}
 use Rattle.lookover.proofs.records.Tie as tie
@@ -46,15 +46,12 @@ loop-again c =
     (omega (arith, p .1, w .1), omega arith, turn-good _ _ _ _ _ _ (i .2) some own e, total-more _ _ _ _ _ _ _ (i .3) some (c .before .read .ensures) (w .0))
 
 returns-2 : tie.Need-returns-2 Inv-loop μ-loop
-returns-2 c = all-left _ _ _ _ _ _ (turn-none _ _ _ _ (c .before .before .loop .inv .2) (omega arith)) (c .if1 .taken)
-
-returns-3 : tie.Need-returns-3 Inv-loop μ-loop
-returns-3 c =
+returns-2 c =
     let i = c .before .before .loop .inv in
-    all-good _ _ _ _ _ _ _ (turn-none _ _ _ _ (i .2) (omega arith)) (omega arith) (total-none _ _ _ _ _ (i .3) (omega arith))
+    c .book-end .ensures ∙ all-ended _ _ _ _ _ _ _ (turn-none _ _ _ _ (i .2) (omega arith)) (total-none _ _ _ _ _ (i .3) (omega arith))
 
 pub records-spec : {M : Type 1} → statement M
 records-spec =
     tie.close
     (tie.spec Inv-loop μ-loop loop-holds (λ c κs. search needs) (λ c. search needs) returns (λ c. search needs) (λ c κs. search needs) (λ c. search needs) (λ c. search needs)
-    (λ c. search needs) (λ c. search needs) loop-again returns-2 returns-3)
+    (λ c. search needs) (λ c. search needs) loop-again (λ c κs. search needs) returns-2)

@@ -7,11 +7,11 @@ use Rattle.mask.proofs.Flips.{cardinality-empty}
 use Rattle.format.specs.Lists.{listAt}
 use Rattle.format.specs.Decode.{recordedStepsAt}
 use Rattle.observed.specs.Observed.{observeAll}
-use Rattle.records.proofs.Going.{first-turnable, going-refused, going-many, going-none}
+use Rattle.records.proofs.Going.{first-turnable, going-refused, going-stops, going-none}
 use Rattle.lifting.specs.Pairs.{noDigits}
 use Rattle.lifting.proofs.Pairs.{digits-long}
 use Rattle.observing.proofs.Steps.{observedAs, Observing, observing-first, observing-ready, observing-on, observing-done}
-use Rattle.observing.proofs.Record.{refused-observes}
+use Rattle.observing.proofs.Record.{refused-observes, stays-observes}
 use borrow.Author.Needs.{needs}
 use Rattle.observing.proofs.observe_steps.Statement.{statement}
 use Rattle.observing.proofs.observe_steps.Tie as tie
@@ -53,12 +53,13 @@ returns c =
     (refused-observes _ _ _ _ _ _ _
     (going-refused _ _ _ _ (p .0) _ _ _ _ _ _ _ (l .loop .inv .0 .going) (o .before .before .before .before .loop-test .taken) _ (o .observe-step .ensures .0) _ _ (c .before .before .answer .given .1)))
 
-add-pre : tie.Need-add-pre Inv-loop μ-loop
-add-pre c = let n = c .before .before .before .before .before .before .before .before .before .before .before .before .loop .inv .0 .going .near in omega arith
+step-after-requires : tie.Need-step-after-requires Inv-loop μ-loop
+step-after-requires c κs = c .before .before .before .before .before .before .before .before .before .before .before .before .loop .inv .0 .going .near
 
 returns-2 : tie.Need-returns-2 Inv-loop μ-loop
 returns-2 c =
-    let a = c .before .before .before in
+    let b = c .before .before in
+    let a = b .before .before .before in
     let o = a .before .before .before .before .before .before in
     let l = o .before .before .before .before .before in
     let p = l .before .before .before .before .before .before .before .before .pre .0 in
@@ -66,12 +67,17 @@ returns-2 c =
     let e = a .answer2 .given .1 in
     let done = o .observe-step .ensures .1 _ e .1 (observing-ready _ _ _ _ (p .0) _ _ _ _ _ _ _ _ _ _ i) in
     rw (c .stopped2 .ensures)
-    (refused-observes _ _ _ _ _ _ _
-    (going-many _ _ _ _ (p .0) _ _ _ _ _ _ _ (i .going) (o .before .before .before .before .loop-test .taken) _ (o .observe-step .ensures .0) _ e _ _ (done .carried) (c .before .if1 .taken)))
+    (stays-observes _ _ _ _ _ _ _ (b .is-refused .ensures) (c .before .if1 .taken)
+    (going-stops _ _ _ _ (p .0) _ _ _ _ _ _ _ (i .going) (o .before .before .before .before .loop-test .taken) _ (o .observe-step .ensures .0) _ e _ _ (done .carried)
+    _ (b .before .step-after .ensures) _ (b .is-refused .ensures) (c .before .if1 .taken)))
+
+add-pre : tie.Need-add-pre Inv-loop μ-loop
+add-pre c = let n = c .before .before .before .before .before .before .before .before .before .before .before .before .before .before .before .loop .inv .0 .going .near in omega arith
 
 loop-again : tie.Need-loop-again Inv-loop μ-loop
 loop-again c =
-    let a = c .before .before in
+    let b = c .before in
+    let a = b .before .before .before in
     let o = a .before .before .before .before .before .before in
     let l = o .before .before .before .before .before in
     let p = l .before .before .before .before .before .before .before .before .pre .0 in
@@ -80,7 +86,7 @@ loop-again c =
     let w = o .observe-step .ensures .1 _ e in
     let done = w .1 (observing-ready _ _ _ _ (p .0) _ _ _ _ _ _ _ _ _ _ (i .0)) in
     let k = o .observe-step .kept in (
-      observing-on _ _ _ _ (p .0) _ _ _ _ _ _ _ _ _ _ (i .0) (p .1) (o .before .before .before .before .loop-test .taken) _ (o .observe-step .ensures .0) _ e _ _ _ done
+      observing-on _ _ _ _ (p .0) _ _ _ _ _ _ _ _ _ _ (i .0) (p .1) (o .before .before .before .before .loop-test .taken) _ (o .observe-step .ensures .0) _ e _ _ _ done _ (b .before .step-after .ensures) _ (b .is-refused .ensures)
           (k .1 .1 .1 .1 .1 .1 .1 .0 ∙ i .0 .going .long) (c .if1 .left),
       w .0,
       k .1 .1 .1 .1 .1 .1 .1 .1 .1 .0 ∙ i .2,
@@ -102,4 +108,4 @@ observe-steps-spec =
     tie.close
     (tie.spec Inv-loop μ-loop (λ c κs. search needs) (λ c κs. search needs) (λ c. search needs) carry-requires loop-holds
     (λ c. sym (digits-long _ (c .before .before .loop .inv .1))) (λ c. sym (c .before .before .before .loop .inv .0 .going .long)) observe-step-requires (λ c. search needs) (λ c κs. search needs) (λ c. search needs) returns
-    (λ c. search needs) add-pre (λ c. search needs) (λ c κs. search needs) (λ c. search needs) returns-2 (λ c. search needs) (λ c. search needs) loop-again (λ c κs. search needs) (λ c. search needs) returns-3)
+    (λ c. search needs) step-after-requires (λ c κs. search needs) (λ c κs. search needs) (λ c. search needs) returns-2 add-pre (λ c. search needs) (λ c. search needs) loop-again (λ c κs. search needs) (λ c. search needs) returns-3)

@@ -5,7 +5,7 @@ use Rattle.terms.specs.declared.Fact.{Fact}
 use mathlib.Core.Path.{sym}
 use Rattle.mask.proofs.Laws.{length-empty}
 use Rattle.mask.proofs.Flips.{cardinality-empty}
-use Rattle.records.proofs.Going.{Going, first-turnable, going-first, going-count, going-refused, going-turnable, going-many, going-on, going-none}
+use Rattle.records.proofs.Going.{Going, first-turnable, going-first, going-count, going-refused, going-turnable, going-stops, going-on, going-none}
 use borrow.Author.Needs.{needs}
 use Rattle.records.proofs.steps.Statement.{statement}
 use Rattle.records.proofs.steps.Tie as tie
@@ -50,19 +50,27 @@ carry-requires-2 c κs =
           (going-turnable _ _ _ _ (p .0) _ _ _ _ _ _ _ (l .loop .inv .1) (d .before .loop-test .taken) _ (d .step .ensures) _ (c .before .before .next .given .1), going-count _ _ _ _ (p .0) _ _ _ _ _ _ _ (l .loop .inv .1) short),
     )
 
+step-after-requires : tie.Need-step-after-requires Inv-loop μ-loop
+step-after-requires c κs = c .before .before .before .before .before .before .before .before .loop .inv .1 .near
+
 returns-2 : tie.Need-returns-2 Inv-loop μ-loop
 returns-2 c =
-    let d = c .before .before .before .before .before .before .before in
+    let k = c .before .before .before .before in
+    let d = k .before .before .before .before .before in
     let l = d .before .before in
-    going-many _ _ _ _ (l .before .before .before .before .before .before .pre .0) _ _ _ _ _ _ _ (l .loop .inv .1) (d .before .loop-test .taken) _ (d .step .ensures) _ (c .before .before .before .before .before .next .given .1) _ _ (c .before .before .carry2 .ensures .1)
-    (c .if1 .taken)
+    going-stops _ _ _ _ (l .before .before .before .before .before .before .pre .0) _ _ _ _ _ _ _ (l .loop .inv .1) (d .before .loop-test .taken) _ (d .step .ensures) _ (k .before .before .before .next .given .1) _ _ (k .carry2 .ensures .1)
+    _ (c .before .before .step-after .ensures) _ (c .before .is-refused .ensures) (c .if1 .taken)
 
 loop-again : tie.Need-loop-again Inv-loop μ-loop
 loop-again c =
-    let d = c .before .before .before .before .before .before .before in
+    let k = c .before .before .before .before in
+    let d = k .before .before .before .before .before in
     let l = d .before .before in
-    let k = c .before .before .carry2 .ensures in
-    (_, going-on _ _ _ _ (l .before .before .before .before .before .before .pre .0) _ _ _ _ _ _ _ (l .loop .inv .1) (d .before .loop-test .taken) _ (d .step .ensures) _ (c .before .before .before .before .before .next .given .1) _ _ (k .1) (k .0) (c .if1 .left))
+    let m = k .carry2 .ensures in (
+      _,
+      going-on _ _ _ _ (l .before .before .before .before .before .before .pre .0) _ _ _ _ _ _ _ (l .loop .inv .1) (d .before .loop-test .taken) _ (d .step .ensures) _ (k .before .before .before .next .given .1) _ _ (m .1)
+          _ (c .before .before .step-after .ensures) _ (c .before .is-refused .ensures) (m .0) (c .if1 .left),
+    )
 
 returns-3 : tie.Need-returns-3 Inv-loop μ-loop
 returns-3 c = going-none _ _ _ _ (c .before .before .before .before .before .before .before .pre .0) _ _ _ _ _ _ _ (c .before .loop .inv .1) (omega arith)
@@ -71,4 +79,4 @@ pub steps-spec : {M : Type 1} → statement M
 steps-spec =
     tie.close
     (tie.spec Inv-loop μ-loop (λ c κs. search needs) (λ c. search needs) carry-requires loop-holds step-requires (λ c. search needs) returns (λ c. search needs)
-    add-listed (λ c. search needs) carry-requires-2 (λ c. search needs) returns-2 (λ c. search needs) (λ c. search needs) loop-again returns-3)
+    add-listed (λ c. search needs) carry-requires-2 step-after-requires (λ c κs. search needs) returns-2 (λ c. search needs) (λ c. search needs) loop-again returns-3)

@@ -13,7 +13,7 @@ use Rattle.format.specs.Records.{recordAt}
 use Rattle.format.specs.LookOver.{stepTotal}
 use Rattle.format.proofs.Records.{record-within}
 use Rattle.observed.specs.Observed.{observedAfterAll}
-use Rattle.records.proofs.Laws.{all-refused, all-left, all-good, total-none, total-more}
+use Rattle.records.proofs.Laws.{all-refused, all-ended, total-none, total-more}
 use Rattle.observing.specs.Observing.{Begun}
 use Rattle.observing.proofs.Steps.{observedAs}
 use Rattle.observing.proofs.Records.{record-turn, records-done, refused-walked}
@@ -73,22 +73,15 @@ loop-again c =
 
 returns-2 : tie.Need-returns-2 Inv-loop μ-loop
 returns-2 c =
-    rw (c .stopped2 .ensures)
-    (refused-walked _ _ _ _ _ _ _ _ _ _
-    (all-left _ _ _ _ _ _ (turn-none _ _ _ _ (c .before .before .before .loop .inv .2) (omega arith)) (c .before .if1 .taken)))
-
-returns-3 : tie.Need-returns-3 Inv-loop μ-loop
-returns-3 c =
-    let i = c .before .before .before .loop .inv in
-    rw (c .ended .ensures)
-    (record {
-      says = all-good _ _ _ _ _ _ _ (turn-none _ _ _ _ (i .2) (omega arith)) (omega arith) (total-none _ _ _ _ _ (i .3) (omega arith));
+    let i = c .before .before .loop .inv in
+    record {
+      says = c .book-end .ensures ∙ all-ended _ _ _ _ _ _ _ (turn-none _ _ _ _ (i .2) (omega arith)) (total-none _ _ _ _ _ (i .3) (omega arith));
       observes = λ m e. records-done _ _ _ _ _ _ _ (omega arith) (i .6);
-    })
+    }
 
 pub records-spec : {M : Type 1} → statement M
 records-spec =
     tie.close
     (tie.spec Inv-loop μ-loop loop-holds observe-from-requires (λ c. search needs) (λ c κs. search needs) (λ c. search needs) returns
     (λ c. search needs) (λ c κs. search needs) (λ c. search needs) (λ c. search needs) (λ c. search needs) (λ c. search needs) loop-again
-    (λ c κs. search needs) (λ c. search needs) returns-2 (λ c κs. search needs) (λ c. search needs) returns-3)
+    (λ c κs. search needs) (λ c. search needs) returns-2)
