@@ -1,20 +1,20 @@
 -- Laws of sets of objects and of tables of them: an object put into a set, and what stands at an index of a table.
-use Prim.Native.Nat.{ℕ, _*_, _^_, _%_, _<_, _≤_}
-use mathlib.Core.Path.{_≡_, refl, sym, ap, _∙_}
+use Prim.Native.Nat.{ℕ, _*_, _/_, _^_, _%_, _<_, _≤_}
+use mathlib.Core.Path.{_≡_, refl, sym, ap, ap₂, _∙_}
 use mathlib.Core.Bool.{Bool, true, false, _&&_, _||_, and-false}
 use mathlib.Core.List.{List}
 use native.Mathlib.Nat.{one-mul}
 use native.Mathlib.Decide.{ℕ-discrete}
 use native.Mathlib.Omega.{arith}
 use borrow.Author.Tests.{ltb-true, ltb-false, ne-eqb}
-use lib.Bits.{bitOr}
+use lib.Bits.{bitAnd, bitOr}
 use lib.Dec.{lit<, eqb, ltb}
 use lib.ListN.{length, length-set}
 use lib.Pow.{shl-exact}
 use lib.Seq.{getD-set-same, getD-set-other}
 use Rattle.mask.specs.Bits.{bitOf}
 use Rattle.mask.specs.Sets.{empty}
-use Rattle.mask.proofs.Numbers.{bit-or, bit-power, bit-none}
+use Rattle.mask.proofs.Numbers.{bit-and, bit-or, bit-zero, bit-power, bit-none}
 use Rattle.mask.proofs.Bytes.{zeros}
 use Rattle.objectset.specs.Sets.{member, entry, put, stored}
 
@@ -54,6 +54,31 @@ member-one x = by (ℕ-discrete x 0)
     by : Dec (x ≡ 0) → (ltb x 32 && bitOf 1 (x % 32)) ≡ eqb x 0
     by (yes e) = rw e (bit-power 0 0)
     by (no d) = one-at x (ltb x 32) refl d ∙ sym (ne-eqb x 0 d)
+
+swapped : (s t u v : Bool) → ((s && t) && (u && v)) ≡ ((s && u) && (t && v))
+swapped true true u v = refl
+swapped true false u v = sym (and-false u)
+swapped false t u v = refl
+
+low-and : (p q : ℕ) → eqb (bitAnd p q % 2) 1 ≡ (eqb (p % 2) 1 && eqb (q % 2) 1)
+low-and p q = sym (bit-zero (bitAnd p q)) ∙ bit-and p q 0 ∙ ap₂ _&&_ (bit-zero p) (bit-zero q)
+
+-- two lowest bits, each under a condition, are tested as one
+lowest-two : (p q : ℕ) (s t : Bool) → ((s && t) && eqb (bitAnd p q % 2) 1) ≡ ((s && eqb (p % 2) 1) && (t && eqb (q % 2) 1))
+lowest-two p q s t = ap (λ (b : Bool). (s && t) && b) (low-and p q) ∙ swapped s t (eqb (p % 2) 1) (eqb (q % 2) 1)
+
+pub two-members : (m x n y : ℕ)
+    → ((ltb x 32 && ltb y 32) && eqb (bitAnd (m / 2 ^ (x % 32)) (n / 2 ^ (y % 32)) % 2) 1) ≡ (member m x && member n y)
+unfolding member bitOf
+two-members m x n y = lowest-two (m / 2 ^ (x % 32)) (n / 2 ^ (y % 32)) (ltb x 32) (ltb y 32)
+
+pub four-members : (m x n y k z l w : ℕ)
+    → (((ltb x 32 && ltb y 32) && (ltb z 32 && ltb w 32))
+    && eqb (bitAnd (bitAnd (m / 2 ^ (x % 32)) (n / 2 ^ (y % 32))) (bitAnd (k / 2 ^ (z % 32)) (l / 2 ^ (w % 32))) % 2) 1)
+    ≡ ((member m x && member n y) && (member k z && member l w))
+four-members m x n y k z l w =
+    lowest-two (bitAnd (m / 2 ^ (x % 32)) (n / 2 ^ (y % 32))) (bitAnd (k / 2 ^ (z % 32)) (l / 2 ^ (w % 32))) (ltb x 32 && ltb y 32) (ltb z 32 && ltb w 32)
+    ∙ ap₂ _&&_ (two-members m x n y) (two-members k z l w)
 
 -- ---- tables
 pub put-same : (t : List ℕ) (i x : ℕ) → i < length t → entry (put t i x) i ≡ bitOr (entry t i) (2 ^ x)

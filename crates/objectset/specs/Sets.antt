@@ -6,10 +6,15 @@ use lib.Bits.{bitOr}
 use lib.Dec.{ltb}
 use lib.ListN.{getD, set}
 use Rattle.mask.specs.Bits.{bitOf}
+use Rattle.objectset.specs.declared.Asked.{Asked}
 
 -- object x is in the set: the bit of value 2 ^ x is 1. A set has objects 0 to 31; object 0 stands for an unused place
 unfoldable pub member : ℕ → ℕ → Bool
 member m x = ltb x 32 && bitOf m (x % 32)
+
+-- an object is in the set of which it is asked
+unfoldable pub isIn : Asked → Bool
+isIn a = member (a .set) (a .object)
 
 -- the set at an index of a table; none past the end
 unfoldable pub entry : List ℕ → ℕ → ℕ

@@ -7,14 +7,17 @@ use native.Mathlib.Omega.{arith}
 use borrow.Author.Tests.{le-leb, lt-leb, ltb-true, leb-true, ltb-false, leb-false}
 use lib.Dec.{eqb, ltb, leb}
 use Rattle.truth.specs.Bools.{clash, and-out}
-use Rattle.objectset.specs.Sets.{member, entry}
+use Rattle.objectset.specs.declared.Asked.{Asked}
+use Rattle.objectset.specs.Sets.{member, isIn, entry}
 use Rattle.objectset.proofs.Laws.{member-none, member-one}
 use Rattle.terms.specs.declared.Object.{Object}
 use Rattle.terms.specs.declared.Relation.{Relation}
+use Rattle.terms.specs.declared.Step.{Step}
+use Rattle.terms.specs.Steps.{objectOf, argumentBad}
 use Rattle.terms.specs.Schema.{Schema, TypedObjects, outOfRange, kindSuits, objectBad}
 use Rattle.terms.specs.Facts.{factBad}
 use Rattle.terms.specs.Told.{suits}
-use Rattle.tables.specs.Tables.{RightByKind, kindsBad, placeSet, RightByPlace, RightFrom}
+use Rattle.tables.specs.Tables.{RightByKind, placeSet, RightByPlace, RightFrom, argument}
 use Rattle.tables.proofs.Turns.{below-all, RightByKindTo, RowsTo}
 
 -- ---- one place
@@ -33,6 +36,13 @@ unfolding RightByKind RightByKindTo
 kinds-right sch ob n ks e i k x =
     i .1 k (x .0) ∙ ap (λ (b : Bool). b && kindSuits sch k (ob .kind x)) (below-all (ob .count) n (x .0) (λ l. omega arith) (λ l. omega arith))
 
+none-of : (a b c d : Bool) → not ((not a && not b) && (not c && not d)) ≡ (a || b || c || d)
+none-of true b c d = refl
+none-of false true c d = refl
+none-of false false true d = refl
+none-of false false false true = refl
+none-of false false false false = refl
+
 both-good : (a s : Bool) → (not a && s) ≡ not (a || not s)
 both-good true s = refl
 both-good false true = refl
@@ -43,15 +53,26 @@ module _ (sch : Schema) (ob : TypedObjects) (ks : List ℕ) (right : RightByKind
   unfolding RightByKind
   object-in named x = right named x ∙ both-good (outOfRange (ob .count) (x .0)) (kindSuits sch named (ob .kind x))
 
-  pub kinds-bad : (used : Bool) (named : ℕ) (x : Object) → kindsBad ks used named x ≡ objectBad sch ob used named x
-  unfolding kindsBad objectBad
-  kinds-bad used named x = rw (object-in named x, Bool·not-not (outOfRange (ob .count) (x .0) || not (kindSuits sch named (ob .kind x)))) refl
-
   place-in : (used : Bool) (named : ℕ) (x : Object) → member (cond used (entry ks named) 1) (x .0) ≡ not (objectBad sch ob used named x)
   unfolding objectBad
   place-in true named x =
       rw (or-false (outOfRange (ob .count) (x .0) || not (kindSuits sch named (ob .kind x)))) (object-in named x)
   place-in false named x = member-one (x .0) ∙ sym (Bool·not-not (eqb (x .0) 0))
+
+  -- an object is in the set that suits its parameter, unless it is wrong there
+  argument-in : (st : Step) (i : ℕ)
+      → isIn (argument ks (sch .params (st .action)) i (sch .paramKind (st .action) (record { 0 = i })) (st .binding)) ≡ not (argumentBad sch ob st i)
+  unfolding isIn argument argumentBad
+  argument-in st i = place-in (leb i (sch .params (st .action))) (sch .paramKind (st .action) (record { 0 = i })) (objectOf (st .binding) (record { 0 = i }))
+
+  pub arguments-bad : (st : Step)
+      → (let a : ℕ → ℕ → Asked = λ i kind. argument ks (sch .params (st .action)) i kind (st .binding) in
+      not ((isIn (a 1 (sch .paramKind (st .action) (record { 0 = 1 }))) && isIn (a 2 (sch .paramKind (st .action) (record { 0 = 2 }))))
+      && (isIn (a 3 (sch .paramKind (st .action) (record { 0 = 3 }))) && isIn (a 4 (sch .paramKind (st .action) (record { 0 = 4 }))))))
+      ≡ (argumentBad sch ob st 1 || argumentBad sch ob st 2 || argumentBad sch ob st 3 || argumentBad sch ob st 4)
+  arguments-bad st =
+      rw (argument-in st 1, argument-in st 2, argument-in st 3, argument-in st 4)
+      (none-of (argumentBad sch ob st 1) (argumentBad sch ob st 2) (argumentBad sch ob st 3) (argumentBad sch ob st 4))
 
   pub place-set-in : (r : Relation) (i : ℕ) (x : Object)
       → member (placeSet sch ks r i) (x .0) ≡ not (objectBad sch ob (leb i (sch .places r)) (sch .placeKind r i) x)

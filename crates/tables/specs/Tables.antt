@@ -1,14 +1,19 @@
 -- Two tables of sets of objects: by kind, and by relation and place. When a table is right for typed objects and a schema.
-use Prim.Native.Nat.{ℕ, _<_}
+use Prim.Native.Nat.{ℕ, _+_, _<_}
 use mathlib.Core.Path.{_≡_}
 use mathlib.Core.Bool.{Bool, cond, _&&_, _||_, not}
 use mathlib.Core.List.{List}
 use lib.Dec.{eqb, leb}
 use lib.ListN.{length}
+use Rattle.input.specs.Bytes.{byteAt}
+use Rattle.objectset.specs.declared.Asked.{Asked}
 use Rattle.objectset.specs.Sets.{member, entry}
 use Rattle.terms.specs.declared.Object.{Object}
 use Rattle.terms.specs.declared.Relation.{Relation}
 use Rattle.terms.specs.declared.Fact.{Fact}
+use Rattle.terms.specs.declared.Binding.{Binding}
+use Rattle.terms.specs.Steps.{objectOf}
+use Rattle.tables.specs.declared.MoveEntry.{MoveEntry}
 use Rattle.terms.specs.Schema.{Schema, TypedObjects, outOfRange, kindSuits}
 use Rattle.terms.specs.Facts.{factBad}
 use Rattle.terms.specs.Told.{suits}
@@ -20,10 +25,6 @@ Joined sch kind x old new = (length new ≡ length old) × ((k y : ℕ) → memb
 -- the table by kind is right for a schema and typed objects: at each kind, the objects whose kind suits it
 unfoldable pub RightByKind : Schema → TypedObjects → List ℕ → Type 0
 RightByKind sch ob ks = (k : ℕ) (x : Object) → member (entry ks k) (x .0) ≡ (not (outOfRange (ob .count) (x .0)) && kindSuits sch k (ob .kind x))
-
--- what stands where an object of the kind named belongs is wrong, by the table
-unfoldable pub kindsBad : List ℕ → Bool → ℕ → Object → Bool
-kindsBad ks used named x = used && not (member (entry ks named) (x .0)) || not used && not (eqb (x .0) 0)
 
 -- the set that suits a place of a relation
 unfoldable pub placeSet : Schema → List ℕ → Relation → ℕ → ℕ
@@ -48,3 +49,18 @@ ForRightByPlace t P = (sch : Schema) (ob : TypedObjects) → RightByPlace sch ob
 -- what holds for all typed objects that the table by kind is right for, under a schema
 unfoldable pub ForRightByKind : Schema → List ℕ → (TypedObjects → Type 0) → Type 0
 ForRightByKind sch ks P = (ob : TypedObjects) → RightByKind sch ob ks → P ob
+
+-- a move's entry at an offset: how many parameters the move has, and the kinds of four
+unfoldable pub moveEntry : List ℕ → ℕ → MoveEntry
+moveEntry s at =
+    record {
+      params = byteAt s at;
+      first = byteAt s (at + 1);
+      second = byteAt s (at + 2);
+      third = byteAt s (at + 3);
+      fourth = byteAt s (at + 4);
+    }
+
+-- the object given for a parameter of a kind, and the set that suits it; a move has so many parameters
+unfoldable pub argument : List ℕ → ℕ → ℕ → ℕ → Binding → Asked
+argument ks params i kind b = record { set = cond (leb i params) (entry ks kind) 1; object = objectOf b (record { 0 = i }) .0 }

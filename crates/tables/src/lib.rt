@@ -1,6 +1,7 @@
 // Tables of what suits, made once for a record or an order: each fact and each step is then tested by a few reads. Uses input, terms,
 // limits, and objectset, whose sets stand in the tables.
-use terms::Object;
+use objectset::Asked;
+use terms::Binding;
 use terms::Objects;
 use terms::Param;
 use terms::Relation;
@@ -13,8 +14,8 @@ ghost use Rattle.limits.specs.Limits.{maxParams, nearCeiling};
 ghost use Rattle.mask.specs.Sets.{empty};
 ghost use Rattle.objectset.specs.Sets.{stored};
 ghost use Rattle.terms.specs.Schema.{schema, typedObjects};
-ghost use Rattle.terms.specs.Steps.{argumentBad, stepBad};
-ghost use Rattle.tables.specs.Tables.{Joined, RightByKind, kindsBad, placeSet, RightFrom, ForRightByKind};
+ghost use Rattle.terms.specs.Steps.{stepBad};
+ghost use Rattle.tables.specs.Tables.{Joined, RightByKind, placeSet, RightFrom, ForRightByKind, moveEntry, argument};
 
 // Puts an object into the set of its own kind and of each kind above it. Any bytes may stand as parents: so many kinds are looked at as
 // there may be.
@@ -67,14 +68,6 @@ pub fn kinds_of(book: &[u8], h: Sections, s: &[u8], objects: Objects) -> [u32; 2
     kinds
 }
 
-// What stands where an object of the kind named belongs is wrong. `used`: the place or parameter is one of those that count.
-fn object_bad(kinds: &[u32; 256], used: bool, named: u8, x: Object) -> bool
-    ensures { λ r. ⌜ r ≡ kindsBad (now (kinds .entry)) used named x ⌝ }
-{
-    (used & !objectset::member(objectset::entry(kinds, named as usize), x.0))
-        | (!used & !(x.0 == 0))
-}
-
 fn place_set(book: &[u8], h: Sections, kinds: &[u32; 256], r: Relation, i: u8) -> u32
     ensures { λ m. ⌜ m ≡ placeSet (schema h (now (book .entry))) (now (kinds .entry)) r i ⌝ }
 {
@@ -109,28 +102,70 @@ pub fn table_of(book: &[u8], h: Sections, kinds: &[u32; 256]) -> [u32; 512]
     t
 }
 
-// Row 9 of one parameter. The move has so many.
-fn argument_bad(book: &[u8], h: Sections, kinds: &[u32; 256], st: Step, params: u8, i: u8) -> bool
-    requires { ⌜ (i ≤ maxParams) × (params ≡ schema h (now book) .params (st .action)) ⌝ }
-    ensures { λ r. ⌜ ForRightByKind (schema h (now (book .entry))) (now (kinds .entry)) (λ ob. r ≡ argumentBad (schema h (now (book .entry))) ob st i) ⌝ }
+// A move's entry in a book: how many parameters it has, and the kind of each.
+struct MoveEntry {
+    params: u8,
+    first: u8,
+    second: u8,
+    third: u8,
+    fourth: u8,
+}
+
+// Of an entry that is not cut no byte is tested, which counts at every step.
+fn entry_at(book: &[u8], at: usize) -> MoveEntry
+    requires { ⌜ at ≤ nearCeiling ⌝ }
+    ensures { λ e. ⌜ e ≡ moveEntry (now (book .entry)) at ⌝ }
 {
-    let b = st.binding;
-    object_bad(
-        kinds,
-        i <= params,
-        h.param_kind(book, st.action, Param(i)),
-        b.object(Param(i)),
-    )
+    if book.len() < at + limits::MOVE_SIZE {
+        return MoveEntry {
+            params: input::byte_at(book, at),
+            first: input::byte_at(book, at + 1),
+            second: input::byte_at(book, at + 2),
+            third: input::byte_at(book, at + 3),
+            fourth: input::byte_at(book, at + 4),
+        };
+    }
+    MoveEntry {
+        params: book[at],
+        first: book[at + 1],
+        second: book[at + 2],
+        third: book[at + 3],
+        fourth: book[at + 4],
+    }
+}
+
+// The object given for a parameter, and the objects that suit it: those of its kind, or, where the move has fewer parameters, object 0.
+fn argument(kinds: &[u32; 256], params: u8, i: u8, kind: u8, b: Binding) -> Asked
+    requires { ⌜ i ≤ maxParams ⌝ }
+    ensures { λ r. ⌜ r ≡ argument (now (kinds .entry)) params i kind b ⌝ }
+{
+    let set = objectset::entry(kinds, kind as usize);
+    let object = b.object(Param(i));
+    if i <= params {
+        return Asked {
+            set,
+            object: object.0,
+        };
+    }
+    Asked {
+        set: 1,
+        object: object.0,
+    }
 }
 
 // Rows 9 and 18 of a step's move and objects: the move is there, and its parameters have objects that suit.
 pub fn step_bad(book: &[u8], h: Sections, kinds: &[u32; 256], st: Step) -> bool
     ensures { λ r. ⌜ ForRightByKind (schema h (now (book .entry))) (now (kinds .entry)) (λ ob. r ≡ stepBad (schema h (now (book .entry))) ob st) ⌝ }
 {
-    let params = h.params(book, st.action);
-    terms::out_of_range(h.moves.count, st.action.0 as u16)
-        | argument_bad(book, h, kinds, st, params, 1)
-        | argument_bad(book, h, kinds, st, params, 2)
-        | argument_bad(book, h, kinds, st, params, 3)
-        | argument_bad(book, h, kinds, st, params, 4)
+    if terms::out_of_range(h.moves.count, st.action.0 as u16) {
+        return true;
+    }
+    let e = entry_at(book, h.move_at(st.action));
+    let b = st.binding;
+    !objectset::four_in(
+        argument(kinds, e.params, 1, e.first, b),
+        argument(kinds, e.params, 2, e.second, b),
+        argument(kinds, e.params, 3, e.third, b),
+        argument(kinds, e.params, 4, e.fourth, b),
+    )
 }

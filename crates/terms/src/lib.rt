@@ -1,5 +1,6 @@
 // The words of the formats as values: typed numbers, sections, facts and steps, each read from bytes, and the tests that need no table.
 // Uses input, limits, and objectset for the tables that tell whether a fact suits; crate `tables` makes these. Every test is one Bool definition of specs/.
+use objectset::Asked;
 ghost use mathlib.Core.Path.{_≡_};
 ghost use Prim.Native.Nat.{_+_, _-_, _≤_, _<_};
 ghost use lib.ListN.{length};
@@ -146,14 +147,21 @@ pub fn atom_second(n: usize) -> Param
     Param((n % 4 + 1) as u8)
 }
 
-// A number from 1 as one from 0.
-pub fn index(n: u8) -> usize
-    ensures { λ r. ⌜ (r ≡ n - 1) × (r ≤ 254) ⌝ }
+// 1, but 0 of 0: what `index` subtracts. Compiled, that is shorter than a choice between 0 and n - 1, and each fact that turns asks it three times.
+fn one_at_most(n: u8) -> usize
+    ensures { λ r. ⌜ (r ≤ n) × (n - r ≡ n - 1) ⌝ }
 {
     if n == 0 {
         return 0;
     }
-    n as usize - 1
+    1
+}
+
+// A number from 1 as one from 0.
+pub fn index(n: u8) -> usize
+    ensures { λ r. ⌜ (r ≡ n - 1) × (r ≤ 254) ⌝ }
+{
+    n as usize - one_at_most(n)
 }
 
 pub fn out_of_range(count: u16, n: u16) -> bool
@@ -191,8 +199,16 @@ impl Fact {
         ensures { λ r. ⌜ r ≡ suits (now (table .entry)) self ⌝ }
     {
         let r = self.relation.0 as usize;
-        objectset::member(objectset::entry(table, r), self.first.0)
-            & objectset::member(objectset::entry(table, 256 + r), self.second.0)
+        objectset::two_in(
+            Asked {
+                set: objectset::entry(table, r),
+                object: self.first.0,
+            },
+            Asked {
+                set: objectset::entry(table, 256 + r),
+                object: self.second.0,
+            },
+        )
     }
 
     // Its number in a state's mask.
