@@ -74,16 +74,16 @@ impl FactCursor {
 
 // How many of n facts from an offset are not cut: the facts are then read without a test of each.
 fn uncut(end: usize, n: usize, from: usize) -> usize
+    requires { ⌜ (from ≤ nearCeiling + countSize) × (n ≤ maxTurns) ⌝ }
     ensures { λ r. ⌜ (r ≤ n) × (factSize * r ≤ end - from) × (r < n → end < from + factSize * r + factSize) ⌝ }
 {
+    if from + limits::FACT_SIZE * n <= end {
+        return n;
+    }
     if end < from {
         return 0;
     }
-    let room = (end - from) / limits::FACT_SIZE;
-    if n < room {
-        return n;
-    }
-    room
+    (end - from) / limits::FACT_SIZE
 }
 
 // A number of facts from an offset, each refused with the number given.
