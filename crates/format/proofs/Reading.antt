@@ -68,7 +68,7 @@ module _ {s t : List ℕ} {at at′ size : ℕ} (c : Copied s at t at′ size) w
 
     pub filed-step-copied : a + stepSize ≤ at + size → filedStepAt t b ≡ filedStepAt s a
     unfolding filedStepAt
-    filed-step-copied l = step-copied l
+    filed-step-copied l = rw (step-copied l)
 
     -- rows 4 and 5 read an entry and no more
     pub relation-copied : (kinds : ℕ) → a + relationSize ≤ at + size → relationBad t kinds b ≡ relationBad s kinds a
