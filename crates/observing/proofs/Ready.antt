@@ -67,18 +67,18 @@ after-short : (form : Form) (s : List ℕ) (before : List Fact) (at : ℕ) → f
 unfolding stateAfter
 after-short form s before at e = rw e
 
-module _ (s : List ℕ) (c : Scope) (table : List ℕ) (obs : Observable s c table) where
+module _ (s : List ℕ) (c : Scope) (ks table : List ℕ) (obs : Observable s c ks table) where
   pub known : schemaIn s c .relations ≤ 16
   unfolding schema
-  known = obs .known
+  known = obs .readable .known
 
   pub few : typedIn s c .count ≤ 16
   unfolding typedObjects
-  few = obs .few
+  few = obs .readable .few
 
   -- the table serves lists that turn
   pub right-few : RightForFew table
-  right-few = record { sch = schemaIn s c; ob = typedIn s c; right = obs .right; few = few; known = known }
+  right-few = record { sch = schemaIn s c; ob = typedIn s c; right = obs .readable .table; few = few; known = known }
 
   -- right facts suit by the table
   pub right-suited : (fs : List Fact) → ((f : Fact) → Mem f fs → factBad (schemaIn s c) (typedIn s c) f ≡ false) → Suited table fs
@@ -86,7 +86,7 @@ module _ (s : List ℕ) (c : Scope) (table : List ℕ) (obs : Observable s c tab
   right-suited fs right f m =
       let good = right f m in
       let low = range-out (schemaIn s c .relations) (f .relation .0) (fact-parts (schemaIn s c) (typedIn s c) f good .0) .1 in
-      go (suits table f) (obs .right f (omega (arith, low, known)) ∙ good)
+      go (suits table f) (obs .readable .table f (omega (arith, low, known)) ∙ good)
     where
       go : (b : Bool) → not b ≡ false → b ≡ true
       go true e = refl
@@ -121,7 +121,7 @@ module _ (s : List ℕ) (c : Scope) (table : List ℕ) (obs : Observable s c tab
 
     pub step-within : (at ≤ maxLength) × (listEnd s (at + stepSize) ≤ length s)
     step-within =
-        (omega (arith, behind, obs .near), omega (arith, whole-parts (mostListed (c .short)) s (c .end) (at + stepSize) (whole .list) .1, obs .within))
+        (omega (arith, behind, obs .readable .near), omega (arith, whole-parts (mostListed (c .short)) s (c .end) (at + stepSize) (whole .list) .1, obs .readable .within))
 
     bounded : Bounded (filedStepAt s at .binding)
     unfolding argumentBad

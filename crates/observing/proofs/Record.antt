@@ -3,7 +3,6 @@ use Prim.Native.Nat.{ℕ, _+_, _-_, _≤_}
 use mathlib.Core.Path.{_≡_, sym, ap, _∙_, subst}
 use mathlib.Core.Bool.{Bool, true}
 use mathlib.Core.List.{List}
-use lib.ListN.{length}
 use Rattle.truth.specs.Bools.{clash}
 use Rattle.answer.specs.declared.Answer.{Answer}
 use Rattle.answer.specs.declared.Answer.the-variants.{Good, Refused}
@@ -12,7 +11,7 @@ use Rattle.answer.specs.Laws.{good-refused, refused-good, bind-good, parted}
 use Rattle.terms.specs.declared.Sections.{Sections}
 use Rattle.terms.specs.Schema.{Schema, TypedObjects, schema, typedObjects}
 use Rattle.terms.specs.Typing.{Falling}
-use Rattle.limits.specs.Limits.{maxLength, maxFacts, maxMoves, maxObjects, maxRelations, headSize}
+use Rattle.limits.specs.Limits.{maxFacts, maxMoves, headSize}
 use Rattle.format.specs.Filed.{filedFact}
 use Rattle.format.specs.Lists.{listAt, listEnd}
 use Rattle.format.specs.Form.{Form}
@@ -22,11 +21,10 @@ use Rattle.format.specs.Decode.{recordedStepsAt, stepsOfRecord}
 use Rattle.format.proofs.States.{list-ends}
 use Rattle.format.proofs.Typing.{objects-known}
 use Rattle.answer.specs.Walk.{walk}
-use Rattle.tables.specs.Tables.{RightByPlace}
 use Rattle.records.specs.declared.Head.{Head}
 use Rattle.records.specs.declared.Scope.{Scope}
 use Rattle.records.specs.Head.{headOf}
-use Rattle.records.specs.Readable.{schemaIn, scopeOf}
+use Rattle.records.specs.Readable.{schemaIn, scopeOf, Readable}
 use Rattle.observed.specs.Observed.{Observed, observeAll}
 use Rattle.observed.proofs.Records.{observed-record}
 use Rattle.notes.specs.Notes.{IsObserved}
@@ -61,20 +59,14 @@ trajectory-observes form sch ob s end n at v before bytes w good o =
 
 module _ (form : Form) (h : Sections) (s : List ℕ) (at end : ℕ) (head : Head) (read : head ≡ headOf s at) (c : Scope) (is : c ≡ scopeOf form h head at end) where
   -- what its good objects give
-  pub record-observable : (table : List ℕ) (last : ℕ) → walk (object (h .kinds) s end) (head .objects) (c .objects .at) ≡ Good last
-      → Falling (schema h s) → head .objects ≤ maxObjects → h .relations .count ≤ maxRelations → h .moves .count ≤ maxMoves → end ≤ length s → end ≤ maxLength
-      → RightByPlace (schema h s) (typedObjects (c .objects) s) table
-      → Observable s c table
+  pub record-observable : (ks table : List ℕ) (last : ℕ) → walk (object (h .kinds) s end) (head .objects) (c .objects .at) ≡ Good last
+      → Falling (schema h s) → h .moves .count ≤ maxMoves → Readable s c ks table → Observable s c ks table
   unfolding scopeOf schema typedObjects
-  record-observable table last good fall few known moves within near right =
+  record-observable ks table last good fall moves readable =
       record {
+        readable = readable;
         typed = rw is (record { falling = fall; known = λ x low high. objects-known s (h .kinds) end (head .objects) (at + headSize) last (rw is at good) (x .0) low high });
-        few = rw is few;
-        known = rw is known;
         moves = rw is moves;
-        within = rw is within;
-        near = rw is near;
-        right = rw is (rw is at right);
       }
 
   pub begun-in : (bytes : List ℕ) → Begun (schema h s) bytes → Begun (schemaIn s c) bytes

@@ -71,12 +71,12 @@ module _ (s : List ℕ) (c : Scope) (ks table : List ℕ) (readable : Readable s
     observing-ready =
         record { before = obs .before; right = obs .going .right; listed = obs .listed; carries = obs .going .carries; long = obs .going .long; begun = obs .begun }
 
-    module _ (observable : Observable s c table) (some : 0 < left) (a : Answer) (told : a ≡ stepListed (c .short) (schemaIn s c) (typedIn s c) s (c .end) at) (next : ℕ) (good : a ≡ Good next) where
+    module _ (observable : Observable s c ks table) (some : 0 < left) (a : Answer) (told : a ≡ stepListed (c .short) (schemaIn s c) (typedIn s c) s (c .end) at) (next : ℕ) (good : a ≡ Good next) where
       -- what is observed keeps its size and the bound facts of each move
       begun-on : (masks′ : List ℕ) (r : ℕ) → IsObserved (observedStep (c .short) s (obs .before) at masks named) masks′ r → Begun (schemaIn s c) masks′
       unfolding observedStep observe observeBy recordedStep
       begun-on masks′ r o =
-          let (counted, known) = step-move s c table observable at (listed-whole s c table observable at next (sym told ∙ good)) in
+          let (counted, known) = step-move s c ks table observable at (listed-whole s c ks table observable at next (sym told ∙ good)) in
           record {
             sized = ap length (o .masks) ∙ length-noted _ counted known _ _ masks (obs .begun .sized);
             atoms = λ a low high. ap (λ (l : List ℕ). observedSet l a bound) (o .masks) ∙ noted-bound _ counted known _ _ masks (obs .begun .sized) a low high ∙ obs .begun .atoms a low high;

@@ -10,16 +10,15 @@ use Rattle.terms.specs.declared.Sections.{Sections}
 use Rattle.terms.specs.declared.Fact.{Fact}
 use Rattle.terms.specs.Schema.{Schema, schema}
 use Rattle.terms.specs.Typing.{Falling, RightObjects}
-use Rattle.limits.specs.Limits.{maxLength, maxObjects, maxRelations, maxMoves, stepSize, stateSize, observedSize}
+use Rattle.limits.specs.Limits.{maxLength, maxRelations, maxMoves, stepSize, stateSize, observedSize}
 use Rattle.format.specs.Lists.{listAt, listEnd}
 use Rattle.format.specs.Form.{Form, mostListed}
 use Rattle.format.specs.Parts.{recordPart, recordsAt}
 use Rattle.format.specs.Records.{recordAt}
 use Rattle.format.specs.LookOver.{allRecords}
-use Rattle.tables.specs.Tables.{RightByPlace}
 use Rattle.states.specs.Looked.{wholeList}
 use Rattle.records.specs.declared.Scope.{Scope}
-use Rattle.records.specs.Readable.{schemaIn, typedIn, stepAlone}
+use Rattle.records.specs.Readable.{schemaIn, typedIn, Readable, stepAlone}
 use Rattle.atoms.specs.Atoms.{atomSet}
 use Rattle.wellformed.specs.Right.{RightState}
 use Rattle.turning.specs.Turning.{Carried, Carries}
@@ -35,15 +34,15 @@ pub record Begun (sch : Schema) (masks : List ℕ) : Type 0 where
   pub sized : length masks ≡ observedSize
   pub atoms : (a : ℕ) → 1 ≤ a → a ≤ maxMoves → observedSet masks a bound ≡ atomSet sch a
 
--- a record that ends within the book, no more of anything than there may be, its objects of the book's kinds, and the table by relation right for them
-pub record Observable (s : List ℕ) (c : Scope) (table : List ℕ) : Type 0 where
+-- a record that can be read; its objects are of the book's kinds, and moves are no more than there may be
+pub record Observable (s : List ℕ) (c : Scope) (ks table : List ℕ) : Type 0 where
+  pub readable : Readable s c ks table
   pub typed : RightObjects (schemaIn s c) (typedIn s c)
-  pub few : c .objects .count ≤ maxObjects
-  pub known : c .h .relations .count ≤ maxRelations
   pub moves : c .h .moves .count ≤ maxMoves
-  pub within : c .end ≤ length s
-  pub near : c .end ≤ maxLength
-  pub right : RightByPlace (schemaIn s c) (typedIn s c) table
+
+-- where the table by kind is not at hand
+abbrev pub ObservableBy : List ℕ → Scope → List ℕ → Type 0
+ObservableBy s c table = (ks : List ℕ) × Observable s c ks table
 
 -- what stands for the facts before a step: in a full book the list at an offset, in a short one the state that is carried
 pub record Ready (s : List ℕ) (c : Scope) (pre : ℕ) (m : List ℕ) (held : ℕ) (masks : List ℕ) : Type 0 where

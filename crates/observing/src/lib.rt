@@ -24,9 +24,9 @@ ghost use Rattle.format.specs.Decode.{recordedStepsAt, stepsOfRecord};
 ghost use Rattle.states.specs.Looked.{ListLooked};
 ghost use Rattle.observed.specs.Observed.{observeAll};
 ghost use Rattle.records.specs.Head.{headOf};
-ghost use Rattle.records.specs.Readable.{schemaIn, typedIn, Readable, stepListed};
+ghost use Rattle.records.specs.Readable.{schemaIn, typedIn, stepListed};
 ghost use Rattle.lifting.specs.Pairs.{noDigits};
-ghost use Rattle.observing.specs.Observing.{Begun, CanObserve, Observable, Ready, Whole, DoneReady, Observes, RecordObserved};
+ghost use Rattle.observing.specs.Observing.{Begun, CanObserve, Observable, ObservableBy, Ready, Whole, DoneReady, Observes, RecordObserved};
 
 // What a walk over records comes to: its answer, and the offset of the first step that row 11 names, 0 where none is.
 pub struct Walked {
@@ -65,7 +65,7 @@ fn observe_list(
     observed: &mut [u8],
     named: usize,
 ) -> Noted
-    requires { ⌜ Observable (now book) c (now table) × Ready (now book) c pre (now state) held (now observed) × Whole (now book) c at × (now t ≡ noDigits) ⌝ }
+    requires { ⌜ ObservableBy (now book) c (now table) × Ready (now book) c pre (now state) held (now observed) × Whole (now book) c at × (now t ≡ noDigits) ⌝ }
     ensures { λ r. ⌜ ListLooked (now (book .entry)) (now (table .entry)) (at + stepSize) (r .answer) ⌝ }
     ensures { λ r. ⌜ ((k : ℕ) → r .answer ≡ Good k → (now (t .exit) ≡ noDigits) × DoneReady (now (book .entry)) c pre at (now (state .entry)) held (now (observed .entry)) named (now (state .exit)) (now (observed .exit)) r) ⌝ }
 {
@@ -89,7 +89,7 @@ fn observe_step(
     observed: &mut [u8],
     named: usize,
 ) -> Noted
-    requires { ⌜ Readable (now book) c (now kinds) (now table) × Observable (now book) c (now table) × Ready (now book) c pre (now state) held (now observed) × (at ≤ maxLength) × (now t ≡ noDigits) ⌝ }
+    requires { ⌜ Observable (now book) c (now kinds) (now table) × Ready (now book) c pre (now state) held (now observed) × (at ≤ maxLength) × (now t ≡ noDigits) ⌝ }
     ensures { λ r. ⌜ r .answer ≡ stepListed (c .short) (schemaIn (now (book .entry)) c) (typedIn (now (book .entry)) c) (now (book .entry)) (c .end) at ⌝ }
     ensures { λ r. ⌜ ((k : ℕ) → r .answer ≡ Good k → (now (t .exit) ≡ noDigits) × DoneReady (now (book .entry)) c pre at (now (state .entry)) held (now (observed .entry)) named (now (state .exit)) (now (observed .exit)) r) ⌝ }
 {
@@ -124,7 +124,7 @@ fn observe_steps(
     observed: &mut [u8],
     named: usize,
 ) -> Walked
-    requires { ⌜ Readable (now s) c (now kinds) (now table) × Observable (now s) c (now table) × Begun (schemaIn (now s) c) (now observed) ⌝ }
+    requires { ⌜ Observable (now s) c (now kinds) (now table) × Begun (schemaIn (now s) c) (now observed) ⌝ }
     requires { ⌜ (first ≤ nearCeiling) × (from ≤ maxLength) × (state (filedFact (c .short)) 8 (schemaIn (now s) c) (typedIn (now s) c) (now s) (c .end) first ≡ Good from) ⌝ }
     ensures { λ r. ⌜ Observes (schemaIn (now (s .entry)) c) (steps (c .short) (schemaIn (now (s .entry)) c) (typedIn (now (s .entry)) c) (now (s .entry)) (c .end) (c .steps) (listAt (now (s .entry)) first) from) (observeAll (recordedStepsAt (c .short) (now (s .entry)) (c .steps) (listAt (now (s .entry)) first) from) (record { masks = now (observed .entry); named = named })) (now (observed .exit)) r ⌝ }
 {
@@ -180,7 +180,7 @@ fn observe_trajectory(
     observed: &mut [u8],
     named: usize,
 ) -> Walked
-    requires { ⌜ Readable (now book) c (now kinds) (now table) × Observable (now book) c (now table) × Begun (schemaIn (now book) c) (now observed) × (at ≤ nearCeiling) ⌝ }
+    requires { ⌜ Observable (now book) c (now kinds) (now table) × Begun (schemaIn (now book) c) (now observed) × (at ≤ nearCeiling) ⌝ }
     ensures { λ r. ⌜ Observes (schemaIn (now (book .entry)) c) (trajectory (c .short) (schemaIn (now (book .entry)) c) (typedIn (now (book .entry)) c) (now (book .entry)) (c .end) (c .steps) at) (observeAll (recordedStepsAt (c .short) (now (book .entry)) (c .steps) (listAt (now (book .entry)) at) (listEnd (now (book .entry)) at)) (record { masks = now (observed .entry); named = named })) (now (observed .exit)) r ⌝ }
 {
     let first = states::state(8, book, table, c.end, at);

@@ -49,8 +49,8 @@ observe-trajectory-requires c κs =
     let w = objects-end _ _ _ _ _ _ good in
     let v = c .before .value-of .ensures in
     let right = t .table-of .ensures _ (k .kinds-of .ensures) in (
-      readable-by _ _ _ _ _ _ (p .1 .3) _ s _ _ (p .1 .2) (p .1 .1) (p .0 .0) (p .1 .4) (k .kinds-of .ensures) right,
-      record-observable _ _ _ _ _ _ (p .1 .3) _ s _ _ good (p .0 .2) (p .1 .4) (p .0 .0) (p .0 .1) (p .1 .2) (p .1 .1) right,
+      record-observable _ _ _ _ _ _ (p .1 .3) _ s _ _ _ good (p .0 .2) (p .0 .1)
+          (readable-by _ _ _ _ _ _ (p .1 .3) _ s _ _ (p .1 .2) (p .1 .1) (p .0 .0) (p .1 .4) (k .kinds-of .ensures) right),
       begun-in _ _ _ _ _ _ (p .1 .3) _ s _ (p .0 .3),
       omega arith,
     )

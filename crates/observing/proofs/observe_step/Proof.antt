@@ -17,15 +17,15 @@ unfolding ForRightByKind
 returns c =
     let d = c .before .before in
     let p = d .before .before .before .before .before .pre in (
-      step-stays _ _ _ _ _ _ _ _ (d .step-alone .ensures _ (p .0 .kinds)) (c .before .is-refused .ensures) (c .if1 .taken),
+      step-stays _ _ _ _ _ _ _ _ (d .step-alone .ensures _ (p .0 .readable .kinds)) (c .before .is-refused .ensures) (c .if1 .taken),
       λ k e. clash _ (sym (c .before .is-refused .ensures) ∙ c .if1 .taken) (ap isRefused e ∙ refused-good k),
     )
 
 is-whole-requires : tie.Need-is-whole-requires
-is-whole-requires c κs = (c .before .before .before .before .before .before .before .before .pre .0 .within, omega arith)
+is-whole-requires c κs = (c .before .before .before .before .before .before .before .before .pre .0 .readable .within, omega arith)
 
 list-requires : tie.Need-list-requires
-list-requires c κs = (c .before .before .most-listed .ensures .1, c .before .before .before .before .before .before .before .before .before .before .pre .0 .within, omega arith)
+list-requires c κs = (c .before .before .most-listed .ensures .1, c .before .before .before .before .before .before .before .before .before .before .pre .0 .readable .within, omega arith)
 
 returns-2 : tie.Need-returns-2
 unfolding ForRightByKind ForRightByPlace
@@ -34,9 +34,9 @@ returns-2 c =
     let i = m .before in
     let d = i .before .before in
     let p = d .before .before .before .before .before .pre in
-    let listed = rw (m .most-listed .ensures .0) at (c .list .ensures _ _ (p .0 .table)) in
-    let (fits, alone, place) = alone-found _ _ _ _ _ _ _ (d .step-alone .ensures _ (p .0 .kinds)) (i .before .is-refused .ensures) (i .if1 .left) in (
-      listed ∙ step-follows _ _ _ _ _ _ _ _ _ (d .step-alone .ensures _ (p .0 .kinds)) (i .before .is-refused .ensures) (i .if1 .left) place,
+    let listed = rw (m .most-listed .ensures .0) at (c .list .ensures _ _ (p .0 .readable .table)) in
+    let (fits, alone, place) = alone-found _ _ _ _ _ _ _ (d .step-alone .ensures _ (p .0 .readable .kinds)) (i .before .is-refused .ensures) (i .if1 .left) in (
+      listed ∙ step-follows _ _ _ _ _ _ _ _ _ (d .step-alone .ensures _ (p .0 .readable .kinds)) (i .before .is-refused .ensures) (i .if1 .left) place,
       λ k e. clash _ (good-whole _ _ _ _ _ _ _ _ _ (sym listed ∙ e)) (sym (rw (m .most-listed .ensures .0) at (c .before .before .is-whole .ensures)) ∙ not-true _ (c .before .if2 .taken)),
     )
 
@@ -48,8 +48,8 @@ observe-list-requires c κs =
     let i = m .before in
     let d = i .before .before in
     let p = d .before .before .before .before .before .pre in
-    let (fits, alone, place) = alone-found _ _ _ _ _ _ _ (d .step-alone .ensures _ (p .0 .kinds)) (i .before .is-refused .ensures) (i .if1 .left) in
-    (p .1, p .2, record { alone = alone; list = sym (rw (m .most-listed .ensures .0) at (w .before .is-whole .ensures)) ∙ not-false _ (w .if2 .left) }, p .4)
+    let (fits, alone, place) = alone-found _ _ _ _ _ _ _ (d .step-alone .ensures _ (p .0 .readable .kinds)) (i .before .is-refused .ensures) (i .if1 .left) in
+    ((_, p .0), p .1, record { alone = alone; list = sym (rw (m .most-listed .ensures .0) at (w .before .is-whole .ensures)) ∙ not-false _ (w .if2 .left) }, p .3)
 
 returns-3 : tie.Need-returns-3
 unfolding ForRightByKind ForRightByPlace
@@ -60,9 +60,9 @@ returns-3 c =
     let i = m .before in
     let d = i .before .before in
     let p = d .before .before .before .before .before .pre in
-    let (fits, alone, place) = alone-found _ _ _ _ _ _ _ (d .step-alone .ensures _ (p .0 .kinds)) (i .before .is-refused .ensures) (i .if1 .left) in (
-      list-looked _ _ _ _ _ _ (sym (rw (m .most-listed .ensures .0) at (w .before .is-whole .ensures)) ∙ not-false _ (w .if2 .left)) (o .observe-list .ensures .0) _ _ (p .0 .table)
-          ∙ step-follows _ _ _ _ _ _ _ _ _ (d .step-alone .ensures _ (p .0 .kinds)) (i .before .is-refused .ensures) (i .if1 .left) place,
+    let (fits, alone, place) = alone-found _ _ _ _ _ _ _ (d .step-alone .ensures _ (p .0 .readable .kinds)) (i .before .is-refused .ensures) (i .if1 .left) in (
+      list-looked _ _ _ _ _ _ (sym (rw (m .most-listed .ensures .0) at (w .before .is-whole .ensures)) ∙ not-false _ (w .if2 .left)) (o .observe-list .ensures .0) _ _ (p .0 .readable .table)
+          ∙ step-follows _ _ _ _ _ _ _ _ _ (d .step-alone .ensures _ (p .0 .readable .kinds)) (i .before .is-refused .ensures) (i .if1 .left) place,
       o .observe-list .ensures .1,
     )
 

@@ -29,20 +29,20 @@ carry-requires : tie.Need-carry-requires Inv-loop μ-loop
 carry-requires c κs =
     let p = c .before .before .before .before .before .pre in
     let e = c .before .empty512 .ensures in
-    (rw e (length-empty _), λ short. (first-turnable _ _ _ _ (p .0 .0) _ _ (p .1 .0) (p .1 .2), rw e (sym (cardinality-empty _))))
+    (rw e (length-empty _), λ short. (first-turnable _ _ _ _ (p .0 .0 .readable) _ _ (p .1 .0) (p .1 .2), rw e (sym (cardinality-empty _))))
 
 loop-holds : tie.Need-loop-holds Inv-loop μ-loop
 loop-holds c =
     let p = c .before .before .before .before .before .before .before .pre in
     let k = c .before .carry .ensures in
-    (observing-first _ _ _ _ (p .0 .0) _ _ (p .1 .0) (p .1 .2) _ _ _ (c .before .before .before .empty512 .ensures) (k .0) (k .1) _ _ (p .0 .2), c .before .before .before .before .no-digits .ensures, refl)
+    (observing-first _ _ _ _ (p .0 .0 .readable) _ _ (p .1 .0) (p .1 .2) _ _ _ (c .before .before .before .empty512 .ensures) (k .0) (k .1) _ _ (p .0 .1), c .before .before .before .before .no-digits .ensures, refl)
 
 observe-step-requires : tie.Need-observe-step-requires Inv-loop μ-loop
 observe-step-requires c κs =
     let l = c .before .before .before .before in
     let p = l .before .before .before .before .before .before .before .before .pre .0 in
     let i = l .loop .inv in
-    (p .0, p .1, observing-ready _ _ _ _ (p .0) _ _ _ _ _ _ _ _ _ _ (i .0), i .0 .going .near, i .1)
+    (p .0, observing-ready _ _ _ _ (p .0 .readable) _ _ _ _ _ _ _ _ _ _ (i .0), i .0 .going .near, i .1)
 
 returns : tie.Need-returns Inv-loop μ-loop
 returns c =
@@ -51,7 +51,7 @@ returns c =
     let p = l .before .before .before .before .before .before .before .before .pre .0 in
     rw (c .stopped .ensures)
     (refused-observes _ _ _ _ _ _ _
-    (going-refused _ _ _ _ (p .0) _ _ _ _ _ _ _ (l .loop .inv .0 .going) (o .before .before .before .before .loop-test .taken) _ (o .observe-step .ensures .0) _ _ (c .before .before .answer .given .1)))
+    (going-refused _ _ _ _ (p .0 .readable) _ _ _ _ _ _ _ (l .loop .inv .0 .going) (o .before .before .before .before .loop-test .taken) _ (o .observe-step .ensures .0) _ _ (c .before .before .answer .given .1)))
 
 step-after-requires : tie.Need-step-after-requires Inv-loop μ-loop
 step-after-requires c κs = c .before .before .before .before .before .before .before .before .before .before .before .before .loop .inv .0 .going .near
@@ -65,10 +65,10 @@ returns-2 c =
     let p = l .before .before .before .before .before .before .before .before .pre .0 in
     let i = l .loop .inv .0 in
     let e = a .answer2 .given .1 in
-    let done = o .observe-step .ensures .1 _ e .1 (observing-ready _ _ _ _ (p .0) _ _ _ _ _ _ _ _ _ _ i) in
+    let done = o .observe-step .ensures .1 _ e .1 (observing-ready _ _ _ _ (p .0 .readable) _ _ _ _ _ _ _ _ _ _ i) in
     rw (c .stopped2 .ensures)
     (stays-observes _ _ _ _ _ _ _ (b .is-refused .ensures) (c .before .if1 .taken)
-    (going-stops _ _ _ _ (p .0) _ _ _ _ _ _ _ (i .going) (o .before .before .before .before .loop-test .taken) _ (o .observe-step .ensures .0) _ e _ _ (done .carried)
+    (going-stops _ _ _ _ (p .0 .readable) _ _ _ _ _ _ _ (i .going) (o .before .before .before .before .loop-test .taken) _ (o .observe-step .ensures .0) _ e _ _ (done .carried)
     _ (b .before .step-after .ensures) _ (b .is-refused .ensures) (c .before .if1 .taken)))
 
 add-pre : tie.Need-add-pre Inv-loop μ-loop
@@ -84,9 +84,9 @@ loop-again c =
     let i = l .loop .inv in
     let e = a .answer2 .given .1 in
     let w = o .observe-step .ensures .1 _ e in
-    let done = w .1 (observing-ready _ _ _ _ (p .0) _ _ _ _ _ _ _ _ _ _ (i .0)) in
+    let done = w .1 (observing-ready _ _ _ _ (p .0 .readable) _ _ _ _ _ _ _ _ _ _ (i .0)) in
     let k = o .observe-step .kept in (
-      observing-on _ _ _ _ (p .0) _ _ _ _ _ _ _ _ _ _ (i .0) (p .1) (o .before .before .before .before .loop-test .taken) _ (o .observe-step .ensures .0) _ e _ _ _ done _ (b .before .step-after .ensures) _ (b .is-refused .ensures)
+      observing-on _ _ _ _ (p .0 .readable) _ _ _ _ _ _ _ _ _ _ (i .0) (p .0) (o .before .before .before .before .loop-test .taken) _ (o .observe-step .ensures .0) _ e _ _ _ done _ (b .before .step-after .ensures) _ (b .is-refused .ensures)
           (k .1 .1 .1 .1 .1 .1 .1 .0 ∙ i .0 .going .long) (c .if1 .left),
       w .0,
       k .1 .1 .1 .1 .1 .1 .1 .1 .1 .0 ∙ i .2,
@@ -99,8 +99,8 @@ returns-3 c =
     let i = l .loop .inv .0 in
     rw (c .ended .ensures)
     (record {
-      says = going-none _ _ _ _ (p .0) _ _ _ _ _ _ _ (i .going) (omega arith);
-      observes = λ k e. (observing-done _ _ _ _ (p .0) _ _ _ _ _ _ _ _ _ _ i (omega arith), i .begun);
+      says = going-none _ _ _ _ (p .0 .readable) _ _ _ _ _ _ _ (i .going) (omega arith);
+      observes = λ k e. (observing-done _ _ _ _ (p .0 .readable) _ _ _ _ _ _ _ _ _ _ i (omega arith), i .begun);
     })
 
 pub observe-steps-spec : {M : Type 1} → statement M

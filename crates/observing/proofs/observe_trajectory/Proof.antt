@@ -19,7 +19,7 @@ returns c =
     let p = d .before .before .before .pre in
     rw (c .stopped .ensures)
     (stays-observes _ _ _ _ _ _ _ (i .before .is-refused .ensures) (i .if1 .taken)
-    (trajectory-stays _ _ _ _ _ _ _ _ _ (d .state .ensures _ _ (p .0 .table)) (i .before .is-refused .ensures) (i .if1 .taken)))
+    (trajectory-stays _ _ _ _ _ _ _ _ _ (d .state .ensures _ _ (p .0 .readable .table)) (i .before .is-refused .ensures) (i .if1 .taken)))
 
 observe-steps-requires : tie.Need-observe-steps-requires
 unfolding ForRightByPlace filedFact
@@ -27,11 +27,11 @@ observe-steps-requires c κs =
     let i = c .before .before in
     let d = i .before .before in
     let p = d .before .before .before .pre in
-    let good = sym (d .state .ensures _ _ (p .0 .table)) ∙ is-good _ (sym (i .before .is-refused .ensures) ∙ i .if1 .left) in
+    let good = sym (d .state .ensures _ _ (p .0 .readable .table)) ∙ is-good _ (sym (i .before .is-refused .ensures) ∙ i .if1 .left) in
     let w = list-within _ _ _ _ _ _ _ _ _ good in
     let v = c .before .value-of .ensures in
-    let n = p .0 .near in
-    ((p .0, p .1, p .2), (p .3, omega arith, rw v good))
+    let n = p .0 .readable .near in
+    ((p .0, p .1), (p .2, omega arith, rw v good))
 
 returns-2 : tie.Need-returns-2
 unfolding ForRightByPlace filedFact
@@ -41,7 +41,7 @@ returns-2 c =
     let i = v .before in
     let d = i .before .before in
     let p = d .before .before .before .pre in
-    let good = sym (d .state .ensures _ _ (p .0 .table)) ∙ is-good _ (sym (i .before .is-refused .ensures) ∙ i .if1 .left) in
+    let good = sym (d .state .ensures _ _ (p .0 .readable .table)) ∙ is-good _ (sym (i .before .is-refused .ensures) ∙ i .if1 .left) in
     trajectory-observes _ _ _ _ _ _ _ _ _ _ _ (rw (v .value-of .ensures) good) (o .observe-steps .ensures)
 
 pub observe-trajectory-spec : {M : Type 1} → statement M
