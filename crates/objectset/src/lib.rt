@@ -3,13 +3,7 @@
 ghost use mathlib.Core.Path.{_≡_};
 ghost use mathlib.Core.Bool.{_&&_};
 ghost use Prim.Native.Nat.{_<_};
-ghost use Rattle.objectset.specs.Sets.{member, isIn, entry, put, stored};
-
-pub fn member(set: u32, x: u8) -> bool
-    ensures { λ r. ⌜ r ≡ member set x ⌝ }
-{
-    (x < 32) & ((set >> (x % 32)) % 2 == 1)
-}
+ghost use Rattle.objectset.specs.Sets.{isIn, entry, put, stored};
 
 // An object, and the set of which it is asked whether the object is in it.
 pub struct Asked {

@@ -250,8 +250,10 @@ fn body(s: &[u8], short: bool, h: Sections, head: Head, at: usize, end: usize) -
     if answer::is_refused(first) {
         return first;
     }
-    let kinds = tables::kinds_of(s, h, s, c.objects);
-    let table = tables::table_of(s, h, &kinds);
+    let mut kinds = tables::no_kinds();
+    tables::put_objects(s, h, s, c.objects, &mut kinds);
+    let mut table = tables::no_places();
+    tables::store_places(s, h, &kinds, &mut table);
     closed(
         trajectory(s, c, &kinds, &table, answer::value_of(first)),
         at,

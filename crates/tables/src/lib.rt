@@ -35,16 +35,35 @@ fn put_object(book: &[u8], h: Sections, kinds: &mut [u32; 256], kind: u8, x: u8)
     }
 }
 
-fn no_kinds() -> [u32; 256]
+pub fn no_kinds() -> [u32; 256]
     ensures { λ r. ⌜ r ≡ empty 256 ⌝ }
 {
     [0u32; 256]
 }
 
-fn no_places() -> [u32; 512]
+pub fn no_places() -> [u32; 512]
     ensures { λ r. ⌜ r ≡ empty 512 ⌝ }
 {
     [0u32; 512]
+}
+
+// Puts the objects in `s` into a table by kind that has none. The table is lent, for a large one that is returned is copied.
+pub fn put_objects(book: &[u8], h: Sections, s: &[u8], objects: Objects, kinds: &mut [u32; 256])
+    requires { ⌜ (objects .at ≤ nearCeiling) × (objects .count < 32) × (now kinds ≡ empty 256) ⌝ }
+    ensures { λ _. ⌜ RightByKind (schema h (now (book .entry))) (typedObjects objects (now (s .entry))) (now (kinds .exit)) ⌝ }
+{
+    let n = objects.count;
+    let mut x: u8 = 1;
+    while x <= n {
+        put_object(
+            book,
+            h,
+            kinds,
+            input::byte_at(s, objects.at + (x as usize - 1)),
+            x,
+        );
+        x += 1;
+    }
 }
 
 // The table by kind, of the objects in `s`.
@@ -52,19 +71,8 @@ pub fn kinds_of(book: &[u8], h: Sections, s: &[u8], objects: Objects) -> [u32; 2
     requires { ⌜ (objects .at ≤ nearCeiling) × (objects .count < 32) ⌝ }
     ensures { λ r. ⌜ RightByKind (schema h (now (book .entry))) (typedObjects objects (now (s .entry))) r ⌝ }
 {
-    let n = objects.count;
     let mut kinds = no_kinds();
-    let mut x: u8 = 1;
-    while x <= n {
-        put_object(
-            book,
-            h,
-            &mut kinds,
-            input::byte_at(s, objects.at + (x as usize - 1)),
-            x,
-        );
-        x += 1;
-    }
+    put_objects(book, h, s, objects, &mut kinds);
     kinds
 }
 
@@ -84,21 +92,29 @@ fn store_place(t: &mut [u32; 512], i: usize, set: u32)
     objectset::store(t, i, set);
 }
 
-// The table by relation. A number over 255 is no byte's.
-pub fn table_of(book: &[u8], h: Sections, kinds: &[u32; 256]) -> [u32; 512]
-    ensures { λ t. ⌜ RightFrom (schema h (now (book .entry))) (now (kinds .entry)) t ⌝ }
+// Stores the sets of all relations in a table that has none. A number over 255 is no byte's.
+pub fn store_places(book: &[u8], h: Sections, kinds: &[u32; 256], t: &mut [u32; 512])
+    requires { ⌜ now t ≡ empty 512 ⌝ }
+    ensures { λ _. ⌜ RightFrom (schema h (now (book .entry))) (now (kinds .entry)) (now (t .exit)) ⌝ }
 {
     let n = h.relations.count as usize;
-    let mut t = no_places();
     let mut r: usize = 1;
     while (r <= n) & (r < 256) {
         let number = r as u8;
         let first = place_set(book, h, kinds, Relation(number), 1);
         let second = place_set(book, h, kinds, Relation(number), 2);
-        store_place(&mut t, r, first);
-        store_place(&mut t, 256 + r, second);
+        store_place(t, r, first);
+        store_place(t, 256 + r, second);
         r += 1;
     }
+}
+
+// The table by relation.
+pub fn table_of(book: &[u8], h: Sections, kinds: &[u32; 256]) -> [u32; 512]
+    ensures { λ t. ⌜ RightFrom (schema h (now (book .entry))) (now (kinds .entry)) t ⌝ }
+{
+    let mut t = no_places();
+    store_places(book, h, kinds, &mut t);
     t
 }
 

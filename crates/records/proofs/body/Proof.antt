@@ -21,33 +21,36 @@ returns c =
     let g = d .before .before in
     body-stays _ _ _ _ _ _ (g .before .before .pre .4) _ (g .scope-of .ensures) _ _ (d .objects .ensures) (c .before .is-refused .ensures) (c .if1 .taken)
 
-kinds-of-requires : tie.Need-kinds-of-requires
-kinds-of-requires c κs =
-    let g = c .before .before .before .before in
+put-objects-requires : tie.Need-put-objects-requires
+put-objects-requires c κs =
+    let k = c .before in
+    let g = k .before .before .before .before .before in
     let p = g .before .before .pre in
     let e = objects-at _ _ _ _ _ _ (p .4) _ (g .scope-of .ensures) in
     let n = objects-counted _ _ _ _ _ _ (p .4) _ (g .scope-of .ensures) in
-    (omega arith, omega (arith, n, p .5))
+    (omega arith, omega (arith, n, p .5), k .no-kinds .ensures)
 
 trajectory-requires : tie.Need-trajectory-requires
 unfolding RightFrom
 trajectory-requires c κs =
-    let k = c .before .before .before .before .before in
-    let d = k .before .before .before in
+    let r = c .before .before .before in
+    let k = r .before .before .before .before in
+    let i = k .before .before .before in
+    let d = i .before .before in
     let g = d .before .before in
     let p = g .before .before .pre in
     let s = g .scope-of .ensures in
     let e = objects-at _ _ _ _ _ _ (p .4) _ s in
-    let w = objects-end _ _ _ _ _ _ (sym (d .objects .ensures) ∙ is-good _ (sym (k .before .before .is-refused .ensures) ∙ k .before .if1 .left)) in
+    let w = objects-end _ _ _ _ _ _ (sym (d .objects .ensures) ∙ is-good _ (sym (i .before .is-refused .ensures) ∙ i .if1 .left)) in
     let v = c .value-of .ensures in (
-      readable-by _ _ _ _ _ _ (p .4) _ s _ _ (p .3) (p .2) (p .0) (p .5) (k .kinds-of .ensures) (c .before .before .before .table-of .ensures _ (k .kinds-of .ensures)),
+      readable-by _ _ _ _ _ _ (p .4) _ s _ _ (p .3) (p .2) (p .0) (p .5) (k .put-objects .ensures) (r .store-places .ensures _ (k .put-objects .ensures)),
       omega arith,
     )
 
 returns-2 : tie.Need-returns-2
 returns-2 c =
     let t = c .before in
-    let i = t .before .before .before .before .before .before .before in
+    let i = t .before .before .before .before .before .before .before .before .before .before .before in
     let d = i .before .before in
     let g = d .before .before in
     c .closed .ensures
@@ -56,5 +59,5 @@ returns-2 c =
 pub body-spec : {M : Type 1} → statement M
 body-spec =
     tie.close
-    (tie.spec (λ c κs. search needs) (λ c. search needs) objects-requires (λ c κs. search needs) returns kinds-of-requires
-    (λ c κs. search needs) (λ c κs. search needs) trajectory-requires (λ c κs. search needs) returns-2)
+    (tie.spec (λ c κs. search needs) (λ c. search needs) objects-requires (λ c κs. search needs) returns (λ c κs. search needs) put-objects-requires
+    (λ c κs. search needs) (λ c κs. search needs) (λ c κs. search needs) trajectory-requires (λ c κs. search needs) returns-2)

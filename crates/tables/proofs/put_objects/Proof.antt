@@ -1,4 +1,4 @@
--- `kinds_of` meets its contract: the objects below x are in the table.
+-- `put_objects` meets its contract: the objects below x are in the table.
 use Prim.Native.Nat.{_+_, _-_, _≤_, _<_}
 use mathlib.Core.Path.{_≡_, refl}
 use native.Mathlib.Omega.{arith}
@@ -7,18 +7,18 @@ use Rattle.terms.specs.Schema.{schema, typedObjects}
 use Rattle.tables.proofs.Turns.{RightByKindTo, kinds-none, kinds-turn}
 use Rattle.tables.proofs.Laws.{kinds-right}
 use borrow.Author.Needs.{needs}
-use Rattle.tables.proofs.kinds_of.Statement.{statement}
-use Rattle.tables.proofs.kinds_of.Tie as tie
+use Rattle.tables.proofs.put_objects.Statement.{statement}
+use Rattle.tables.proofs.put_objects.Tie as tie
 
 abbrev Inv-loop : tie.InvT-loop
-Inv-loop book h s objects n kinds₀ x₀ kinds x =
+Inv-loop book h s objects kinds₀ n x₀ kinds x =
     (1 ≤ x) × (x ≤ n + 1) × (n ≡ objects .count) × (n < 32) × RightByKindTo (schema h book) (λ y. byteAt s (objects .at + (y - 1))) x kinds
 
 abbrev μ-loop : tie.MeasureT-loop
-μ-loop book h s objects n kinds₀ x₀ kinds x = n + 1 - x
+μ-loop book h s objects kinds₀ n x₀ kinds x = n + 1 - x
 
 loop-holds : tie.Need-loop-holds Inv-loop μ-loop
-loop-holds c = (omega arith, omega arith, refl, c .before .before .before .pre .1, kinds-none _ _ _ (c .no-kinds .ensures))
+loop-holds c = (omega arith, omega arith, refl, c .before .before .pre .1, kinds-none _ _ _ (c .before .before .pre .2))
 
 put-object-requires : tie.Need-put-object-requires Inv-loop μ-loop
 unfolding RightByKindTo
@@ -37,8 +37,8 @@ returns c =
     let i = c .before .loop .inv in
     kinds-right _ _ _ _ (omega arith) (i .4)
 
-pub kinds-of-spec : {M : Type 1} → statement M
-kinds-of-spec =
+pub put-objects-spec : {M : Type 1} → statement M
+put-objects-spec =
     tie.close
-    (tie.spec Inv-loop μ-loop (λ c κs. search needs) loop-holds (λ c. search needs) (λ c. search needs) (λ c. search needs) (λ c κs. search needs)
+    (tie.spec Inv-loop μ-loop loop-holds (λ c. search needs) (λ c. search needs) (λ c. search needs) (λ c κs. search needs)
     put-object-requires (λ c. search needs) (λ c. search needs) loop-again returns)
