@@ -3,8 +3,8 @@
 //! of a book.
 
 use second::calls::Form;
-use second::gen::hall::Dynamics;
-use second::gen::{book, BookDraft, Fact, Rng, Step};
+use second::gen::hall::{book, Dynamics};
+use second::gen::{BookDraft, Fact, Rng, Step};
 use second::{learn, Answer, Refusal};
 
 /// A bound fact: its number n, its relation, and its parameters (0 unused).

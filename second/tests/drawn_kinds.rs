@@ -4,8 +4,10 @@
 mod shared;
 
 use second::calls::Form;
-use second::gen::hall::{Dynamics, Rule, World};
-use second::gen::{book, fullbook, tiny, BookDraft, OrderDraft, Rng, Step};
+use second::gen::extreme::fullbook;
+use second::gen::hall::{book, Dynamics, Rule, World};
+use second::gen::plan::tiny;
+use second::gen::{BookDraft, OrderDraft, Rng, Step};
 use second::{check, form, listing, Answer};
 use shared::learned;
 

@@ -5,7 +5,9 @@ mod shared;
 
 use second::calls::{unpacked, Form, Job};
 use second::compare::{judge, judge_crowded, By, Capped, Run};
-use second::gen::{fullbook, tiny, BookDraft, OrderDraft, RecordDraft, Rng};
+use second::gen::extreme::fullbook;
+use second::gen::plan::tiny;
+use second::gen::{BookDraft, OrderDraft, RecordDraft, Rng};
 use second::judge::{self, verdicts, Verdict};
 use second::{check, Answer, Refusal, Second};
 use shared::hex;

@@ -4,8 +4,9 @@
 mod shared;
 
 use second::calls::{unpacked, Form, Job};
-use second::gen::hall::Dynamics;
-use second::gen::{book, order, tiny, BookDraft, Rng};
+use second::gen::hall::{book, Dynamics};
+use second::gen::plan::{order, tiny};
+use second::gen::{BookDraft, Rng};
 use second::judge::verdicts;
 use second::{listing, Answer, Refusal, Second};
 use shared::hex;

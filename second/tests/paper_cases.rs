@@ -3,7 +3,8 @@
 mod shared;
 
 use second::calls::Form;
-use second::gen::{fullbook, Rng};
+use second::gen::extreme::fullbook;
+use second::gen::Rng;
 use second::{add, form, learn, listing, Answer, Refusal};
 use shared::{hex, passes, refused, set};
 

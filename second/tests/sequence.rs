@@ -7,8 +7,10 @@ use std::cell::RefCell;
 
 use second::calls::{unpacked, Calls, Form, Job};
 use second::compare::{self, By, Run};
-use second::gen::hall::Dynamics;
-use second::gen::{book, order, sequence, tiny, Rng};
+use second::gen::draft::sequence;
+use second::gen::hall::{book, Dynamics};
+use second::gen::plan::{order, tiny};
+use second::gen::Rng;
 use second::judge::{verdicts, Verdict};
 use second::{check, form, learn, Answer, Second};
 

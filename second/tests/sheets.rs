@@ -1,9 +1,9 @@
 //! What the rule sheet does not depend on, and memory left untouched.
 
 use second::calls::{unpacked, Form, Job};
-use second::gen::hall::Dynamics;
-use second::gen::mixed::BookStream;
-use second::gen::{book, BookDraft, Rng};
+use second::gen::hall::{book, Dynamics};
+use second::gen::stream::mixed::BookStream;
+use second::gen::{BookDraft, Rng};
 use second::{learn, Second};
 
 fn sheet(draft: &BookDraft) -> (u32, Vec<u8>) {

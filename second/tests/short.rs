@@ -4,8 +4,10 @@
 mod shared;
 
 use second::calls::{unpacked, Calls, Form, Job};
-use second::gen::hall::Dynamics;
-use second::gen::{book, extreme, fullbook, order, turns, BookDraft, Rng};
+use second::gen::extreme::{fullbook, turns};
+use second::gen::hall::{book, Dynamics};
+use second::gen::plan::order;
+use second::gen::{extreme, BookDraft, Rng};
 use second::{add, check, convert, form, learn, Answer, Refusal, Second};
 use shared::{hex, set};
 

@@ -3,7 +3,8 @@
 mod shared;
 
 use second::calls::Form;
-use second::gen::{order, several, Rng};
+use second::gen::plan::{order, several};
+use second::gen::Rng;
 use second::judge::{verdicts, Verdict};
 use second::{check, listing, Answer, Refusal};
 use shared::hex;

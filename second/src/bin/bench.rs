@@ -18,7 +18,8 @@ mod timing;
 #[cfg(archive)]
 fn main() -> ExitCode {
     use second::calls::Form;
-    use second::gen::{fullbook, Rng};
+    use second::gen::extreme::fullbook;
+    use second::gen::Rng;
 
     let repeats = std::env::args().nth(1).map_or(Ok(201), |argument| argument.parse::<usize>());
     let Ok(repeats @ 1..) = repeats else {

@@ -49,7 +49,8 @@ fn each_alone(order: &[u8]) -> Vec<Vec<u8>> {
 #[cfg(test)]
 mod tests {
     use super::each_alone;
-    use crate::gen::{order, OrderDraft, Rng};
+    use crate::gen::plan::order;
+    use crate::gen::{OrderDraft, Rng};
 
     #[test]
     fn each_order_has_one_of_the_starts() {

@@ -12,8 +12,9 @@ use super::verdicts::{Decision, IsMet, Verdicts, CROWDED, TINY};
 use super::Run;
 use crate::answer::{Answer, Refusal};
 use crate::calls::{unpacked, Calls, Form};
-use crate::gen::order::Plan;
-use crate::gen::{crowded_hall, tiny, OrderDraft, Rng};
+use crate::gen::plan::order::Plan;
+use crate::gen::plan::{crowded_hall, tiny};
+use crate::gen::{OrderDraft, Rng};
 use crate::judge::{self, Judgement, Verdict};
 use crate::limits::{END_SHEET_LENGTH, FACT_LIMIT, RULES_LENGTH};
 

@@ -6,7 +6,8 @@ use super::kinds::{Kind, Kinds};
 use super::lent::Lent;
 use crate::answer::Answer;
 use crate::calls::{unpacked, Calls, Job};
-use crate::gen::{sequence, JobCase, Rng};
+use crate::gen::draft::sequence;
+use crate::gen::{JobCase, Rng};
 use crate::Second;
 
 /// Tells a kind by the answers to a book and to the same in another sequence.

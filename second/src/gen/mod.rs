@@ -4,42 +4,14 @@
 //! Nothing here rests on the code under test. A damaged case carries the answer
 //! that its fault must bring, worked out from where the fault was put.
 
-pub mod addition;
 pub mod aim;
-pub mod book;
-pub mod checking;
-pub mod converting;
-pub mod crowded;
-pub mod crowded_hall;
 pub mod draft;
-pub mod execution;
 pub mod extreme;
-pub mod facts;
-pub mod front;
-pub mod front_faults;
-pub mod fullbook;
+pub mod faults;
 pub mod hall;
-pub mod head_and_tail;
-pub mod kinds;
-pub mod learning;
-pub mod mixed;
-pub mod no_steps;
-pub mod order;
-pub mod order_faults;
-pub mod parent_faults;
-pub mod parsed;
-pub mod record_faults;
+pub mod plan;
 pub mod rng;
-pub mod sequence;
-pub mod several;
-pub mod spoil;
-pub mod start_faults;
-pub mod starts;
 pub mod stream;
-pub mod taught;
-pub mod tiny;
-pub mod turns;
-pub mod twin;
 
 pub use aim::{Aim, Hit, Label};
 pub use draft::{BookDraft, Fact, OrderDraft, RecordDraft, Step};

@@ -10,7 +10,8 @@ use super::hall::{
 use super::Vector;
 use crate::answer::{Answer, Refusal};
 use crate::calls::Job::{Add, LookOver};
-use crate::gen::{fullbook, BookDraft, RecordDraft, Rng};
+use crate::gen::extreme::fullbook;
+use crate::gen::{BookDraft, RecordDraft, Rng};
 use crate::limits::BOOK_LIMIT;
 
 pub fn all() -> Vec<Vector> {

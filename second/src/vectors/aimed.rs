@@ -5,10 +5,10 @@ use super::paper::check;
 use super::Vector;
 use crate::answer::Answer;
 use crate::calls::{Form, Job};
-use crate::gen::addition::AddStream;
-use crate::gen::{
-    book, front_faults, order, order_faults, record_faults, Aim, BookDraft, Label, Rng,
-};
+use crate::gen::hall::book;
+use crate::gen::plan::order;
+use crate::gen::stream::addition::AddStream;
+use crate::gen::{faults, Aim, BookDraft, Label, Rng};
 
 const TRIES: u64 = 300;
 
@@ -40,7 +40,7 @@ fn name(answer: u32, part: &str, label: Label) -> String {
 
 /// Rows 1 to 10, 21 and 24: each of the four calls meets them.
 pub fn books() -> Vec<Vector> {
-    let aims = front_faults::aims().into_iter().chain(record_faults::aims(Form::Full));
+    let aims = faults::front::aims().into_iter().chain(faults::records::aims(Form::Full));
     aims.flat_map(|aim| {
         let name = name(aim.refusal as u32, "book", aim.label);
         two_of(&name, |rng| {
@@ -61,12 +61,12 @@ pub fn short_books() -> Vec<Vector> {
             Vector::new(&name, &jobs, book, answer).form(Form::Short.number())
         })
     };
-    record_faults::aims(Form::Short).into_iter().flat_map(of_aim).collect()
+    faults::records::aims(Form::Short).into_iter().flat_map(of_aim).collect()
 }
 
 /// Rows 14 to 18.
 pub fn orders() -> Vec<Vector> {
-    order_faults::aims()
+    faults::orders::aims()
         .into_iter()
         .flat_map(|aim| {
             let name = name(aim.refusal as u32, "order", aim.label);

@@ -6,8 +6,9 @@ use super::paper::{check, missed};
 use super::Vector;
 use crate::answer::{Answer, Refusal};
 use crate::calls::Job::{self, Learn, LookOver};
-use crate::gen::order::at_the_limits;
-use crate::gen::{fullbook, BookDraft, OrderDraft, RecordDraft, Rng};
+use crate::gen::extreme::fullbook;
+use crate::gen::plan::order::at_the_limits;
+use crate::gen::{BookDraft, OrderDraft, RecordDraft, Rng};
 use crate::limits::{BOOK_LIMIT, RULES_LENGTH};
 
 pub fn all() -> Vec<Vector> {

@@ -8,8 +8,9 @@ use super::Vector;
 use crate::answer::{Answer, Refusal};
 use crate::calls::Form;
 use crate::calls::Job::{self, Add, Check, Learn, LookOver};
-use crate::gen::order::at_the_limits;
-use crate::gen::{extreme, fullbook, BookDraft, OrderDraft, RecordDraft, Rng};
+use crate::gen::extreme::fullbook;
+use crate::gen::plan::order::at_the_limits;
+use crate::gen::{extreme, BookDraft, OrderDraft, RecordDraft, Rng};
 use crate::limits::{END_SHEET_LENGTH, FACT_LIMIT};
 
 /// A check with an end sheet of the right length.

@@ -8,7 +8,8 @@ use crate::answer::{Answer, Refusal};
 use crate::calls::Form;
 use crate::calls::Job::{self, Add, Check, Learn, LookOver, ToFull};
 use crate::gen::draft::put_number;
-use crate::gen::{turns, BookDraft, Fact, RecordDraft, Step};
+use crate::gen::extreme::turns;
+use crate::gen::{BookDraft, Fact, RecordDraft, Step};
 use crate::limits::OBJECT_LIMIT;
 
 const STEP: Step = [1, 0, 0, 0, 0];

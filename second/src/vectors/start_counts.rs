@@ -5,7 +5,7 @@ use super::hall::{changed, empty_end, filed, m2, small_hall, with, START};
 use super::paper::check;
 use super::Vector;
 use crate::answer::{Answer, Refusal};
-use crate::gen::order::at_the_limits;
+use crate::gen::plan::order::at_the_limits;
 use crate::gen::{Fact, OrderDraft};
 use crate::limits::{FACT_LIMIT, START_LIMIT};
 

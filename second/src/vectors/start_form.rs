@@ -5,7 +5,7 @@ use super::hall::{changed, m2, small_hall, START};
 use super::paper::check;
 use super::Vector;
 use crate::answer::{Answer, Refusal};
-use crate::gen::start_faults::ended;
+use crate::gen::faults::starts::ended;
 use crate::gen::{BookDraft, OrderDraft};
 
 const COUNTS: [usize; 3] = [20, 31, 42];
