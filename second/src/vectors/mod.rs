@@ -3,42 +3,21 @@
 //! rows are met.
 //!
 //! The expected answers come from the paper, by hand, or from where a fault was
-//! put (`aimed`), and never from this implementation.
+//! put (`rows/aimed.rs`), and never from this implementation.
 
 mod adding;
-mod aimed;
-mod both;
-mod both_orders;
-mod carried;
-mod converted_lengths;
-mod converting;
-mod cuts;
-mod each_byte;
-mod families;
+mod bytes;
 pub mod file;
 mod further;
 mod hall;
-mod largest;
-mod lent;
-mod many;
+mod kinds;
+mod limits;
 mod no_steps;
-mod no_steps_calls;
-mod offsets;
 mod paper;
-mod parents;
-mod permuted;
-mod permuted_plans;
 mod rows;
-mod short_adding;
-mod short_hall;
-mod short_states;
-mod short_twins;
-mod start_counts;
-mod start_form;
+mod sequence;
+mod short;
 mod starts;
-mod wagon;
-mod wagon_learning;
-mod wagon_plans;
 
 pub use file::{missing, parse, print, run, Failure, Vector};
 
@@ -75,9 +54,9 @@ impl Vector {
 pub fn all() -> Vec<Vector> {
     let mut vectors = full_books();
     vectors.extend(short_books());
-    vectors.extend(no_steps::all());
-    vectors.extend(no_steps_calls::all());
-    vectors.extend(permuted::all());
+    vectors.extend(no_steps::books::all());
+    vectors.extend(no_steps::calls::all());
+    vectors.extend(sequence::permuted::all());
     vectors
 }
 
@@ -85,52 +64,56 @@ fn full_books() -> Vec<Vector> {
     let mut vectors = paper::marked();
     vectors.extend(paper::decisions());
     vectors.extend(paper::limits());
-    vectors.extend(rows::learning());
-    vectors.extend(rows::outputs());
-    vectors.extend(rows::plans());
-    vectors.extend(rows::plans_without_places());
-    vectors.extend(many::plans());
-    vectors.extend(largest::all());
-    vectors.extend(offsets::all());
-    vectors.extend(each_byte::all());
-    vectors.extend(cuts::all());
-    vectors.extend(both::all());
-    vectors.extend(both_orders::all());
-    vectors.extend(lent::all());
-    vectors.extend(starts::all());
-    vectors.extend(start_counts::all());
-    vectors.extend(start_form::all());
+    vectors.extend(rows::alone::learning());
+    vectors.extend(rows::alone::outputs());
+    vectors.extend(rows::alone::plans());
+    vectors.extend(rows::alone::plans_without_places());
+    vectors.extend(limits::many::plans());
+    vectors.extend(limits::largest::all());
+    vectors.extend(bytes::offsets::all());
+    vectors.extend(bytes::each_byte::all());
+    vectors.extend(bytes::cuts::all());
+    vectors.extend(rows::both::all());
+    vectors.extend(rows::both_orders::all());
+    vectors.extend(rows::lent::all());
+    vectors.extend(starts::plans::all());
+    vectors.extend(starts::counts::all());
+    vectors.extend(starts::form::all());
     vectors.extend(adding::all());
     vectors.extend(further::all());
-    vectors.extend(parents::all());
-    vectors.extend(wagon::all());
-    vectors.extend(wagon_learning::all());
-    vectors.extend(wagon_plans::all());
-    vectors.extend(families::all());
-    vectors.extend(aimed::books());
-    vectors.extend(aimed::orders());
-    vectors.extend(aimed::additions());
-    vectors.extend(carried::all());
+    vectors.extend(kinds::parents::all());
+    vectors.extend(kinds::wagon::all());
+    vectors.extend(kinds::wagon_learning::all());
+    vectors.extend(kinds::wagon_plans::all());
+    vectors.extend(kinds::families::all());
+    vectors.extend(rows::aimed::books());
+    vectors.extend(rows::aimed::orders());
+    vectors.extend(rows::aimed::additions());
+    vectors.extend(short::carried::all());
     vectors
 }
 
 /// Short books, and books to be converted.
 fn short_books() -> Vec<Vector> {
-    let mut vectors = short_hall::all();
-    vectors.extend(lent::short());
-    vectors.extend(short_states::all());
-    vectors.extend(short_twins::of(&twinned()));
-    vectors.extend(short_adding::all());
-    vectors.extend(converting::all());
-    vectors.extend(converted_lengths::all());
-    vectors.extend(aimed::short_books());
+    let mut vectors = short::hall::all();
+    vectors.extend(rows::lent::short());
+    vectors.extend(short::states::all());
+    vectors.extend(short::twins::of(&twinned()));
+    vectors.extend(short::adding::all());
+    vectors.extend(short::converting::all());
+    vectors.extend(short::converted_lengths::all());
+    vectors.extend(rows::aimed::short_books());
     vectors
 }
 
 /// The vectors of full books that have short twins.
 fn twinned() -> Vec<Vector> {
-    let learned = rows::learning().into_iter().chain(wagon_learning::all());
-    learned.chain(families::all()).chain(largest::all()).chain(carried::all()).collect()
+    let learned = rows::alone::learning().into_iter().chain(kinds::wagon_learning::all());
+    learned
+        .chain(kinds::families::all())
+        .chain(limits::largest::all())
+        .chain(short::carried::all())
+        .collect()
 }
 
 /// The book with the record behind it, its record count and end renewed.

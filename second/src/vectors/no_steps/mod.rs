@@ -1,0 +1,4 @@
+//! Records without steps: row 24.
+
+pub mod books;
+pub mod calls;

@@ -1,0 +1,4 @@
+//! Books with their records in every sequence.
+
+pub mod permuted;
+pub mod plans;
