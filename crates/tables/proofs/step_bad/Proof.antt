@@ -1,6 +1,4 @@
 -- `step_bad` meets its contract: the move is out of range, or the step is right if each object is in the set that suits its parameter.
-use mathlib.Core.Path.{_∙_}
-use mathlib.Core.Bool.{Bool, not}
 use Rattle.terms.specs.Schema.{schema}
 use Rattle.terms.specs.Steps.{stepBad}
 use Rattle.tables.specs.Tables.{ForRightByKind, moveEntry}
