@@ -1,4 +1,4 @@
--- For a book that learns, masks by what is observed come to what a plan comes to under the learned model: of any right steps, then of an order of good form.
+-- For a book that learns, masks by its rule sheet come to what a plan comes to under the learned model: of any right steps, then of an order of good form.
 use Prim.Native.Nat.{ℕ, zero, suc, _+_, _*_, _≤_, _<_}
 use mathlib.Core.Path.{_≡_, sym, _∙_}
 use mathlib.Core.Bool.{true, false}
@@ -14,23 +14,18 @@ use Rattle.terms.specs.declared.Param.{Param}
 use Rattle.terms.specs.declared.Step.{Step}
 use Rattle.terms.specs.Schema.{Schema, TypedObjects}
 use Rattle.terms.specs.Steps.{objectOf, stepAt, argumentBad}
-use Rattle.limits.specs.Limits.{maxMoves, maxObjects, stepSize, observedSize}
+use Rattle.limits.specs.Limits.{maxObjects, stepSize, ruleSize}
 use Rattle.format.specs.Form.{Form}
 use Rattle.format.specs.LookOver.{lookOver}
 use Rattle.format.specs.Order.{GoalEntry, startCount, stepCount, startAt, stepsAt, orderForm, starts, goal, plan, planFrom}
 use Rattle.model.specs.Quantify.{Mem, here, there}
-use Rattle.model.specs.Domain.{Transition}
-use Rattle.model.specs.Learned.{learnedRules, modelOf, learned}
+use Rattle.model.specs.Learned.{Rules, modelOf, learned}
 use Rattle.model.proofs.Impossible.{learned-consistent}
 use Rattle.jobs.specs.Planning.{domain, holding, schemaOf, transitionsOf, groundAction, goalEntry, startStates, planOf, goalOf}
-use Rattle.jobs.specs.Learn.{learnable, learnedFrom}
+use Rattle.jobs.specs.Learn.{learnable, rulesFrom, learnedFrom, ruleSheet}
+use Rattle.jobs.proofs.Sheet.{needed-set, needed-not-set, added-set, removed-set}
 use Rattle.jobs.specs.Check.{planRun, orderRun, runAnswer, startAnswer, endSheet}
-use Rattle.observed.specs.Observed.{alwaysBefore, everBefore, added, deleted, observedOf}
-use Rattle.observed.specs.Rules.{ruleSet}
-use Rattle.observed.specs.Seen.{Seen, inSet}
-use Rattle.observed.proofs.Sheet.{seen-in, seen-out}
-use Rattle.observedright.proofs.OneWalk.{observed-seen}
-use Rattle.wellformed.proofs.Headers.{relations-few, moves-few, right-schema}
+use Rattle.wellformed.proofs.Headers.{relations-few, right-schema}
 use Rattle.wellformed.proofs.Formed.{formed}
 use Rattle.terms.proofs.Atoms.{atom-below}
 use Rattle.wellformed.proofs.Atoms.{ground-below}
@@ -39,22 +34,24 @@ use Rattle.wellformed.proofs.Lists.{mem-map-in}
 use Rattle.wellformed.proofs.Orders.{order-right, start-under}
 use Rattle.wellformed.specs.Right.{RightStep, orderTyped, RightOrder}
 use Rattle.wellformed.proofs.Learnable.{inconsistentIn, learnable-inconsistent}
-use Rattle.statemask.specs.Statemask.{execute, startMask}
+use Rattle.statemask.specs.Statemask.{rulesIn, execute, startMask}
 use Rattle.statemask.specs.Executing.{Under, Ruled, Executing, executedAnswer}
 use Rattle.statemask.proofs.Plan.{execute-start, execute-answer, agrees-sheet}
 use Rattle.format.proofs.OrderForm.{order-good}
 use Rattle.execution.specs.Execution.{Executable}
 use Rattle.starts.specs.Starts.{executedFrom, answerFrom, StartsGood}
 
--- the sets of a move's rules are its learned ones
-ruled : (sch : Schema) (ts : List Transition) (l : List ℕ) → Seen sch ts l → (a : ℕ) → 1 ≤ a → a ≤ 32 → Ruled (learned (domain sch) ts) a (ruleSet l a)
-unfolding ruleSet learned modelOf learnedRules domain inSet
-ruled sch ts l seen a h h′ =
+-- the sets of a move on the sheet are those of the learned model
+ruled : (form : Form) (s : List ℕ) (a : ℕ) → 1 ≤ a → a ≤ schemaOf s .moves → Ruled (learnedFrom form s) a (rulesIn (ruleSheet form s) a)
+unfolding ruleSheet rulesFrom rulesIn learnedFrom learned modelOf
+ruled form s a low high =
+    let R : Rules = rulesFrom form s in
+    let moves : ℕ = schemaOf s .moves in
     record {
-      positive = seen-in sch ts l seen a h h′ alwaysBefore (omega arith);
-      negative = seen-out sch ts l seen a h h′ everBefore (omega arith);
-      added = seen-in sch ts l seen a h h′ added (omega arith);
-      removed = seen-in sch ts l seen a h h′ deleted (omega arith);
+      needed = needed-set R a moves low high;
+      neededNot = needed-not-set R a moves low high;
+      added = added-set R a moves low high;
+      removed = removed-set R a moves low high;
     }
 
 -- a book that learns has no conflict
@@ -79,11 +76,8 @@ mem-plan o (suc n) at (suc i) h =
 module _ (form : Form) (s : List ℕ) (n m : ℕ) (good : lookOver form s ≡ Good n) (learns : learnable form s ≡ Good m) where
   -- steps that are right over some objects, from any start that the mask has bits for
   module _ (ob : TypedObjects) (few : ob .count ≤ maxObjects) (steps : List Step) (right : (st : Step) → Mem st steps → RightStep (schemaOf s) ob st) where
-    moves-known : (st : Step) → Mem st steps → (1 ≤ st .action .0) × (st .action .0 ≤ maxMoves)
-    moves-known st i =
-        let (a, b) = move-known (schemaOf s) ob st (right st i) in
-        let c = moves-few form s n good in
-        (a, omega arith)
+    moves-known : (st : Step) → Mem st steps → (1 ≤ st .action .0) × (st .action .0 ≤ schemaOf s .moves)
+    moves-known st i = move-known (schemaOf s) ob st (right st i)
 
     objects-few : (st : Step) → Mem st steps → (p : Param) → 1 ≤ p .0 → p .0 ≤ 4 → objectOf (st .binding) p .0 ≤ maxObjects
     unfolding argumentBad
@@ -91,16 +85,15 @@ module _ (form : Form) (s : List ℕ) (n m : ℕ) (good : lookOver form s ≡ Go
         let most = object-most (schemaOf s) ob _ (objectOf (st .binding) p) _ (argument-right (schemaOf s) ob st (right st i) (p .0) low high) in
         omega arith
 
-    executing : Executing (domain (schemaOf s)) (learnedFrom form s) (schemaOf s) (observedOf form s .masks) steps
+    executing : Executing (domain (schemaOf s)) (learnedFrom form s) (schemaOf s) (rulesIn (ruleSheet form s)) steps
     unfolding learnedFrom domain groundAction
     executing =
         let sch = schemaOf s in
-        let seen = observed-seen form s n good in
         let size = relations-few form s n good in
         record {
           few = omega arith;
           valid = learned-consistent (domain sch) (transitionsOf form s) (formed form s n good) (clean form s n m good learns) .valid;
-          ruled = λ st i. let (a, b) = moves-known st i in ruled sch (transitionsOf form s) _ seen (st .action .0) a b;
+          ruled = λ st i. let (a, b) = moves-known st i in ruled form s (st .action .0) a b;
           inMask =
               λ st i.
               record {
@@ -115,14 +108,14 @@ module _ (form : Form) (s : List ℕ) (n m : ℕ) (good : lookOver form s ≡ Go
     module _ (start : List Fact) (under : Under (holding start)) where
       -- rows 19 and 20, and the end sheet where no step stops
       plan-answer : (count : ℕ) (goals : List GoalEntry)
-          → runAnswer count (map goalEntry goals) (planRun form s (holding start) (map (groundAction (schemaOf s)) steps)) ≡ executedAnswer count goals (execute (schemaOf s) (observedOf form s .masks) steps (startMask start) 1)
+          → runAnswer count (map goalEntry goals) (planRun form s (holding start) (map (groundAction (schemaOf s)) steps)) ≡ executedAnswer count goals (execute (schemaOf s) (rulesIn (ruleSheet form s)) steps (startMask start) 1)
       unfolding planRun
-      plan-answer count goals = execute-answer (domain (schemaOf s)) (learnedFrom form s) (schemaOf s) (observedOf form s .masks) steps executing start under count goals
+      plan-answer count goals = execute-answer (domain (schemaOf s)) (learnedFrom form s) (schemaOf s) (rulesIn (ruleSheet form s)) steps executing start under count goals
 
-      plan-sheet : execute (schemaOf s) (observedOf form s .masks) steps (startMask start) 1 .stop ≡ 0
-          → execute (schemaOf s) (observedOf form s .masks) steps (startMask start) 1 .mask ≡ endSheet (planRun form s (holding start) (map (groundAction (schemaOf s)) steps))
+      plan-sheet : execute (schemaOf s) (rulesIn (ruleSheet form s)) steps (startMask start) 1 .stop ≡ 0
+          → execute (schemaOf s) (rulesIn (ruleSheet form s)) steps (startMask start) 1 .mask ≡ endSheet (planRun form s (holding start) (map (groundAction (schemaOf s)) steps))
       unfolding planRun
-      plan-sheet e = agrees-sheet _ _ (execute-start (domain (schemaOf s)) (learnedFrom form s) (schemaOf s) (observedOf form s .masks) steps executing start under) e
+      plan-sheet e = agrees-sheet _ _ (execute-start (domain (schemaOf s)) (learnedFrom form s) (schemaOf s) (rulesIn (ruleSheet form s)) steps executing start under) e
 
   -- what an order of good form supplies
   module _ (o : List ℕ) (k : ℕ) (order : orderForm (schemaOf s) o ≡ Good k) where
@@ -142,7 +135,7 @@ module _ (form : Form) (s : List ℕ) (n m : ℕ) (good : lookOver form s ≡ Go
         let g = order-good (schemaOf s) o k order in
         record { sch = schemaOf s; ob = orderTyped o; good = g .starts; near = omega (arith, g .header .size, g .most); within = omega (arith, g .header .size) }
 
-    pub executable : (l : List ℕ) → length l ≡ observedSize → Executable l o (stepCount o) (stepsAt o)
+    pub executable : (l : List ℕ) → length l ≡ ruleSize * schemaOf s .moves → Executable l o (stepCount o) (stepsAt o)
     unfolding plan
     executable l size =
         let g = order-good (schemaOf s) o k order in
@@ -153,16 +146,16 @@ module _ (form : Form) (s : List ℕ) (n m : ℕ) (good : lookOver form s ≡ Go
           steppable = λ i h.
               let m = mem-plan o (stepCount o) (stepsAt o) i h in
               let (low, high) = moves-known (orderTyped o) (right .few) (plan o) (right .steps) (st i) m in
-              record { size = size; counted = low; known = high; bounded = objects-few (orderTyped o) (right .few) (plan o) (right .steps) (st i) m };
+              record { counted = low; known = omega arith; bounded = objects-few (orderTyped o) (right .few) (plan o) (right .steps) (st i) m };
         }
 
     -- rows 19 and 20 from a start, and its end sheet where no step stops
     module _ (start : List Fact) (i : Mem start (starts o)) where
-      pub start-executed : startAnswer form s o (holding start) ≡ answerFrom (schemaOf s) (observedOf form s .masks) o start
+      pub start-executed : startAnswer form s o (holding start) ≡ answerFrom (schemaOf s) (rulesIn (ruleSheet form s)) o start
       unfolding startAnswer orderRun goalOf planOf answerFrom executedFrom
       start-executed = plan-answer (orderTyped o) (right .few) (plan o) (right .steps) start (start-in-mask start i) (stepCount o) (goal o)
 
-      pub start-sheet : executedFrom (schemaOf s) (observedOf form s .masks) o start .stop ≡ 0
-          → executedFrom (schemaOf s) (observedOf form s .masks) o start .mask ≡ endSheet (orderRun form s o (holding start))
+      pub start-sheet : executedFrom (schemaOf s) (rulesIn (ruleSheet form s)) o start .stop ≡ 0
+          → executedFrom (schemaOf s) (rulesIn (ruleSheet form s)) o start .mask ≡ endSheet (orderRun form s o (holding start))
       unfolding orderRun planOf executedFrom
       start-sheet = plan-sheet (orderTyped o) (right .few) (plan o) (right .steps) start (start-in-mask start i)

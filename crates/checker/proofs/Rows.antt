@@ -1,9 +1,11 @@
 -- The rows of a check one after the other, by what the calls return, and what the lent end sheet holds.
-use Prim.Native.Nat.{ℕ}
+use Prim.Native.Nat.{ℕ, _*_, _≤_}
+use native.Mathlib.Omega.{arith}
 use mathlib.Core.Path.{_≡_, refl, sym, ap, _∙_}
 use mathlib.Core.Bool.{Bool, true, false, not}
 use mathlib.Core.List.{List, [], _∷_}
-use lib.ListN.{length}
+use lib.ListN.{length, take, drop}
+use lib.Seq.{take-at}
 use borrow.Author.Tests.{eq-eqb, ne-eqb}
 use Rattle.answer.specs.declared.Answer.{Answer}
 use Rattle.answer.specs.declared.Answer.the-variants.{Good, Refused}
@@ -12,7 +14,7 @@ use Rattle.answer.specs.Answer.{_>>=_, refuse, isRefused, valueOf, unpositioned
 use Rattle.answer.specs.Laws.{stays, bind-good, refuse-unmet, refused-kept}
 use Rattle.answer.specs.Turns.{is-good}
 use Rattle.answer.specs.Positions.{then-refused, then-by}
-use Rattle.limits.specs.Limits.{endSheetSize, observedSize}
+use Rattle.limits.specs.Limits.{endSheetSize, observedSize, ruleSize, maxMoves}
 use Rattle.terms.specs.declared.Sections.{Sections}
 use Rattle.terms.specs.declared.Fact.{Fact}
 use Rattle.terms.specs.Sections.{sectionsOf}
@@ -22,13 +24,19 @@ use Rattle.format.specs.LookOver.{lookOver}
 use Rattle.format.specs.Order.{startCount, startAt, stepCount, stepsAt, orderForm, starts}
 use Rattle.model.specs.Quantify.{here}
 use Rattle.jobs.specs.Planning.{schemaOf, holding, startStates}
-use Rattle.jobs.specs.Learn.{learnable}
+use Rattle.output.specs.Written.{written}
+use Rattle.output.proofs.Written.{front-written}
+use Rattle.jobs.specs.Learn.{learnable, rulesFrom, ruleSheet}
+use Rattle.jobs.proofs.Sheet.{length-rows}
 use Rattle.jobs.specs.Check.{orderRun, startAnswer, firstFailing, startsAnswer, beforePlan, check, endSheet, endAfter, checkBytes}
 use Rattle.jobs.proofs.Starts.{failing-same, failing-map, end-map}
 use Rattle.execution.specs.Execution.{Executable}
-use Rattle.observed.specs.Observed.{observedOf}
+use Rattle.wellformed.proofs.Headers.{moves-few}
+use Rattle.observed.specs.Rules.{sheetObserved}
+use Rattle.statemask.specs.Statemask.{rulesIn}
+use Rattle.rulesheet.proofs.Rows.{length-sheet}
 use Rattle.learner.specs.Learner.{BookObserved}
-use Rattle.learner.proofs.Book.{schema-own, form-good}
+use Rattle.learner.proofs.Book.{schema-own, moves-own, sheet-by, form-good}
 use Rattle.starts.specs.Starts.{executedFrom, answerFrom, StartsGood, answerEach, StartsOutcome}
 use Rattle.starts.proofs.Starts.{only-goes}
 use Rattle.checker.specs.Checker.{fromOrder, Ready, OrderOutcome, CheckOutcome}
@@ -53,21 +61,36 @@ module _ (form : Form) (s o old : List ℕ) (h : Sections) (observed : List ℕ)
     order : orderForm (schemaOf s) o ≡ Good (valueOf a)
     order = sym form-own ∙ is-good a (sym told ∙ passed)
 
-    pub order-executable : Executable observed o (stepCount o) (stepsAt o)
-    order-executable = executable form s (formed .0) _ (formed .1) (ready .learns) o _ order observed (ready .room)
-
     pub order-starts : StartsGood o (startCount o) (startAt o)
     order-starts = starts-good form s (formed .0) _ (formed .1) (ready .learns) o _ order
 
-    module _ (new : List ℕ) (r : Positioned) (out : StartsOutcome (schema h s) observed o old new r) where
-      ran : StartsOutcome (schemaOf s) (observedOf form s .masks) o old new r
-      ran = rw (schema-own s h (ready .own), ready .observes) at out
+    -- ---- the rules, written over what was observed
+    pub order-few : h .moves .count ≤ maxMoves
+    order-few = rw (moves-own s h (ready .own)) (moves-few form s (formed .0) (formed .1))
 
+    -- and what is lent of them
+    module _ (over rules : List ℕ) (w : over ≡ written observed 0 (sheetObserved observed (h .moves .count) 1)) (lent : rules ≡ take (ruleSize * h .moves .count) over) where
+      is-sheet : rules ≡ ruleSheet form s
+      is-sheet =
+          let sheet : List ℕ = sheetObserved observed (h .moves .count) 1 in
+          let size : length sheet ≡ ruleSize * h .moves .count = length-sheet observed (ready .room) (h .moves .count) 1 (omega arith) (omega (arith, order-few)) in
+          sheet-by form s _ h observed rules (ready .own) (ready .learns) (ready .observes)
+          (lent ∙ ap (take (ruleSize * h .moves .count)) (w ∙ front-written observed sheet) ∙ take-at sheet (drop (length sheet) observed) (ruleSize * h .moves .count) size)
+
+      pub order-executable : Executable rules o (stepCount o) (stepsAt o)
+      unfolding ruleSheet
+      order-executable =
+          executable form s (formed .0) _ (formed .1) (ready .learns) o _ order rules (ap (λ (l : List ℕ). length l) is-sheet ∙ length-rows (rulesFrom form s) (schemaOf s .moves) 1)
+
+      ran : (new : List ℕ) (r : Positioned) → StartsOutcome (schema h s) (rulesIn rules) o old new r → StartsOutcome (schemaOf s) (rulesIn (ruleSheet form s)) o old new r
+      ran new r out = rw (schema-own s h (ready .own), is-sheet) at out
+
+    module _ (new : List ℕ) (r : Positioned) (ran : StartsOutcome (schemaOf s) (rulesIn (ruleSheet form s)) o old new r) where
       -- masks answer from each start as the learned model does
-      each-start : answerEach (schemaOf s) (observedOf form s .masks) o ≡ startsAnswer form s o
+      each-start : answerEach (schemaOf s) (rulesIn (ruleSheet form s)) o ≡ startsAnswer form s o
       unfolding answerEach startsAnswer startStates
       each-start =
-          failing-same (answerFrom (schemaOf s) (observedOf form s .masks) o) (λ start. startAnswer form s o (holding start)) (stepCount o) 1 (starts o)
+          failing-same (answerFrom (schemaOf s) (rulesIn (ruleSheet form s)) o) (λ start. startAnswer form s o (holding start)) (stepCount o) 1 (starts o)
           (λ start m. sym (start-executed form s (formed .0) _ (formed .1) (ready .learns) o _ order start m))
           ∙ sym (failing-map holding (startAnswer form s o) (stepCount o) 1 (starts o))
 
@@ -76,21 +99,21 @@ module _ (form : Form) (s o old : List ℕ) (h : Sections) (observed : List ℕ)
       says = ran .says ∙ each-start ∙ sym (then-by _ _ _ order)
 
       abbrev mask : List Fact → List ℕ
-      mask start = executedFrom (schemaOf s) (observedOf form s .masks) o start .mask
+      mask start = executedFrom (schemaOf s) (rulesIn (ruleSheet form s)) o start .mask
 
       -- the mask of the only start is its end sheet, where no step stops
-      kept-sheet : (xs : List (List Fact)) → starts o ≡ xs → (x : Answer) → x ≡ firstFailing (answerFrom (schemaOf s) (observedOf form s .masks) o) (stepCount o) 1 xs .answer
+      kept-sheet : (xs : List (List Fact)) → starts o ≡ xs → (x : Answer) → x ≡ firstFailing (answerFrom (schemaOf s) (rulesIn (ruleSheet form s)) o) (stepCount o) 1 xs .answer
           → kept x (endAfter mask xs old) old ≡ kept x (endAfter (λ start. endSheet (orderRun form s o (holding start))) xs old) old
       unfolding kept endAfter
       kept-sheet [] e x w = refl
       kept-sheet (start ∷ other ∷ rest) e x w = refl
       kept-sheet (start ∷ []) e (Refused m p) w = refl
       kept-sheet (start ∷ []) e (Good m) w =
-          start-sheet form s (formed .0) _ (formed .1) (ready .learns) o _ order start (rw e here) (only-goes (schemaOf s) (observedOf form s .masks) o start m (sym w))
+          start-sheet form s (formed .0) _ (formed .1) (ready .learns) o _ order start (rw e here) (only-goes (schemaOf s) (rulesIn (ruleSheet form s)) o start m (sym w))
 
-      pub at-run : OrderOutcome form s o old new r
+      ran-out : OrderOutcome form s o old new r
       unfolding answerEach startStates
-      at-run =
+      ran-out =
           record {
             says = says;
             bytes =
@@ -98,6 +121,10 @@ module _ (form : Form) (s o old : List ℕ) (h : Sections) (observed : List ℕ)
                 ∙ kept-sheet (starts o) refl (r .answer) (ap (λ (x : Positioned). x .answer) (ran .says))
                 ∙ rw (says, end-map holding (λ start. endSheet (orderRun form s o start)) (starts o) old);
           }
+
+    pub at-run : (over rules : List ℕ) → over ≡ written observed 0 (sheetObserved observed (h .moves .count) 1) → rules ≡ take (ruleSize * h .moves .count) over
+        → (new : List ℕ) (r : Positioned) → StartsOutcome (schema h s) (rulesIn rules) o old new r → OrderOutcome form s o old new r
+    at-run over rules w lent new r out = ran-out new r (ran over rules w lent new r out)
 
 -- ---- the whole check
 module _ (form : Form) (s observed : List ℕ) (a : Answer) (b : Bool) (noted : BookObserved form s observed a) (told : b ≡ isRefused a) where

@@ -1,6 +1,7 @@
 // Checking a plan: the book's rows 1 to 12 as in learning, row 13 for the end sheet, the order's rows 14 to 18, then the plan and its goal
-// from each start. The book is learned once, whatever the number of starts.
-// Uses learner, orders, starts, answer, terms and limits.
+// from each start. The book is learned once, whatever the number of starts; its rules are then written over what was observed, which is not
+// needed any more.
+// Uses learner, rulesheet, orders, starts, answer, terms and limits.
 use answer::Answer;
 use answer::Positioned;
 use terms::Sections;
@@ -11,7 +12,7 @@ fn check_order(
     s: &[u8],
     short: bool,
     h: Sections,
-    observed: &[u8],
+    observed: &mut [u8],
     o: &[u8],
     end: &mut [u8],
 ) -> Positioned
@@ -22,7 +23,9 @@ fn check_order(
     if answer::is_refused(a) {
         return answer::unpositioned(a);
     }
-    starts::run_order(s, h, observed, o, end)
+    rulesheet::write_over(h.moves.count, observed);
+    let size = limits::RULE_SIZE * h.moves.count as usize;
+    starts::run_order(s, h, &observed[..size], o, end)
 }
 
 pub fn check(s: &[u8], short: bool, o: &[u8], end: &mut [u8]) -> Positioned
@@ -37,5 +40,5 @@ pub fn check(s: &[u8], short: bool, o: &[u8], end: &mut [u8]) -> Positioned
     if end.len() != limits::END_SHEET_SIZE {
         return answer::unpositioned(Answer::Refused(13, 0));
     }
-    check_order(s, short, h, &observed, o, end)
+    check_order(s, short, h, &mut observed, o, end)
 }

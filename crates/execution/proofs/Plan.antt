@@ -10,7 +10,7 @@ use Rattle.terms.specs.Schema.{Schema}
 use Rattle.terms.specs.Steps.{stepAt}
 use Rattle.limits.specs.Limits.{stepSize}
 use Rattle.format.specs.Order.{planFrom}
-use Rattle.statemask.specs.Statemask.{Executed, execute}
+use Rattle.statemask.specs.Statemask.{MoveRules, Executed, execute}
 use Rattle.statemask.proofs.Plan.{execute-stop, execute-go}
 use Rattle.stepping.specs.Stepping.{Steppable, StepExecuted}
 use Rattle.execution.specs.Execution.{Executable, Executes}
@@ -39,26 +39,26 @@ unfolding planFrom
 plan-more o zero at h = absurd (omega arith)
 plan-more o (suc n) at h = rw sub-one
 
-module _ (sch : Schema) (l o : List ℕ) (n at k : ℕ) (m : List ℕ) where
-  pub execute-none : n ≡ 0 → execute sch l (planFrom o n at) m k ≡ record { stop = 0; mask = m }
+module _ (sch : Schema) (R : ℕ → MoveRules) (o : List ℕ) (n at k : ℕ) (m : List ℕ) where
+  pub execute-none : n ≡ 0 → execute sch R (planFrom o n at) m k ≡ record { stop = 0; mask = m }
   unfolding execute planFrom
   execute-none e = rw e
 
   module _ (some : 0 < n) (st : Step) (step : st ≡ stepAt o at) where
-    whole : execute sch l (planFrom o n at) m k ≡ execute sch l (st ∷ planFrom o (n - 1) (at + stepSize)) m k
-    whole = ap (λ (p : List Step). execute sch l p m k) (plan-more o n at some ∙ ap (λ (s : Step). s ∷ planFrom o (n - 1) (at + stepSize)) (sym step))
+    whole : execute sch R (planFrom o n at) m k ≡ execute sch R (st ∷ planFrom o (n - 1) (at + stepSize)) m k
+    whole = ap (λ (p : List Step). execute sch R p m k) (plan-more o n at some ∙ ap (λ (s : Step). s ∷ planFrom o (n - 1) (at + stepSize)) (sym step))
 
     -- what the step comes to
-    module _ (r : Bool) (m′ : List ℕ) (taken : StepExecuted sch l st m r m′) where
-      pub execute-here : r ≡ true → execute sch l (planFrom o n at) m k ≡ record { stop = k; mask = m′ }
+    module _ (r : Bool) (m′ : List ℕ) (taken : StepExecuted sch R st m r m′) where
+      pub execute-here : r ≡ true → execute sch R (planFrom o n at) m k ≡ record { stop = k; mask = m′ }
       execute-here e =
-          whole ∙ execute-stop sch l st (planFrom o (n - 1) (at + stepSize)) m k (sym (taken .inapplicable) ∙ e)
+          whole ∙ execute-stop sch R st (planFrom o (n - 1) (at + stepSize)) m k (sym (taken .inapplicable) ∙ e)
           ∙ ap (λ (w : List ℕ). record { stop = k; mask = w }) (sym (taken .state ∙ rw e))
 
-      pub execute-more : r ≡ false → execute sch l (planFrom o (n - 1) (at + stepSize)) m′ (k + 1) ≡ execute sch l (planFrom o n at) m k
+      pub execute-more : r ≡ false → execute sch R (planFrom o (n - 1) (at + stepSize)) m′ (k + 1) ≡ execute sch R (planFrom o n at) m k
       execute-more e =
-          sym (whole ∙ execute-go sch l st (planFrom o (n - 1) (at + stepSize)) m k (sym (taken .inapplicable) ∙ e) ∙ rw (add-one k, taken .state, e))
+          sym (whole ∙ execute-go sch R st (planFrom o (n - 1) (at + stepSize)) m k (sym (taken .inapplicable) ∙ e) ∙ rw (add-one k, taken .state, e))
 
-pub executes : (sch : Schema) (l : List ℕ) (plan : List Step) (old : List ℕ) (number : ℕ) (new : List ℕ)
-    → record { stop = number; mask = new } ≡ execute sch l plan old 1 → Executes sch l plan old number new
-executes sch l plan old number new e = record { stop = ap (λ (c : Executed). c .stop) e; mask = ap (λ (c : Executed). c .mask) e }
+pub executes : (sch : Schema) (R : ℕ → MoveRules) (plan : List Step) (old : List ℕ) (number : ℕ) (new : List ℕ)
+    → record { stop = number; mask = new } ≡ execute sch R plan old 1 → Executes sch R plan old number new
+executes sch R plan old number new e = record { stop = ap (λ (c : Executed). c .stop) e; mask = ap (λ (c : Executed). c .mask) e }

@@ -1,4 +1,4 @@
-// A plan and its goal over a state of facts as a mask of 512 bytes: the start state, the plan by the rules that come from what is observed, and
+// A plan and its goal over a state of facts as a mask of 512 bytes: the start state, the plan by the rules that are lent, and
 // the goal at the end. Uses input, limits, terms, mask and stepping, and the definitions of format and statemask; each contract names its
 // definition.
 ghost use mathlib.Core.Path.{_≡_};
@@ -8,7 +8,7 @@ ghost use Rattle.limits.specs.Limits.{factSize, entrySize, farCeiling};
 ghost use Rattle.terms.specs.Schema.{schema};
 ghost use Rattle.format.specs.Lists.{factsAt};
 ghost use Rattle.format.specs.Order.{goalFrom, planFrom, entryAt};
-ghost use Rattle.statemask.specs.Statemask.{startMask, missed, misses};
+ghost use Rattle.statemask.specs.Statemask.{rulesIn, startMask, missed, misses};
 ghost use Rattle.execution.specs.Execution.{Executable, Executes};
 use terms::Fact;
 use terms::Sections;
@@ -39,21 +39,21 @@ pub fn start_mask(o: &[u8], n: usize, from: usize) -> [u8; limits::STATE_SIZE]
 pub fn execute(
     book: &[u8],
     h: Sections,
-    observed: &[u8],
+    rules: &[u8],
     o: &[u8],
     steps: usize,
     from: usize,
     state: &mut [u8; limits::STATE_SIZE],
 ) -> usize
-    requires { ⌜ Executable (now observed) (now o) steps from ⌝ }
-    ensures { λ r. ⌜ Executes (schema h (now (book .entry))) (now (observed .entry)) (planFrom (now (o .entry)) steps from) (now (state .entry)) r (now (state .exit)) ⌝ }
+    requires { ⌜ Executable (now rules) (now o) steps from ⌝ }
+    ensures { λ r. ⌜ Executes (schema h (now (book .entry))) (rulesIn (now (rules .entry))) (planFrom (now (o .entry)) steps from) (now (state .entry)) r (now (state .exit)) ⌝ }
 {
     let mut left = steps;
     let mut at = from;
     let mut k: usize = 1;
     while 0 < left {
         let step = Step::read(o, at);
-        if stepping::execute_step(book, h, step, observed, state) {
+        if stepping::execute_step(book, h, step, rules, state) {
             return k;
         }
         at += limits::STEP_SIZE;

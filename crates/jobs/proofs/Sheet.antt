@@ -1,7 +1,7 @@
 -- The rule sheet of rules, row by row and bit by bit: what its bits say.
 use Prim.Native.Nat.{ℕ, zero, suc, _+_, _-_, _*_, _≤_, _<_}
 use mathlib.Core.Path.{_≡_, refl, sym, ap, ap₂, _∙_}
-use mathlib.Core.List.{List, _++_}
+use mathlib.Core.List.{List, [], _++_, append-assoc, append-nil}
 use native.Mathlib.Omega.{arith}
 use lib.ListN.{length, take, drop, length-append}
 use lib.Seq.{take-at, drop-at, drop-drop}
@@ -15,7 +15,7 @@ use Rattle.model.specs.Alike.{SameRules}
 use Rattle.format.specs.Form.{Form}
 use Rattle.jobs.specs.Planning.{schemaOf}
 use Rattle.jobs.specs.Learn.{ruleRow, ruleRows, rulesFrom, ruleSheet}
-use Rattle.jobs.specs.SheetBits.{neededSet, neededNotSet, addedSet, removedSet, sheetBit, rulesOn}
+use Rattle.jobs.specs.SheetBits.{neededSet, neededNotSet, addedSet, removedSet, sheetBit, sheetSet, rulesOn}
 
 module _ (R : Rules) where
   pub length-row : (a : ℕ) → length (ruleRow R a) ≡ ruleSize
@@ -29,22 +29,30 @@ module _ (R : Rules) where
   length-rows (suc n) a =
       omega (arith, length-append (ruleRow R a) (ruleRows R n (suc a)), length-row a, length-rows n (suc a))
 
-  -- the 128 bytes of a move
-  pub row-part : (n a i : ℕ) → i < n → take ruleSize (drop (ruleSize * i) (ruleRows R n a)) ≡ ruleRow R (a + i)
+  -- from a move on: its row, and what follows
+  row-on : (n a i : ℕ) → i < n → (rest : List ℕ) × (drop (ruleSize * i) (ruleRows R n a) ≡ ruleRow R (a + i) ++ rest)
   unfolding ruleRows
-  row-part zero a i h = absurd (omega arith)
-  row-part (suc n) a zero h =
+  row-on zero a i h = absurd (omega arith)
+  row-on (suc n) a zero h =
       let e : a ≡ a + 0 = omega arith in
-      take-at (ruleRow R a) (ruleRows R n (suc a)) ruleSize (length-row a) ∙ ap (ruleRow R) e
-  row-part (suc n) a (suc i) h =
+      (ruleRows R n (suc a), ap (λ (k : ℕ). ruleRow R k ++ ruleRows R n (suc a)) e)
+  row-on (suc n) a (suc i) h =
       let e : suc a + i ≡ a + suc i = omega arith in
       let d : ruleSize * suc i ≡ ruleSize + ruleSize * i = omega arith in
-      ap (take ruleSize)
-      (ap (λ (k : ℕ). drop k (ruleRow R a ++ ruleRows R n (suc a))) d
-      ∙ sym (drop-drop (ruleSize * i) ruleSize (ruleRow R a ++ ruleRows R n (suc a)))
-      ∙ ap (drop (ruleSize * i)) (drop-at (ruleRow R a) (ruleRows R n (suc a)) ruleSize (length-row a)))
-      ∙ row-part n (suc a) i (omega arith)
-      ∙ ap (ruleRow R) e
+      let (rest, f) = row-on n (suc a) i (omega arith) in (
+        rest,
+        ap (λ (k : ℕ). drop k (ruleRow R a ++ ruleRows R n (suc a))) d
+            ∙ sym (drop-drop (ruleSize * i) ruleSize (ruleRow R a ++ ruleRows R n (suc a)))
+            ∙ ap (drop (ruleSize * i)) (drop-at (ruleRow R a) (ruleRows R n (suc a)) ruleSize (length-row a))
+            ∙ f
+            ∙ ap (λ (k : ℕ). ruleRow R k ++ rest) e,
+      )
+
+  -- the 128 bytes of a move
+  pub row-part : (n a i : ℕ) → i < n → take ruleSize (drop (ruleSize * i) (ruleRows R n a)) ≡ ruleRow R (a + i)
+  row-part n a i h =
+      let (rest, e) = row-on n a i h in
+      ap (take ruleSize) e ∙ take-at (ruleRow R (a + i)) rest ruleSize (length-row (a + i))
 
   -- a bit of the sheet is that of the move's row
   sheet-bit : (n a i j : ℕ) → i < n → j < 1024 → testBit (ruleRows R n a) (1024 * i + j) ≡ testBit (ruleRow R (a + i)) j
@@ -65,7 +73,7 @@ module _ (R : Rules) where
       ∙ ap (λ (k : ℕ). testBit (ruleRow R k) j) e
 
   -- the four sets of a row
-  module _ (a n : ℕ) (h : n < 256) where
+  module _ (a : ℕ) where
     P : List ℕ
     P = maskOf setSize (R .needed a)
 
@@ -82,29 +90,62 @@ module _ (R : Rules) where
     unfolding P N A
     sizes = (length-maskOf setSize _, simp (length-append, length-maskOf), simp (length-append, length-maskOf))
 
-    row-needed : testBit (ruleRow R a) (256 * neededSet + n) ≡ R .needed a n
-    unfolding ruleRow P N A D
-    row-needed =
-        let e : 256 * 0 + n ≡ n = omega arith in
-        ap (testBit (P ++ N ++ A ++ D)) e
-        ∙ test-left (P ++ N ++ A) D n (omega (arith, sizes)) ∙ test-left (P ++ N) A n (omega (arith, sizes)) ∙ test-left P N n (omega (arith, sizes))
-        ∙ test-maskOf setSize (R .needed a) n h
+    -- their bits
+    module _ (n : ℕ) (h : n < 256) where
+      row-needed : testBit (ruleRow R a) (256 * neededSet + n) ≡ R .needed a n
+      unfolding ruleRow P N A D
+      row-needed =
+          let e : 256 * 0 + n ≡ n = omega arith in
+          ap (testBit (P ++ N ++ A ++ D)) e
+          ∙ test-left (P ++ N ++ A) D n (omega (arith, sizes)) ∙ test-left (P ++ N) A n (omega (arith, sizes)) ∙ test-left P N n (omega (arith, sizes))
+          ∙ test-maskOf setSize (R .needed a) n h
 
-    row-needed-not : testBit (ruleRow R a) (256 * neededNotSet + n) ≡ R .neededNot a n
-    unfolding ruleRow P N A D
-    row-needed-not =
-        test-left (P ++ N ++ A) D (256 + n) (omega (arith, sizes)) ∙ test-left (P ++ N) A (256 + n) (omega (arith, sizes)) ∙ test-right P N 256 n (omega (arith, sizes))
-        ∙ test-maskOf setSize (R .neededNot a) n h
+      row-needed-not : testBit (ruleRow R a) (256 * neededNotSet + n) ≡ R .neededNot a n
+      unfolding ruleRow P N A D
+      row-needed-not =
+          test-left (P ++ N ++ A) D (256 + n) (omega (arith, sizes)) ∙ test-left (P ++ N) A (256 + n) (omega (arith, sizes)) ∙ test-right P N 256 n (omega (arith, sizes))
+          ∙ test-maskOf setSize (R .neededNot a) n h
 
-    row-added : testBit (ruleRow R a) (256 * addedSet + n) ≡ R .added a n
-    unfolding ruleRow P N A D
-    row-added =
-        test-left (P ++ N ++ A) D (512 + n) (omega (arith, sizes)) ∙ test-right (P ++ N) A 512 n (omega (arith, sizes))
-        ∙ test-maskOf setSize (R .added a) n h
+      row-added : testBit (ruleRow R a) (256 * addedSet + n) ≡ R .added a n
+      unfolding ruleRow P N A D
+      row-added =
+          test-left (P ++ N ++ A) D (512 + n) (omega (arith, sizes)) ∙ test-right (P ++ N) A 512 n (omega (arith, sizes))
+          ∙ test-maskOf setSize (R .added a) n h
 
-    row-removed : testBit (ruleRow R a) (256 * removedSet + n) ≡ R .removed a n
-    unfolding ruleRow P N A D
-    row-removed = test-right (P ++ N ++ A) D 768 n (omega (arith, sizes)) ∙ test-maskOf setSize (R .removed a) n h
+      row-removed : testBit (ruleRow R a) (256 * removedSet + n) ≡ R .removed a n
+      unfolding ruleRow P N A D
+      row-removed = test-right (P ++ N ++ A) D 768 n (omega (arith, sizes)) ∙ test-maskOf setSize (R .removed a) n h
+
+    -- their bytes in a sheet, by what stands before and after them in the row
+    module _ (moves : ℕ) (low : 1 ≤ a) (high : a ≤ moves) where
+      set-part : (set : ℕ) (x y z : List ℕ) → ruleRow R a ≡ x ++ (y ++ z) → length x ≡ setSize * set → length y ≡ setSize → sheetSet (ruleRows R moves 1) set a ≡ y
+      unfolding sheetSet
+      set-part set x y z e lx ly =
+          let b : 1 + (a - 1) ≡ a = omega arith in
+          let (rest, f) = row-on moves 1 (a - 1) (omega arith) in
+          let whole : ruleRow R (1 + (a - 1)) ++ rest ≡ x ++ (y ++ (z ++ rest)) =
+          ap (λ (k : ℕ). ruleRow R k ++ rest) b ∙ ap (λ (r : List ℕ). r ++ rest) e ∙ append-assoc x (y ++ z) rest ∙ ap (λ (r : List ℕ). x ++ r) (append-assoc y z rest)
+          in
+          ap (take setSize)
+          (sym (drop-drop (setSize * set) (ruleSize * (a - 1)) (ruleRows R moves 1)) ∙ ap (drop (setSize * set)) (f ∙ whole) ∙ drop-at x (y ++ (z ++ rest)) (setSize * set) lx)
+          ∙ take-at y (z ++ rest) setSize ly
+
+      -- The four sets of a move on the sheet are those of the rules.
+      pub needed-set : sheetSet (ruleRows R moves 1) neededSet a ≡ maskOf setSize (R .needed a)
+      unfolding ruleRow P N A D
+      needed-set = set-part neededSet [] P (N ++ (A ++ D)) (simp (append-assoc)) refl (length-maskOf setSize _)
+
+      pub needed-not-set : sheetSet (ruleRows R moves 1) neededNotSet a ≡ maskOf setSize (R .neededNot a)
+      unfolding ruleRow P N A D
+      needed-not-set = set-part neededNotSet P N (A ++ D) (simp (append-assoc)) (sizes .0) (length-maskOf setSize _)
+
+      pub added-set : sheetSet (ruleRows R moves 1) addedSet a ≡ maskOf setSize (R .added a)
+      unfolding ruleRow P N A D
+      added-set = set-part addedSet (P ++ N) A D (append-assoc (P ++ N) A D) (sizes .1) (length-maskOf setSize _)
+
+      pub removed-set : sheetSet (ruleRows R moves 1) removedSet a ≡ maskOf setSize (R .removed a)
+      unfolding ruleRow P N A D
+      removed-set = set-part removedSet (P ++ N ++ A) D [] (ap (λ (r : List ℕ). P ++ N ++ A ++ r) (sym (append-nil D))) (sizes .2) (length-maskOf setSize _)
 
   module _ (moves a n : ℕ) (low : 1 ≤ a) (high : a ≤ moves) (small : n < 256) where
     set-bit : (set : ℕ) → set < 4 → sheetBit (ruleRows R moves 1) set a n ≡ testBit (ruleRow R a) (256 * set + n)

@@ -3,18 +3,31 @@ use Prim.Native.Nat.{ℕ, zero, suc, _+_, _-_, _*_, _≤_}
 use native.Mathlib.Omega.{arith}
 use mathlib.Core.Path.{_≡_, refl, sym, _∙_, ap, ap₂}
 use mathlib.Core.List.{List, [], _∷_, _++_, append-assoc, append-nil}
-use lib.ListN.{length, length-append}
+use lib.ListN.{length, take, drop, length-append}
+use lib.Seq.{drop-at, drop-drop}
 use borrow.Rule.Slice.PartMut.{midOf, putMid}
 use Rattle.mask.specs.Sets.{difference}
 use Rattle.mask.proofs.Laws.{length-difference}
 use Rattle.limits.specs.Limits.{observedSize}
 use Rattle.jobs.specs.SheetBits.{neededSet, neededNotSet, addedSet, removedSet}
-use Rattle.observed.specs.Observed.{alwaysBefore, everBefore, added, deleted, bound, observedSet}
+use Rattle.observed.specs.Observed.{alwaysBefore, everBefore, added, deleted, bound, setAt, observedSet}
 use Rattle.observed.proofs.Noted.{length-observedSet}
 use Rattle.observed.specs.Rules.{ruleSet, rulesObserved, sheetObserved}
 use Rattle.output.specs.Written.{written}
 use Rattle.rulesheet.specs.Sheet.{ruleSets, row}
-use Rattle.output.proofs.Written.{length-written, written-then, written-whole, written-part}
+use Rattle.output.proofs.Written.{length-written, written-then, front-written, written-whole, written-part}
+
+-- what is written at the front leaves the rest
+drop-behind : (l x : List ℕ) (n : ℕ) → length x ≤ n → drop n (written l 0 x) ≡ drop n l
+drop-behind l x n h =
+    let m : ℕ = n - length x in
+    let e : n ≡ length x + m = omega arith in
+    ap (λ (k : ℕ). drop k (written l 0 x)) e
+    ∙ ap (drop (length x + m)) (front-written l x)
+    ∙ sym (drop-drop m (length x) (x ++ drop (length x) l))
+    ∙ ap (drop m) (drop-at x (drop (length x) l) (length x) refl)
+    ∙ drop-drop m (length x) l
+    ∙ ap (λ (k : ℕ). drop k l) (sym e)
 
 -- four runs one after the other
 pub row-by : (d a b c e : List ℕ) {p q r t : List ℕ}
@@ -113,3 +126,16 @@ module _ (l : List ℕ) where
     sheet-last n f h k =
         let q : i ≡ n = omega arith in
         e ∙ written-whole d (sheetObserved l i 1) (omega (arith, length-sheet sized i 1 (omega arith) (omega arith))) ∙ ap (λ (j : ℕ). sheetObserved l j 1) q
+
+  -- ---- the sheet over what is observed itself: the sets of a move stay where no row has come to
+  module _ (sized : length l ≡ observedSize) (s : List ℕ) (i : ℕ) (few : i ≤ 32) (e : s ≡ written l 0 (sheetObserved l i 1)) where
+    set-behind : (k : ℕ) → observedSet s (i + 1) k ≡ observedSet l (i + 1) k
+    unfolding observedSet setAt
+    set-behind k = rw e (ap (take 32) (drop-behind l (sheetObserved l i 1) (224 * (i + 1 - 1) + 32 * k) (omega (arith, length-sheet sized i 1 (omega arith) (omega arith)))))
+
+    pub sets-behind : ruleSets s (i + 1) ≡ ruleSets l (i + 1)
+    unfolding ruleSets ruleSet
+    sets-behind = rw (set-behind alwaysBefore, set-behind bound, set-behind everBefore, set-behind added, set-behind deleted)
+
+  pub over-last : (s : List ℕ) (i n : ℕ) → s ≡ written l 0 (sheetObserved l i 1) → i ≡ n → s ≡ written l 0 (sheetObserved l n 1)
+  over-last s i n e f = e ∙ ap (λ (j : ℕ). written l 0 (sheetObserved l j 1)) f

@@ -71,3 +71,19 @@ pub fn write_sheet(moves: u16, observed: &[u8], sheet: &mut [u8])
         i += 1;
     }
 }
+
+// The sheet written over what is observed, from the first byte on. A row is shorter than the seven sets of a move, and is written when these
+// have been read, so the sets of the moves behind it stay.
+pub fn write_over(moves: u16, observed: &mut [u8])
+    requires { ⌜ (moves ≤ maxMoves) × (length (now observed) ≡ observedSize) ⌝ }
+    ensures { λ _. ⌜ now (observed .exit) ≡ written (now (observed .entry)) 0 (sheetObserved (now (observed .entry)) moves 1) ⌝ }
+{
+    let count = moves as usize;
+    let mut i = 0;
+    while i < count {
+        let rules = rules_of(observed, Move((i + 1) as u8));
+        let at = limits::RULE_SIZE * i;
+        write_rules(&mut observed[at..], rules);
+        i += 1;
+    }
+}

@@ -6,7 +6,7 @@ use Rattle.answer.specs.declared.Answer.the-variants.{Good, Refused}
 use Rattle.terms.specs.Schema.{Schema}
 use Rattle.format.specs.Order.{GoalEntry, stepCount, stepsAt, goalCount, goalAt, goal, goalFrom, plan, planFrom}
 use Rattle.jobs.specs.Check.{goalAnswer}
-use Rattle.statemask.specs.Statemask.{Executed, execute, missed}
+use Rattle.statemask.specs.Statemask.{MoveRules, Executed, execute, missed}
 use Rattle.statemask.specs.Executing.{executedAnswer}
 use Rattle.execution.specs.Execution.{Executes}
 use Rattle.starts.specs.Starts.{PlanExecuted}
@@ -25,19 +25,19 @@ pass-answer : (c : Executed) (steps : ℕ) (g : List GoalEntry) → c .stop ≡ 
 unfolding executedAnswer goalAnswer
 pass-answer c steps g e f = rw (e, f)
 
-module _ (sch : Schema) (l o old new : List ℕ) (steps at k : ℕ)
-    (p : steps ≡ stepCount o) (q : at ≡ stepsAt o) (executed : Executes sch l (planFrom o steps at) old k new) where
+module _ (sch : Schema) (R : ℕ → MoveRules) (o old new : List ℕ) (steps at k : ℕ)
+    (p : steps ≡ stepCount o) (q : at ≡ stepsAt o) (executed : Executes sch R (planFrom o steps at) old k new) where
   whole : planFrom o steps at ≡ plan o
   unfolding plan
   whole = rw (p, q)
 
-  stops : k ≡ execute sch l (plan o) old 1 .stop
+  stops : k ≡ execute sch R (plan o) old 1 .stop
   stops = rw (← whole) (executed .stop)
 
-  leaves : new ≡ execute sch l (plan o) old 1 .mask
+  leaves : new ≡ execute sch R (plan o) old 1 .mask
   leaves = rw (← whole) (executed .mask)
 
-  pub out-stop : (k ≡ 0 → ⊥) → PlanExecuted (execute sch l (plan o) old 1) (stepCount o) (goal o) new (Refused 19 k)
+  pub out-stop : (k ≡ 0 → ⊥) → PlanExecuted (execute sch R (plan o) old 1) (stepCount o) (goal o) new (Refused 19 k)
   out-stop h =
       record {
         says = stop-answer _ _ _ k (sym stops) h;
@@ -45,18 +45,18 @@ module _ (sch : Schema) (l o old new : List ℕ) (steps at k : ℕ)
       }
 
   module _ (none : k ≡ 0) (n g i : ℕ) (r : n ≡ goalCount o) (t : g ≡ goalAt o) (first : i ≡ missed new (goalFrom o n g)) where
-    misses : missed (execute sch l (plan o) old 1 .mask) (goal o) ≡ i
+    misses : missed (execute sch R (plan o) old 1 .mask) (goal o) ≡ i
     unfolding goal
     misses = rw (← leaves, ← r, ← t) (sym first)
 
-    pub out-miss : (i ≡ 0 → ⊥) → PlanExecuted (execute sch l (plan o) old 1) (stepCount o) (goal o) new (Refused 20 i)
+    pub out-miss : (i ≡ 0 → ⊥) → PlanExecuted (execute sch R (plan o) old 1) (stepCount o) (goal o) new (Refused 20 i)
     out-miss h =
         record {
           says = miss-answer _ _ _ i (sym stops ∙ none) misses h;
           mask = leaves;
         }
 
-    pub out-pass : i ≡ 0 → PlanExecuted (execute sch l (plan o) old 1) (stepCount o) (goal o) new (Good steps)
+    pub out-pass : i ≡ 0 → PlanExecuted (execute sch R (plan o) old 1) (stepCount o) (goal o) new (Good steps)
     out-pass h =
         record {
           says = ap Good p ∙ pass-answer _ _ _ (sym stops ∙ none) (misses ∙ h);

@@ -15,7 +15,7 @@ use Rattle.format.specs.Filed.{asWritten}
 use Rattle.format.specs.States.{state}
 use Rattle.format.specs.Order.{GoalEntry, goalAt, stepCount, starts, goal, plan}
 use Rattle.jobs.specs.Check.{firstFailing, endAfter}
-use Rattle.statemask.specs.Statemask.{Executed, execute, startMask}
+use Rattle.statemask.specs.Statemask.{MoveRules, Executed, execute, startMask}
 use Rattle.statemask.specs.Executing.{executedAnswer}
 
 -- a plan executed over a mask, and its goal: the answer, and the mask
@@ -23,12 +23,12 @@ pub record PlanExecuted (c : Executed) (steps : ℕ) (goal : List GoalEntry) (ne
   pub says : r ≡ executedAnswer steps goal c
   pub mask : new ≡ c .mask
 
--- what an order's plan comes to over masks from a start, by what is observed, and rows 19 and 20 of it
-unfoldable pub executedFrom : Schema → List ℕ → List ℕ → List Fact → Executed
-executedFrom sch l o start = execute sch l (plan o) (startMask start) 1
+-- what an order's plan comes to over masks from a start, by the rules of each move, and rows 19 and 20 of it
+unfoldable pub executedFrom : Schema → (ℕ → MoveRules) → List ℕ → List Fact → Executed
+executedFrom sch R o start = execute sch R (plan o) (startMask start) 1
 
-unfoldable pub answerFrom : Schema → List ℕ → List ℕ → List Fact → Answer
-answerFrom sch l o start = executedAnswer (stepCount o) (goal o) (executedFrom sch l o start)
+unfoldable pub answerFrom : Schema → (ℕ → MoveRules) → List ℕ → List Fact → Answer
+answerFrom sch R o start = executedAnswer (stepCount o) (goal o) (executedFrom sch R o start)
 
 -- a number of starts from an offset on are good, for some schema and objects, and end where the goal entries begin
 pub record StartsGood (o : List ℕ) (n at : ℕ) : Type 0 where
@@ -39,10 +39,10 @@ pub record StartsGood (o : List ℕ) (n at : ℕ) : Type 0 where
   pub within : goalAt o ≤ length o
 
 -- rows 19 and 20 from each start
-unfoldable pub answerEach : Schema → List ℕ → List ℕ → Positioned
-answerEach sch l o = firstFailing (answerFrom sch l o) (stepCount o) 1 (starts o)
+unfoldable pub answerEach : Schema → (ℕ → MoveRules) → List ℕ → Positioned
+answerEach sch R o = firstFailing (answerFrom sch R o) (stepCount o) 1 (starts o)
 
 -- the same with a lent end sheet: the answer with its position, and every byte of the sheet afterwards
-pub record StartsOutcome (sch : Schema) (l o old new : List ℕ) (r : Positioned) : Type 0 where
-  pub says : r ≡ answerEach sch l o
-  pub bytes : new ≡ kept (r .answer) (endAfter (λ start. executedFrom sch l o start .mask) (starts o) old) old
+pub record StartsOutcome (sch : Schema) (R : ℕ → MoveRules) (o old new : List ℕ) (r : Positioned) : Type 0 where
+  pub says : r ≡ answerEach sch R o
+  pub bytes : new ≡ kept (r .answer) (endAfter (λ start. executedFrom sch R o start .mask) (starts o) old) old

@@ -11,7 +11,7 @@ ghost use Rattle.limits.specs.Limits.{maxLength, endSheetSize};
 ghost use Rattle.terms.specs.Schema.{schema};
 ghost use Rattle.format.specs.Lists.{listAt, listEnd};
 ghost use Rattle.format.specs.Order.{startCount, startAt, stepCount, stepsAt, goal, plan};
-ghost use Rattle.statemask.specs.Statemask.{startMask, execute};
+ghost use Rattle.statemask.specs.Statemask.{rulesIn, startMask, execute};
 ghost use Rattle.execution.specs.Execution.{Executable};
 ghost use Rattle.starts.specs.Starts.{PlanExecuted, answerFrom, StartsGood, answerEach, StartsOutcome};
 
@@ -19,15 +19,15 @@ ghost use Rattle.starts.specs.Starts.{PlanExecuted, answerFrom, StartsGo
 fn execute_plan(
     book: &[u8],
     h: Sections,
-    observed: &[u8],
+    rules: &[u8],
     o: &[u8],
     state: &mut [u8; limits::STATE_SIZE],
 ) -> Answer
-    requires { ⌜ Executable (now observed) (now o) (stepCount (now o)) (stepsAt (now o)) ⌝ }
-    ensures { λ r. ⌜ PlanExecuted (execute (schema h (now (book .entry))) (now (observed .entry)) (plan (now (o .entry))) (now (state .entry)) 1) (stepCount (now (o .entry))) (goal (now (o .entry))) (now (state .exit)) r ⌝ }
+    requires { ⌜ Executable (now rules) (now o) (stepCount (now o)) (stepsAt (now o)) ⌝ }
+    ensures { λ r. ⌜ PlanExecuted (execute (schema h (now (book .entry))) (rulesIn (now (rules .entry))) (plan (now (o .entry))) (now (state .entry)) 1) (stepCount (now (o .entry))) (goal (now (o .entry))) (now (state .exit)) r ⌝ }
 {
     let steps = orderhead::step_count(o) as usize;
-    let stop = execution::execute(book, h, observed, o, steps, orderhead::steps_at(o), state);
+    let stop = execution::execute(book, h, rules, o, steps, orderhead::steps_at(o), state);
     if stop != 0 {
         return Answer::Refused(19, stop);
     }
@@ -60,24 +60,24 @@ fn start_of(o: &[u8], at: usize) -> [u8; limits::STATE_SIZE]
 }
 
 // Rows 19 and 20 from the start at an offset.
-fn run_start(book: &[u8], h: Sections, observed: &[u8], o: &[u8], at: usize) -> Answer
-    requires { ⌜ Executable (now observed) (now o) (stepCount (now o)) (stepsAt (now o)) × (listEnd (now o) at ≤ maxLength) × (listEnd (now o) at ≤ length (now o)) ⌝ }
-    ensures { λ r. ⌜ r ≡ answerFrom (schema h (now (book .entry))) (now (observed .entry)) (now (o .entry)) (listAt (now (o .entry)) at) ⌝ }
+fn run_start(book: &[u8], h: Sections, rules: &[u8], o: &[u8], at: usize) -> Answer
+    requires { ⌜ Executable (now rules) (now o) (stepCount (now o)) (stepsAt (now o)) × (listEnd (now o) at ≤ maxLength) × (listEnd (now o) at ≤ length (now o)) ⌝ }
+    ensures { λ r. ⌜ r ≡ answerFrom (schema h (now (book .entry))) (rulesIn (now (rules .entry))) (now (o .entry)) (listAt (now (o .entry)) at) ⌝ }
 {
     let mut state = start_of(o, at);
-    execute_plan(book, h, observed, o, &mut state)
+    execute_plan(book, h, rules, o, &mut state)
 }
 
 // Rows 19 and 20 from each start: the first that fails, and its position.
-fn run_each(book: &[u8], h: Sections, observed: &[u8], o: &[u8]) -> Positioned
-    requires { ⌜ Executable (now observed) (now o) (stepCount (now o)) (stepsAt (now o)) × StartsGood (now o) (startCount (now o)) (startAt (now o)) ⌝ }
-    ensures { λ r. ⌜ r ≡ answerEach (schema h (now (book .entry))) (now (observed .entry)) (now (o .entry)) ⌝ }
+fn run_each(book: &[u8], h: Sections, rules: &[u8], o: &[u8]) -> Positioned
+    requires { ⌜ Executable (now rules) (now o) (stepCount (now o)) (stepsAt (now o)) × StartsGood (now o) (startCount (now o)) (startAt (now o)) ⌝ }
+    ensures { λ r. ⌜ r ≡ answerEach (schema h (now (book .entry))) (rulesIn (now (rules .entry))) (now (o .entry)) ⌝ }
 {
     let mut left = orderhead::start_count(o);
     let mut at = orderhead::start_at(o);
     let mut k: usize = 1;
     while 0 < left {
-        let a = run_start(book, h, observed, o, at);
+        let a = run_start(book, h, rules, o, at);
         if answer::is_refused(a) {
             return Positioned {
                 answer: a,
@@ -92,12 +92,12 @@ fn run_each(book: &[u8], h: Sections, observed: &[u8], o: &[u8]) -> Positioned
 }
 
 // Rows 19 and 20 from the only start; where neither is met, the end sheet.
-fn run_only(book: &[u8], h: Sections, observed: &[u8], o: &[u8], end: &mut [u8]) -> Positioned
-    requires { ⌜ Executable (now observed) (now o) (stepCount (now o)) (stepsAt (now o)) × StartsGood (now o) (startCount (now o)) (startAt (now o)) × (startCount (now o) ≡ 1) × (length (now end) ≡ endSheetSize) ⌝ }
-    ensures { λ r. ⌜ StartsOutcome (schema h (now (book .entry))) (now (observed .entry)) (now (o .entry)) (now (end .entry)) (now (end .exit)) r ⌝ }
+fn run_only(book: &[u8], h: Sections, rules: &[u8], o: &[u8], end: &mut [u8]) -> Positioned
+    requires { ⌜ Executable (now rules) (now o) (stepCount (now o)) (stepsAt (now o)) × StartsGood (now o) (startCount (now o)) (startAt (now o)) × (startCount (now o) ≡ 1) × (length (now end) ≡ endSheetSize) ⌝ }
+    ensures { λ r. ⌜ StartsOutcome (schema h (now (book .entry))) (rulesIn (now (rules .entry))) (now (o .entry)) (now (end .entry)) (now (end .exit)) r ⌝ }
 {
     let mut state = start_of(o, orderhead::start_at(o));
-    let a = execute_plan(book, h, observed, o, &mut state);
+    let a = execute_plan(book, h, rules, o, &mut state);
     if answer::is_refused(a) {
         return Positioned {
             answer: a,
@@ -109,12 +109,12 @@ fn run_only(book: &[u8], h: Sections, observed: &[u8], o: &[u8], end: &mut [u8])
 }
 
 // Rows 19 and 20. With more than one start the end sheet is not written.
-pub fn run_order(book: &[u8], h: Sections, observed: &[u8], o: &[u8], end: &mut [u8]) -> Positioned
-    requires { ⌜ Executable (now observed) (now o) (stepCount (now o)) (stepsAt (now o)) × StartsGood (now o) (startCount (now o)) (startAt (now o)) × (length (now end) ≡ endSheetSize) ⌝ }
-    ensures { λ r. ⌜ StartsOutcome (schema h (now (book .entry))) (now (observed .entry)) (now (o .entry)) (now (end .entry)) (now (end .exit)) r ⌝ }
+pub fn run_order(book: &[u8], h: Sections, rules: &[u8], o: &[u8], end: &mut [u8]) -> Positioned
+    requires { ⌜ Executable (now rules) (now o) (stepCount (now o)) (stepsAt (now o)) × StartsGood (now o) (startCount (now o)) (startAt (now o)) × (length (now end) ≡ endSheetSize) ⌝ }
+    ensures { λ r. ⌜ StartsOutcome (schema h (now (book .entry))) (rulesIn (now (rules .entry))) (now (o .entry)) (now (end .entry)) (now (end .exit)) r ⌝ }
 {
     if orderhead::start_count(o) == 1 {
-        return run_only(book, h, observed, o, end);
+        return run_only(book, h, rules, o, end);
     }
-    run_each(book, h, observed, o)
+    run_each(book, h, rules, o)
 }

@@ -21,34 +21,33 @@ use Rattle.model.proofs.Quantify.{first-map}
 use Rattle.model.proofs.Lockstep.{run-stop, run-go}
 use Rattle.jobs.specs.Planning.{holding, groundAction, goalEntry}
 use Rattle.jobs.specs.Check.{runAnswer, endSheet}
-use Rattle.observed.specs.Rules.{ruleSet}
-use Rattle.statemask.specs.Statemask.{startMask, stepInapplicable, stepNext, Executed, execute, missed, misses}
+use Rattle.statemask.specs.Statemask.{MoveRules, startMask, stepInapplicable, stepNext, Executed, execute, missed, misses}
 use Rattle.statemask.specs.Executing.{Under, Ruled, InMask, Executing, Agrees, executedAnswer}
 use Rattle.statemask.proofs.Masks.{test-mask, start-mask}
 use Rattle.statemask.proofs.Step.{next-under, inapplicable-mask, next-mask}
 
-module _ (sch : Schema) (l : List ℕ) (st : Step) (plan : List Step) (m : List ℕ) (k : ℕ) where
-  pub execute-stop : stepInapplicable sch l st m ≡ true → execute sch l (st ∷ plan) m k ≡ record { stop = k; mask = m }
+module _ (sch : Schema) (R : ℕ → MoveRules) (st : Step) (plan : List Step) (m : List ℕ) (k : ℕ) where
+  pub execute-stop : stepInapplicable sch R st m ≡ true → execute sch R (st ∷ plan) m k ≡ record { stop = k; mask = m }
   unfolding execute
   execute-stop e = rw (e, execute)
 
-  pub execute-go : stepInapplicable sch l st m ≡ false → execute sch l (st ∷ plan) m k ≡ execute sch l plan (stepNext sch l st m) (suc k)
+  pub execute-go : stepInapplicable sch R st m ≡ false → execute sch R (st ∷ plan) m k ≡ execute sch R plan (stepNext sch R st m) (suc k)
   unfolding execute
   execute-go e = rw (e, execute)
 
-module _ (D : Domain) (M : Model) (sch : Schema) (l : List ℕ) where
+module _ (D : Domain) (M : Model) (sch : Schema) (R : ℕ → MoveRules) where
   module _ (few : D .atoms ≤ maxAtoms) (valid : Valid D M) (s : Step) (fits : InMask D (groundAction sch s)) (st : State) (under : Under st) where
-    step-inapplicable : Ruled M (s .action .0) (ruleSet l (s .action .0)) → stepInapplicable sch l s (maskOf stateSize st) ≡ inapplicable D M (groundAction sch s) st
+    step-inapplicable : Ruled M (s .action .0) (R (s .action .0)) → stepInapplicable sch R s (maskOf stateSize st) ≡ inapplicable D M (groundAction sch s) st
     unfolding stepInapplicable groundAction
-    step-inapplicable ruled = inapplicable-mask D M few valid (groundAction sch s) fits (ruleSet l (s .action .0)) ruled st under
+    step-inapplicable ruled = inapplicable-mask D M few valid (groundAction sch s) fits (R (s .action .0)) ruled st under
 
-    step-next : Ruled M (s .action .0) (ruleSet l (s .action .0)) → stepNext sch l s (maskOf stateSize st) ≡ maskOf stateSize (next D M (groundAction sch s) st)
+    step-next : Ruled M (s .action .0) (R (s .action .0)) → stepNext sch R s (maskOf stateSize st) ≡ maskOf stateSize (next D M (groundAction sch s) st)
     unfolding stepNext groundAction
-    step-next ruled = next-mask D M few valid (groundAction sch s) fits (ruleSet l (s .action .0)) ruled st under
+    step-next ruled = next-mask D M few valid (groundAction sch s) fits (R (s .action .0)) ruled st under
 
   -- The plan over the mask of a state comes to what it comes to from the state.
-  pub execute-run : (plan : List Step) → Executing D M sch l plan → (st : State) → Under st → (k : ℕ) → 1 ≤ k
-      → Agrees (execute sch l plan (maskOf stateSize st) k) (run D M (map (groundAction sch) plan) st k)
+  pub execute-run : (plan : List Step) → Executing D M sch R plan → (st : State) → Under st → (k : ℕ) → 1 ≤ k
+      → Agrees (execute sch R plan (maskOf stateSize st) k) (run D M (map (groundAction sch) plan) st k)
   unfolding execute run
   execute-run [] c st under k h = (refl, refl, under)
   execute-run (s ∷ plan) c st under k h =
@@ -60,23 +59,23 @@ module _ (D : Domain) (M : Model) (sch : Schema) (l : List ℕ) where
       fits : InMask D t
       fits = c .inMask s here
 
-      rest : Executing D M sch l plan
+      rest : Executing D M sch R plan
       rest = record { few = c .few; valid = c .valid; ruled = λ r m. c .ruled r (there m); inMask = λ r m. c .inMask r (there m) }
 
-      halts : stepInapplicable sch l s (maskOf stateSize st) ≡ inapplicable D M t st
+      halts : stepInapplicable sch R s (maskOf stateSize st) ≡ inapplicable D M t st
       halts = step-inapplicable (c .few) (c .valid) s fits st under (c .ruled s here)
 
-      moves : stepNext sch l s (maskOf stateSize st) ≡ maskOf stateSize (next D M t st)
+      moves : stepNext sch R s (maskOf stateSize st) ≡ maskOf stateSize (next D M t st)
       moves = step-next (c .few) (c .valid) s fits st under (c .ruled s here)
 
       go : (inapplicable D M t st ≡ true) ⊎ (inapplicable D M t st ≡ false)
-          → Agrees (execute sch l plan (maskOf stateSize (next D M t st)) (suc k)) (run D M (map (groundAction sch) plan) (next D M t st) (suc k))
-          → Agrees (execute sch l (s ∷ plan) (maskOf stateSize st) k) (run D M (t ∷ map (groundAction sch) plan) st k)
+          → Agrees (execute sch R plan (maskOf stateSize (next D M t st)) (suc k)) (run D M (map (groundAction sch) plan) (next D M t st) (suc k))
+          → Agrees (execute sch R (s ∷ plan) (maskOf stateSize st) k) (run D M (t ∷ map (groundAction sch) plan) st k)
       go (inl e) deeper =
-          subst₂ Agrees (sym (execute-stop sch l s plan (maskOf stateSize st) k (halts ∙ e))) (sym (run-stop D M t (map (groundAction sch) plan) st k e)) (refl, h)
+          subst₂ Agrees (sym (execute-stop sch R s plan (maskOf stateSize st) k (halts ∙ e))) (sym (run-stop D M t (map (groundAction sch) plan) st k e)) (refl, h)
       go (inr e) deeper =
           subst₂ Agrees
-          (sym (execute-go sch l s plan (maskOf stateSize st) k (halts ∙ e) ∙ ap (λ m. execute sch l plan m (suc k)) moves))
+          (sym (execute-go sch R s plan (maskOf stateSize st) k (halts ∙ e) ∙ ap (λ m. execute sch R plan m (suc k)) moves))
           (sym (run-go D M t (map (groundAction sch) plan) st k e))
           deeper
 
@@ -101,12 +100,12 @@ agrees-sheet c (stopped k) a e = absurd (omega arith)
 agrees-sheet c (ended end) a e = a .1
 
 -- ---- from a start
-module _ (D : Domain) (M : Model) (sch : Schema) (l : List ℕ) (plan : List Step) (c : Executing D M sch l plan) (fs : List Fact) (under : Under (holding fs)) where
-  pub execute-start : Agrees (execute sch l plan (startMask fs) 1) (run D M (map (groundAction sch) plan) (holding fs) 1)
+module _ (D : Domain) (M : Model) (sch : Schema) (R : ℕ → MoveRules) (plan : List Step) (c : Executing D M sch R plan) (fs : List Fact) (under : Under (holding fs)) where
+  pub execute-start : Agrees (execute sch R plan (startMask fs) 1) (run D M (map (groundAction sch) plan) (holding fs) 1)
   execute-start =
-      subst (λ (m : List ℕ). Agrees (execute sch l plan m 1) (run D M (map (groundAction sch) plan) (holding fs) 1)) (sym (start-mask fs))
-      (execute-run D M sch l plan c (holding fs) under 1 (omega arith))
+      subst (λ (m : List ℕ). Agrees (execute sch R plan m 1) (run D M (map (groundAction sch) plan) (holding fs) 1)) (sym (start-mask fs))
+      (execute-run D M sch R plan c (holding fs) under 1 (omega arith))
 
   pub execute-answer : (steps : ℕ) (goal : List GoalEntry)
-      → runAnswer steps (map goalEntry goal) (run D M (map (groundAction sch) plan) (holding fs) 1) ≡ executedAnswer steps goal (execute sch l plan (startMask fs) 1)
+      → runAnswer steps (map goalEntry goal) (run D M (map (groundAction sch) plan) (holding fs) 1) ≡ executedAnswer steps goal (execute sch R plan (startMask fs) 1)
   execute-answer steps goal = agrees-answer steps goal _ _ execute-start

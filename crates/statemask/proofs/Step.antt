@@ -14,7 +14,7 @@ use Rattle.model.specs.Domain.{Domain, State, GroundAction}
 use Rattle.model.specs.Model.{Model, Valid, image, inapplicable, next}
 use Rattle.model.proofs.Quantify.{below-cong, below-wide}
 use Rattle.model.proofs.Next.{image-out}
-use Rattle.statemask.specs.Statemask.{unmet, inapplicableIn, effects, nextIn}
+use Rattle.statemask.specs.Statemask.{MoveRules, unmet, inapplicableIn, effects, nextIn}
 use Rattle.statemask.specs.Executing.{Under, Ruled, InMask}
 use Rattle.statemask.proofs.Masks.{test-mask, touched, effects-mask}
 
@@ -49,12 +49,12 @@ module _ (D : Domain) (M : Model) (few : D .atoms ≤ maxAtoms) (valid : Valid D
       in
       rw (off, under f h)
 
-  module _ (R : ℕ → List ℕ) (ruled : Ruled M (s .action) R) (st : State) (under : Under st) where
+  module _ (R : MoveRules) (ruled : Ruled M (s .action) R) (st : State) (under : Under st) where
     unmet-mask : (n : ℕ) → n < maxAtoms → unmet R (s .ground) (maskOf stateSize st) n ≡ M .precondition (not (st (s .ground n))) (s .action) n
     unfolding unmet
     unmet-mask n l =
         rw
-        (ruled .positive, ruled .negative, test-maskOf setSize (M .precondition true (s .action)) n l, test-maskOf setSize (M .precondition false (s .action)) n l, test-mask st under (s .ground n))
+        (ruled .needed, ruled .neededNot, test-maskOf setSize (M .precondition true (s .action)) n l, test-maskOf setSize (M .precondition false (s .action)) n l, test-mask st under (s .ground n))
         (either (λ b. M .precondition b (s .action) n) (st (s .ground n)))
 
     -- The step is inapplicable over the mask exactly if it is in the state.
@@ -69,11 +69,11 @@ module _ (D : Domain) (M : Model) (few : D .atoms ≤ maxAtoms) (valid : Valid D
     pub next-mask : nextIn R (s .ground) (maskOf stateSize st) ≡ maskOf stateSize (next D M s st)
     unfolding nextIn next
     next-mask =
-        ap (λ l. effects true (R 2) (s .ground) l maxAtoms) (effects-mask false (R 3) (s .ground) stateSize st maxAtoms)
-        ∙ effects-mask true (R 2) (s .ground) stateSize (λ f. cond (touched (R 3) (s .ground) maxAtoms f) false (st f)) maxAtoms
+        ap (λ l. effects true (R .added) (s .ground) l maxAtoms) (effects-mask false (R .removed) (s .ground) stateSize st maxAtoms)
+        ∙ effects-mask true (R .added) (s .ground) stateSize (λ f. cond (touched (R .removed) (s .ground) maxAtoms f) false (st f)) maxAtoms
         ∙ maskOf-same stateSize _ _ (λ f h. laid f)
       where
-        laid : (f : ℕ) → cond (touched (R 2) (s .ground) maxAtoms f) true (cond (touched (R 3) (s .ground) maxAtoms f) false (st f))
+        laid : (f : ℕ) → cond (touched (R .added) (s .ground) maxAtoms f) true (cond (touched (R .removed) (s .ground) maxAtoms f) false (st f))
             ≡ (image D (M .effect true (s .action)) s f || (st f && not (image D (M .effect false (s .action)) s f)))
         laid f =
             rw

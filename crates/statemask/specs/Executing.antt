@@ -13,33 +13,31 @@ use Rattle.mask.specs.Sets.{maskOf}
 use Rattle.model.specs.Quantify.{Mem}
 use Rattle.model.specs.Domain.{Domain, State, GroundAction}
 use Rattle.model.specs.Model.{Model, Valid, Run, stopped, ended}
-use Rattle.jobs.specs.SheetBits.{neededSet, neededNotSet, addedSet, removedSet}
 use Rattle.jobs.specs.Planning.{groundAction}
 use Rattle.jobs.specs.Check.{goalAnswer}
-use Rattle.observed.specs.Rules.{ruleSet}
-use Rattle.statemask.specs.Statemask.{Executed, missed}
+use Rattle.statemask.specs.Statemask.{MoveRules, Executed, missed}
 
 -- no fact holds that the mask has no bit for
 abbrev pub Under : State → Type 0
 Under st = (f : ℕ) → maxFactNumbers ≤ f → st f ≡ false
 
 -- the four sets are the model's for the action
-pub record Ruled (M : Model) (a : ℕ) (R : ℕ → List ℕ) : Type 0 where
-  pub positive : R neededSet ≡ maskOf setSize (M .precondition true a)
-  pub negative : R neededNotSet ≡ maskOf setSize (M .precondition false a)
-  pub added : R addedSet ≡ maskOf setSize (M .effect true a)
-  pub removed : R removedSet ≡ maskOf setSize (M .effect false a)
+pub record Ruled (M : Model) (a : ℕ) (R : MoveRules) : Type 0 where
+  pub needed : R .needed ≡ maskOf setSize (M .precondition true a)
+  pub neededNot : R .neededNot ≡ maskOf setSize (M .precondition false a)
+  pub added : R .added ≡ maskOf setSize (M .effect true a)
+  pub removed : R .removed ≡ maskOf setSize (M .effect false a)
 
 -- the atoms of the step's action are counted by the domain, and become facts that the mask has a bit for
 pub record InMask (D : Domain) (s : GroundAction) : Type 0 where
   pub ranged : (n : ℕ) → D .atom (s .action) n ≡ true → n < D .atoms
   pub under : (n : ℕ) → D .atom (s .action) n ≡ true → s .ground n < maxFactNumbers
 
--- what is asked of a plan, its schema and what is observed, for a model and its domain
-pub record Executing (D : Domain) (M : Model) (sch : Schema) (l : List ℕ) (plan : List Step) : Type 0 where
+-- what is asked of a plan, its schema and the rules of each move, for a model and its domain
+pub record Executing (D : Domain) (M : Model) (sch : Schema) (R : ℕ → MoveRules) (plan : List Step) : Type 0 where
   pub few : D .atoms ≤ maxAtoms
   pub valid : Valid D M
-  pub ruled : (st : Step) → Mem st plan → Ruled M (st .action .0) (ruleSet l (st .action .0))
+  pub ruled : (st : Step) → Mem st plan → Ruled M (st .action .0) (R (st .action .0))
   pub inMask : (st : Step) → Mem st plan → InMask D (groundAction sch st)
 
 -- the masks stop where the run stops; where it ends they have its end state

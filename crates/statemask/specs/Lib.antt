@@ -1,3 +1,3 @@
--- A plan executed over a state as a mask of facts, by the rules that come from what is observed.
+-- A plan executed over a state as a mask of facts, by the rules that are given.
 pub mod Statemask
 pub mod Executing

@@ -18,9 +18,7 @@ use Rattle.model.proofs.Quantify.{below-out, below-cong}
 use Rattle.terms.specs.declared.Step.{Step}
 use Rattle.terms.specs.Schema.{Schema}
 use Rattle.terms.specs.Steps.{ground}
-use Rattle.observed.specs.Observed.{added, deleted, observedSet}
-use Rattle.observed.specs.Rules.{ruleSet}
-use Rattle.statemask.specs.Statemask.{effects, nextIn, stepNext}
+use Rattle.statemask.specs.Statemask.{MoveRules, effects, nextIn, stepNext}
 use Rattle.statemask.proofs.Masks as masks
 use Rattle.rows.specs.Rows.{StartsRelation, putAt, inWord}
 use Rattle.grounding.specs.Grounding.{Bounded}
@@ -29,25 +27,23 @@ use Rattle.rows.proofs.Tests.{below-join}
 use Rattle.grounding.proofs.Objects.{ground-relation}
 use Rattle.rows.proofs.Effects.{put-none, put-mask, put-length}
 
-next-mask : (sch : Schema) (l : List ℕ) (st : Step) (m : List ℕ) (n : ℕ) → nextBelow sch l st m n ≡ maskOf 512 (testBit (nextBelow sch l st m n))
+next-mask : (sch : Schema) (R : ℕ → MoveRules) (st : Step) (m : List ℕ) (n : ℕ) → nextBelow sch R st m n ≡ maskOf 512 (testBit (nextBelow sch R st m n))
 unfolding nextBelow
-next-mask sch l st m n = put-mask true _ _
+next-mask sch R st m n = put-mask true _ _
 
-pub next-length : (sch : Schema) (l : List ℕ) (st : Step) (m : List ℕ) (n : ℕ) (new : List ℕ) → new ≡ nextBelow sch l st m n → length new ≡ 512
+pub next-length : (sch : Schema) (R : ℕ → MoveRules) (st : Step) (m : List ℕ) (n : ℕ) (new : List ℕ) → new ≡ nextBelow sch R st m n → length new ≡ 512
 unfolding nextBelow
-next-length sch l st m n new e = put-length true _ _ new e
+next-length sch R st m n new e = put-length true _ _ new e
 
 -- one relation more
-module _ (sch : Schema) (l : List ℕ) (st : Step) (m : List ℕ) (n : ℕ) (first : StartsRelation n) (bounded : Bounded (st .binding)) (g : ℕ → ℕ)
+module _ (sch : Schema) (R : ℕ → MoveRules) (st : Step) (m : List ℕ) (n : ℕ) (first : StartsRelation n) (bounded : Bounded (st .binding)) (g : ℕ → ℕ)
     (is : (j : ℕ) → j < 16 → g j ≡ ground sch (st .binding) (n + j)) where
   -- the facts of a relation's bound facts in a set
-  word-touched : (k bits f : ℕ) → bits ≡ number (testBit (observedSet l (st .action .0) k)) n 16
-      → touched (observedSet l (st .action .0) k) (ground sch (st .binding)) (n + 16) f
-      ≡ (touched (observedSet l (st .action .0) k) (ground sch (st .binding)) n f || inWord g bits f)
+  word-touched : (s : List ℕ) (bits f : ℕ) → bits ≡ number (testBit s) n 16
+      → touched s (ground sch (st .binding)) (n + 16) f ≡ (touched s (ground sch (st .binding)) n f || inWord g bits f)
   unfolding touched inWord
-  word-touched k bits f e =
+  word-touched s bits f e =
       let at : (j : ℕ) → ℕ = ground sch (st .binding) in
-      let s : List ℕ = observedSet l (st .action .0) k in
       below-join n 16 (λ j. testBit s j && eqb (at j) f)
       ∙ ap (λ (t : Bool). below n (λ j. testBit s j && eqb (at j) f) || t)
       (sym (below-cong 16 _ _
@@ -78,61 +74,61 @@ module _ (sch : Schema) (l : List ℕ) (st : Step) (m : List ℕ) (n : ℕ) (fir
   mixed false false false true x no′ = refl
   mixed false false false false x no′ = refl
 
-  pub next-more : (deleted′ added′ : ℕ) (old mid new : List ℕ)
-      → deleted′ ≡ number (testBit (observedSet l (st .action .0) deleted)) n 16
-      → added′ ≡ number (testBit (observedSet l (st .action .0) added)) n 16
-      → old ≡ nextBelow sch l st m n
-      → mid ≡ putAt false (inWord g deleted′) old
+  pub next-more : (removed′ added′ : ℕ) (old mid new : List ℕ)
+      → removed′ ≡ number (testBit (R (st .action .0) .removed)) n 16
+      → added′ ≡ number (testBit (R (st .action .0) .added)) n 16
+      → old ≡ nextBelow sch R st m n
+      → mid ≡ putAt false (inWord g removed′) old
       → new ≡ putAt true (inWord g added′) mid
-      → new ≡ nextBelow sch l st m (n + 16)
+      → new ≡ nextBelow sch R st m (n + 16)
   unfolding nextBelow putAt
-  next-more deleted′ added′ old mid new d a e p q =
+  next-more removed′ added′ old mid new d a e p q =
       rw (q, p, e)
       (maskOf-same 512 _ _
       (λ f h.
       ap (cond (inWord g added′ f) true)
-      (test-maskOf 512 _ f h ∙ ap (cond (inWord g deleted′ f) false)
-      (test-maskOf 512 _ f h ∙ ap (cond (touched (observedSet l (st .action .0) added) (ground sch (st .binding)) n f) true) (test-maskOf 512 _ f h)))
-      ∙ mixed (inWord g added′ f) (inWord g deleted′ f) (touched (observedSet l (st .action .0) added) (ground sch (st .binding)) n f)
-      (touched (observedSet l (st .action .0) deleted) (ground sch (st .binding)) n f) (testBit m f) (apart (observedSet l (st .action .0) added) deleted′ f)
-      ∙ sym (ap₂ (λ (x y : Bool). cond x true y) (word-touched added added′ f a)
-      (test-maskOf 512 _ f h ∙ ap (λ (x : Bool). cond x false (testBit m f)) (word-touched deleted deleted′ f d)))))
+      (test-maskOf 512 _ f h ∙ ap (cond (inWord g removed′ f) false)
+      (test-maskOf 512 _ f h ∙ ap (cond (touched (R (st .action .0) .added) (ground sch (st .binding)) n f) true) (test-maskOf 512 _ f h)))
+      ∙ mixed (inWord g added′ f) (inWord g removed′ f) (touched (R (st .action .0) .added) (ground sch (st .binding)) n f)
+      (touched (R (st .action .0) .removed) (ground sch (st .binding)) n f) (testBit m f) (apart (R (st .action .0) .added) removed′ f)
+      ∙ sym (ap₂ (λ (x y : Bool). cond x true y) (word-touched (R (st .action .0) .added) added′ f a)
+      (test-maskOf 512 _ f h ∙ ap (λ (x : Bool). cond x false (testBit m f)) (word-touched (R (st .action .0) .removed) removed′ f d)))))
 
   none-in : (bits f : ℕ) → bits ≡ 0 → inWord g bits f ≡ false
   unfolding inWord
   none-in bits f e = rw e (is-false _ (λ t. let (j, h, some) = below-out 16 _ t in clash _ (and-out (bitOf 0 j) _ some .0) (bit-none j)))
 
   -- where a relation has no effects, nothing changes
-  pub next-none : (deleted′ added′ : ℕ) (old : List ℕ)
-      → deleted′ ≡ number (testBit (observedSet l (st .action .0) deleted)) n 16
-      → added′ ≡ number (testBit (observedSet l (st .action .0) added)) n 16
-      → bitOr deleted′ added′ ≡ 0
-      → old ≡ nextBelow sch l st m n
-      → old ≡ nextBelow sch l st m (n + 16)
-  next-none deleted′ added′ old d a none e =
+  pub next-none : (removed′ added′ : ℕ) (old : List ℕ)
+      → removed′ ≡ number (testBit (R (st .action .0) .removed)) n 16
+      → added′ ≡ number (testBit (R (st .action .0) .added)) n 16
+      → bitOr removed′ added′ ≡ 0
+      → old ≡ nextBelow sch R st m n
+      → old ≡ nextBelow sch R st m (n + 16)
+  next-none removed′ added′ old d a none e =
       let is-mask : old ≡ maskOf 512 (testBit old) = masked old e in
-      let p : deleted′ ≡ 0 = omega (arith, or-add-and deleted′ added′, and-le-r deleted′ added′) in
-      let q : added′ ≡ 0 = omega (arith, or-add-and deleted′ added′, and-le-l deleted′ added′) in
-      next-more deleted′ added′ old old old d a e (put-none false _ old (λ f. none-in deleted′ f p) is-mask) (put-none true _ old (λ f. none-in added′ f q) is-mask)
+      let p : removed′ ≡ 0 = omega (arith, or-add-and removed′ added′, and-le-r removed′ added′) in
+      let q : added′ ≡ 0 = omega (arith, or-add-and removed′ added′, and-le-l removed′ added′) in
+      next-more removed′ added′ old old old d a e (put-none false _ old (λ f. none-in removed′ f p) is-mask) (put-none true _ old (λ f. none-in added′ f q) is-mask)
     where
-      masked : (o : List ℕ) → o ≡ nextBelow sch l st m n → o ≡ maskOf 512 (testBit o)
-      masked o e = rw e (next-mask sch l st m n)
+      masked : (o : List ℕ) → o ≡ nextBelow sch R st m n → o ≡ maskOf 512 (testBit o)
+      masked o e = rw e (next-mask sch R st m n)
 
-module _ (sch : Schema) (l : List ℕ) (st : Step) (m : List ℕ) (len : length m ≡ 512) (fits : Bytes m) where
+module _ (sch : Schema) (R : ℕ → MoveRules) (st : Step) (m : List ℕ) (len : length m ≡ 512) (fits : Bytes m) where
   is-mask : m ≡ maskOf 512 (testBit m)
   is-mask = rw len at (maskOf-testBit m fits)
 
-  pub next-first : m ≡ nextBelow sch l st m 0
+  pub next-first : m ≡ nextBelow sch R st m 0
   unfolding nextBelow touched below
   next-first =
       let none : m ≡ putAt false (λ f. false) m = put-none false (λ f. false) m (λ f. refl) is-mask in
       none ∙ put-none true (λ f. false) (putAt false (λ f. false) m) (λ f. refl) (put-mask false (λ f. false) m)
 
-  pub next-last : (n : ℕ) → n ≡ 256 → nextBelow sch l st m n ≡ stepNext sch l st m
-  unfolding nextBelow touched putAt masks.touched stepNext nextIn ruleSet
+  pub next-last : (n : ℕ) → n ≡ 256 → nextBelow sch R st m n ≡ stepNext sch R st m
+  unfolding nextBelow touched putAt masks.touched stepNext nextIn
   next-last n e =
-      let gone : List ℕ = observedSet l (st .action .0) deleted in
-      let come : List ℕ = observedSet l (st .action .0) added in
+      let gone : List ℕ = R (st .action .0) .removed in
+      let come : List ℕ = R (st .action .0) .added in
       let g : ℕ → ℕ = ground sch (st .binding) in
       let first : effects false gone g m 256 ≡ _ = ap (λ (o : List ℕ). effects false gone g o 256) is-mask ∙ masks.effects-mask false gone g 512 (testBit m) 256 in
       let second = ap (λ (o : List ℕ). effects true come g o 256) first ∙ masks.effects-mask true come g 512 _ 256 in

@@ -1,17 +1,17 @@
-// One step over a state of facts as a mask of 512 bytes: whether it is inapplicable, and the state after it, by what is observed of its move. Sets of
-// bound facts are read where they stand, sixteen of a relation at once, and tested or put by rows of the state.
-// Uses limits, terms, rows, grounding, the places of a move's sets from observed, and the definitions of mask and statemask; each contract names its definition.
+// One step over a state of facts as a mask of 512 bytes: whether it is inapplicable, and the state after it, by the rules that are lent, 128 bytes
+// a move as a rule sheet has them. Sets of bound facts are read where they stand, sixteen of a relation at once, and tested or put by rows of the state.
+// Uses limits, terms, rows, grounding, the numbers of a move's sets from jobs, and the definitions of mask and statemask; each contract names its definition.
 ghost use mathlib.Core.Path.{_≡_};
 ghost use Prim.Native.Nat.{_<_};
 ghost use lib.ListN.{length};
-ghost use Rattle.limits.specs.Limits.{stateSize, observedSets, atomsPerRelation};
+ghost use Rattle.limits.specs.Limits.{stateSize, atomsPerRelation};
 ghost use Rattle.mask.specs.Bits.{testBit};
 ghost use Rattle.mask.specs.Sets.{number};
 ghost use Rattle.terms.specs.Schema.{schema};
 ghost use Rattle.rows.specs.Rows.{StartsRelation, Tables};
 ghost use Rattle.grounding.specs.Grounding.{indices};
-ghost use Rattle.observed.specs.Observed.{observedSet};
-ghost use Rattle.statemask.specs.Statemask.{stepInapplicable, stepNext};
+ghost use Rattle.jobs.specs.SheetBits.{sheetSet};
+ghost use Rattle.statemask.specs.Statemask.{rulesIn, stepInapplicable, stepNext};
 ghost use Rattle.stepping.specs.Stepping.{Steppable, relationUnmet, Advances, StepExecuted};
 use terms::Sections;
 use terms::Step;
@@ -19,11 +19,12 @@ use terms::Step;
 // ---- sets
 
 // A relation's bound facts in set k of the step's move, n being the first of them.
-fn set_word(observed: &[u8], step: Step, k: usize, n: usize) -> u16
-    requires { ⌜ Steppable (now observed) step × (k < observedSets) × StartsRelation n ⌝ }
-    ensures { λ r. ⌜ r ≡ number (testBit (observedSet (now (observed .entry)) (step .action .0) k)) n atomsPerRelation ⌝ }
+fn set_word(rules: &[u8], step: Step, k: usize, n: usize) -> u16
+    requires { ⌜ Steppable (now rules) step × (k < 4) × StartsRelation n ⌝ }
+    ensures { λ r. ⌜ r ≡ number (testBit (sheetSet (now (rules .entry)) k (step .action .0))) n atomsPerRelation ⌝ }
 {
-    rows::word_at(observed, observed::set_at(step.action, k) + n / 8)
+    let row = limits::RULE_SIZE * (step.action.0 as usize - 1);
+    rows::word_at(rules, row + limits::SET_SIZE * k + n / 8)
 }
 
 // ---- needs
@@ -33,27 +34,26 @@ fn relation_unmet(
     book: &[u8],
     h: Sections,
     step: Step,
-    observed: &[u8],
+    rules: &[u8],
     xs: [usize; 4],
     t: &[u16; 32],
     state: &[u8; limits::STATE_SIZE],
     n: usize,
 ) -> bool
-    requires { ⌜ Steppable (now observed) step × StartsRelation n × (xs ≡ indices (step .binding)) × Tables (now t) xs ⌝ }
-    ensures { λ r. ⌜ r ≡ relationUnmet (schema h (now (book .entry))) (now (observed .entry)) step (now (state .entry)) n ⌝ }
+    requires { ⌜ Steppable (now rules) step × StartsRelation n × (xs ≡ indices (step .binding)) × Tables (now t) xs ⌝ }
+    ensures { λ r. ⌜ r ≡ relationUnmet (schema h (now (book .entry))) (rulesIn (now (rules .entry))) step (now (state .entry)) n ⌝ }
 {
-    let positive = set_word(observed, step, observed::ALWAYS_BEFORE, n);
-    let bound = set_word(observed, step, observed::BOUND, n);
-    let negative = bound & !set_word(observed, step, observed::EVER_BEFORE, n);
-    if (positive | negative) == 0 {
+    let needed = set_word(rules, step, jobs::PRE_POS, n);
+    let needed_not = set_word(rules, step, jobs::PRE_NEG, n);
+    if (needed | needed_not) == 0 {
         return false;
     }
     rows::needs_unmet(
         t,
         grounding::placement(book, h, xs, n),
         state,
-        positive,
-        negative,
+        needed,
+        needed_not,
     )
 }
 
@@ -62,17 +62,17 @@ fn is_inapplicable(
     book: &[u8],
     h: Sections,
     step: Step,
-    observed: &[u8],
+    rules: &[u8],
     xs: [usize; 4],
     t: &[u16; 32],
     state: &[u8; limits::STATE_SIZE],
 ) -> bool
-    requires { ⌜ Steppable (now observed) step × (xs ≡ indices (step .binding)) × Tables (now t) xs ⌝ }
-    ensures { λ r. ⌜ r ≡ stepInapplicable (schema h (now (book .entry))) (now (observed .entry)) step (now (state .entry)) ⌝ }
+    requires { ⌜ Steppable (now rules) step × (xs ≡ indices (step .binding)) × Tables (now t) xs ⌝ }
+    ensures { λ r. ⌜ r ≡ stepInapplicable (schema h (now (book .entry))) (rulesIn (now (rules .entry))) step (now (state .entry)) ⌝ }
 {
     let mut n = 0;
     while n < limits::MAX_ATOMS {
-        if relation_unmet(book, h, step, observed, xs, t, state, n) {
+        if relation_unmet(book, h, step, rules, xs, t, state, n) {
             return true;
         }
         n += limits::ATOMS_PER_RELATION;
@@ -87,22 +87,22 @@ fn put_relation(
     book: &[u8],
     h: Sections,
     step: Step,
-    observed: &[u8],
+    rules: &[u8],
     xs: [usize; 4],
     t: &[u16; 32],
     n: usize,
     state: &mut [u8],
 )
-    requires { ⌜ (length (now state) ≡ stateSize) × Steppable (now observed) step × StartsRelation n × (xs ≡ indices (step .binding)) × Tables (now t) xs ⌝ }
-    ensures { λ _. ⌜ Advances (schema h (now (book .entry))) (now (observed .entry)) step n (now (state .entry)) (now (state .exit)) ⌝ }
+    requires { ⌜ (length (now state) ≡ stateSize) × Steppable (now rules) step × StartsRelation n × (xs ≡ indices (step .binding)) × Tables (now t) xs ⌝ }
+    ensures { λ _. ⌜ Advances (schema h (now (book .entry))) (rulesIn (now (rules .entry))) step n (now (state .entry)) (now (state .exit)) ⌝ }
 {
-    let deleted = set_word(observed, step, observed::DELETED, n);
-    let added = set_word(observed, step, observed::ADDED, n);
-    if (deleted | added) == 0 {
+    let removed = set_word(rules, step, jobs::DELETE, n);
+    let added = set_word(rules, step, jobs::ADD, n);
+    if (removed | added) == 0 {
         return;
     }
     let p = grounding::placement(book, h, xs, n);
-    rows::put_rows(t, p, deleted, false, state);
+    rows::put_rows(t, p, removed, false, state);
     rows::put_rows(t, p, added, true, state);
 }
 
@@ -111,17 +111,17 @@ fn put_effects(
     book: &[u8],
     h: Sections,
     step: Step,
-    observed: &[u8],
+    rules: &[u8],
     xs: [usize; 4],
     t: &[u16; 32],
     state: &mut [u8],
 )
-    requires { ⌜ (length (now state) ≡ stateSize) × Steppable (now observed) step × (xs ≡ indices (step .binding)) × Tables (now t) xs ⌝ }
-    ensures { λ _. ⌜ now (state .exit) ≡ stepNext (schema h (now (book .entry))) (now (observed .entry)) step (now (state .entry)) ⌝ }
+    requires { ⌜ (length (now state) ≡ stateSize) × Steppable (now rules) step × (xs ≡ indices (step .binding)) × Tables (now t) xs ⌝ }
+    ensures { λ _. ⌜ now (state .exit) ≡ stepNext (schema h (now (book .entry))) (rulesIn (now (rules .entry))) step (now (state .entry)) ⌝ }
 {
     let mut n = 0;
     while n < limits::MAX_ATOMS {
-        put_relation(book, h, step, observed, xs, t, n, state);
+        put_relation(book, h, step, rules, xs, t, n, state);
         n += limits::ATOMS_PER_RELATION;
     }
 }
@@ -131,17 +131,17 @@ pub fn execute_step(
     book: &[u8],
     h: Sections,
     step: Step,
-    observed: &[u8],
+    rules: &[u8],
     state: &mut [u8; limits::STATE_SIZE],
 ) -> bool
-    requires { ⌜ Steppable (now observed) step ⌝ }
-    ensures { λ r. ⌜ StepExecuted (schema h (now (book .entry))) (now (observed .entry)) step (now (state .entry)) r (now (state .exit)) ⌝ }
+    requires { ⌜ Steppable (now rules) step ⌝ }
+    ensures { λ r. ⌜ StepExecuted (schema h (now (book .entry))) (rulesIn (now (rules .entry))) step (now (state .entry)) r (now (state .exit)) ⌝ }
 {
     let xs = grounding::indices(step.binding);
     let t = rows::column_table(xs);
-    if is_inapplicable(book, h, step, observed, xs, &t, state) {
+    if is_inapplicable(book, h, step, rules, xs, &t, state) {
         return true;
     }
-    put_effects(book, h, step, observed, xs, &t, state);
+    put_effects(book, h, step, rules, xs, &t, state);
     false
 }

@@ -32,7 +32,7 @@ check-order-requires c κs =
 
 returns-3 : tie.Need-returns-3
 returns-3 c =
-    let x = c .before .before in
+    let x = c .before .before .before in
     let e = x .before .before .before in
     let i = e .before in
     at-rest _ _ _ _ _ (i .before .before .before .observe-book .ensures) (i .before .is-refused .ensures) _ _ (i .if1 .left) (e .if2 .left) _ _

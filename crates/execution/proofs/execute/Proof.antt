@@ -6,19 +6,19 @@ use borrow.Author.Needs.{needs}
 use Rattle.limits.specs.Limits.{farCeiling}
 use Rattle.terms.specs.Schema.{schema}
 use Rattle.format.specs.Order.{planFrom}
-use Rattle.statemask.specs.Statemask.{execute}
+use Rattle.statemask.specs.Statemask.{rulesIn, execute}
 use Rattle.execution.specs.Execution.{Executable}
 use Rattle.execution.proofs.Plan.{executable-step, executable-next, execute-none, execute-here, execute-more, executes}
 use Rattle.execution.proofs.execute.Statement.{statement}
 use Rattle.execution.proofs.execute.Tie as tie
 
 abbrev Inv-loop : tie.InvT-loop
-Inv-loop book h observed o steps from state₀ left₀ at₀ k₀ state left at k =
-    Executable observed o left at × (k + left ≤ farCeiling)
-    × (execute (schema h book) observed (planFrom o left at) state k ≡ execute (schema h book) observed (planFrom o steps from) state₀ 1)
+Inv-loop book h rules o steps from state₀ left₀ at₀ k₀ state left at k =
+    Executable rules o left at × (k + left ≤ farCeiling)
+    × (execute (schema h book) (rulesIn rules) (planFrom o left at) state k ≡ execute (schema h book) (rulesIn rules) (planFrom o steps from) state₀ 1)
 
 abbrev μ-loop : tie.MeasureT-loop
-μ-loop book h observed o steps from state₀ left₀ at₀ k₀ state left at k = left
+μ-loop book h rules o steps from state₀ left₀ at₀ k₀ state left at k = left
 
 loop-holds : tie.Need-loop-holds Inv-loop μ-loop
 loop-holds c = (c .before .before .before .pre, omega arith, refl)

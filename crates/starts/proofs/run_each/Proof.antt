@@ -7,6 +7,7 @@ use Rattle.terms.specs.Schema.{schema}
 use Rattle.format.specs.Lists.{listEnd}
 use Rattle.format.specs.Order.{stepCount, startsFrom}
 use Rattle.jobs.specs.Check.{firstFailing}
+use Rattle.statemask.specs.Statemask.{rulesIn}
 use Rattle.starts.specs.Starts.{answerFrom, StartsGood, answerEach}
 use Rattle.starts.proofs.Starts.{next-start, each-begins, each-ends, each-fails, each-goes}
 use borrow.Author.Needs.{needs}
@@ -14,13 +15,13 @@ use Rattle.starts.proofs.run_each.Statement.{statement}
 use Rattle.starts.proofs.run_each.Tie as tie
 
 abbrev Inv-loop : tie.InvT-loop
-Inv-loop book h observed o left₀ at₀ k₀ left at k =
+Inv-loop book h rules o left₀ at₀ k₀ left at k =
     StartsGood o left at
     × (k + left ≤ maxTwo + 1)
-    × (firstFailing (answerFrom (schema h book) observed o) (stepCount o) k (startsFrom o left at) ≡ answerEach (schema h book) observed o)
+    × (firstFailing (answerFrom (schema h book) (rulesIn rules) o) (stepCount o) k (startsFrom o left at) ≡ answerEach (schema h book) (rulesIn rules) o)
 
 abbrev μ-loop : tie.MeasureT-loop
-μ-loop book h observed o left₀ at₀ k₀ left at k = left
+μ-loop book h rules o left₀ at₀ k₀ left at k = left
 
 loop-holds : tie.Need-loop-holds Inv-loop μ-loop
 loop-holds c =

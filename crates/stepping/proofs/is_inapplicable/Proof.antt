@@ -4,16 +4,17 @@ use native.Mathlib.Omega.{arith}
 use mathlib.Core.Path.{_≡_, sym, _∙_}
 use mathlib.Core.Bool.{false}
 use Rattle.terms.specs.Schema.{schema}
+use Rattle.statemask.specs.Statemask.{rulesIn}
 use Rattle.rows.proofs.Rows.{starts}
 use Rattle.stepping.proofs.Needs.{unmetBelow, unmet-first, unmet-more, unmet-here, unmet-last}
 use Rattle.stepping.proofs.is_inapplicable.Statement.{statement}
 use Rattle.stepping.proofs.is_inapplicable.Tie as tie
 
 abbrev Inv-loop : tie.InvT-loop
-Inv-loop book h step observed xs t state n₀ n = (n % 16 ≡ 0) × (n ≤ 256) × (unmetBelow (schema h book) observed step state n ≡ false)
+Inv-loop book h step rules xs t state n₀ n = (n % 16 ≡ 0) × (n ≤ 256) × (unmetBelow (schema h book) (rulesIn rules) step state n ≡ false)
 
 abbrev μ-loop : tie.MeasureT-loop
-μ-loop book h step observed xs t state n₀ n = 256 - n
+μ-loop book h step rules xs t state n₀ n = 256 - n
 
 loop-holds : tie.Need-loop-holds Inv-loop μ-loop
 loop-holds c = (omega arith, omega arith, unmet-first _ _ _ _)

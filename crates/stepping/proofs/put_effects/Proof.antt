@@ -4,16 +4,17 @@ use native.Mathlib.Omega.{arith}
 use mathlib.Core.Path.{_≡_, sym, _∙_}
 use Rattle.terms.specs.Schema.{schema}
 use Rattle.stepping.specs.Stepping.{nextBelow}
+use Rattle.statemask.specs.Statemask.{rulesIn}
 use Rattle.rows.proofs.Rows.{starts}
 use Rattle.stepping.proofs.Next.{next-length, next-first, next-last}
 use Rattle.stepping.proofs.put_effects.Statement.{statement}
 use Rattle.stepping.proofs.put_effects.Tie as tie
 
 abbrev Inv-loop : tie.InvT-loop
-Inv-loop book h step observed xs t state₀ n₀ state n = (n % 16 ≡ 0) × (n ≤ 256) × (state ≡ nextBelow (schema h book) observed step state₀ n)
+Inv-loop book h step rules xs t state₀ n₀ state n = (n % 16 ≡ 0) × (n ≤ 256) × (state ≡ nextBelow (schema h book) (rulesIn rules) step state₀ n)
 
 abbrev μ-loop : tie.MeasureT-loop
-μ-loop book h step observed xs t state₀ n₀ state n = 256 - n
+μ-loop book h step rules xs t state₀ n₀ state n = 256 - n
 
 loop-holds : tie.Need-loop-holds Inv-loop μ-loop
 loop-holds c =

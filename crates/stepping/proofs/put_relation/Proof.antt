@@ -1,12 +1,14 @@
 -- `stepping::put_relation` meets its contract: no effect of the relation's bound facts, or the removed ones and then the added ones in its rows.
 use borrow.Author.Needs.{needs}
 use mathlib.Core.Path.{refl}
+use Rattle.statemask.specs.Statemask.{rulesIn}
 use Rattle.grounding.proofs.Objects.{indices-inside}
 use Rattle.stepping.proofs.Next.{next-more, next-none}
 use Rattle.stepping.proofs.put_relation.Statement.{statement}
 use Rattle.stepping.proofs.put_relation.Tie as tie
 
 returns : tie.Need-returns
+unfolding rulesIn
 returns c m e =
     let w2 = c .before in
     let w1 = w2 .before in
@@ -17,6 +19,7 @@ placement-requires : tie.Need-placement-requires
 placement-requires c κs = let q = c .before .before .before .before .before .before .pre in (indices-inside _ _ (q .1 .bounded) (q .3), q .2)
 
 returns-2 : tie.Need-returns-2
+unfolding rulesIn
 returns-2 c m e =
     let a = c .before .before in
     let d = a .before .before .before .before in
