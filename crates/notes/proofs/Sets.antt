@@ -1,14 +1,17 @@
 -- Sets in the bytes of what is observed: a part that was lent and came back, a step's six sets, and a move's first ones. Uses the definitions of observed, and the kit's for
 -- a part of a slice.
-use Prim.Native.Nat.{ℕ, _+_, _-_}
+use Prim.Native.Nat.{ℕ, _+_, _-_, _≤_}
 use mathlib.Core.Path.{_≡_, sym}
 use mathlib.Core.List.{List, append-assoc}
 use native.Mathlib.Omega.{arith}
 use borrow.Rule.Slice.PartMut.{midOf, putMid}
-use lib.ListN.{take, drop}
+use lib.ListN.{length, take, drop}
 use lib.Seq.{drop-drop}
+use Rattle.limits.specs.Limits.{maxMoves, observedSize}
 use Rattle.mask.specs.Sets.{intersection, union, difference}
-use Rattle.observed.specs.Observed.{alwaysBefore, everBefore, alwaysAfter, everAfter, added, deleted, bound, setAt, onSet, noted}
+use Rattle.observed.specs.Observed.{alwaysBefore, everBefore, alwaysAfter, everAfter, added, deleted, bound, setAt, noted}
+use Rattle.observed.specs.OnSet.{onSet}
+use Rattle.observed.proofs.Noted.{change, changes, noted-changes}
 use Rattle.notes.specs.Notes.{narrowed, widened, firstSets}
 
 set-back : (f : List ℕ → List ℕ) (at k : ℕ) (l m : List ℕ) → k ≡ 32 → m ≡ f (midOf at k l) → putMid at k l m ≡ onSet at f l
@@ -27,7 +30,8 @@ module _ (at : ℕ) (l m other : List ℕ) where
   widened-back e = set-back (λ x. union x other) at (at + 32 - at) l m (omega arith) e
 
 module _ (a : ℕ) (before after l l₁ l₂ l₃ l₄ l₅ l₆ : List ℕ) (at₁ at₂ at₃ at₄ at₅ at₆ : ℕ) where
-  pub noted-by : at₁ ≡ setAt a alwaysBefore
+  pub noted-by : (1 ≤ a) × (a ≤ maxMoves) × (length l ≡ observedSize)
+      → at₁ ≡ setAt a alwaysBefore
       → at₂ ≡ setAt a everBefore
       → at₃ ≡ setAt a alwaysAfter
       → at₄ ≡ setAt a everAfter
@@ -40,8 +44,9 @@ module _ (a : ℕ) (before after l l₁ l₂ l₃ l₄ l₅ l₆ : List ℕ) (at
       → l₅ ≡ widened at₅ (difference after before) l₄
       → l₆ ≡ widened at₆ (difference before after) l₅
       → l₆ ≡ noted a before after l
-  unfolding noted narrowed widened
-  noted-by p₁ p₂ p₃ p₄ p₅ p₆ e₁ e₂ e₃ e₄ e₅ e₆ = rw (e₆, e₅, e₄, e₃, e₂, e₁, p₁, p₂, p₃, p₄, p₅, p₆)
+  unfolding changes change narrowed widened
+  noted-by (counted, known, sized) p₁ p₂ p₃ p₄ p₅ p₆ e₁ e₂ e₃ e₄ e₅ e₆ =
+      rw (e₆, e₅, e₄, e₃, e₂, e₁, p₁, p₂, p₃, p₄, p₅, p₆) (sym (noted-changes a counted known before after l sized))
 
 module _ (a : ℕ) (atoms l l₁ l₂ l₃ : List ℕ) (at₁ at₂ at₃ : ℕ) where
   pub first-by : at₁ ≡ setAt a alwaysBefore

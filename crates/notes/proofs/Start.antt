@@ -19,7 +19,8 @@ use Rattle.terms.specs.Schema.{Schema}
 use Rattle.terms.specs.Steps.{isAtom}
 use Rattle.terms.proofs.Atoms.{atom-out}
 use Rattle.atoms.specs.Atoms.{atomSet}
-use Rattle.observed.specs.Observed.{alwaysBefore, alwaysAfter, bound, setAt, observedSet, onSet, atFirst, nothingSeen}
+use Rattle.observed.specs.Observed.{alwaysBefore, alwaysAfter, bound, setAt, observedSet, atFirst, nothingSeen}
+use Rattle.observed.specs.OnSet.{onSet}
 use Rattle.observed.proofs.Parts.{part-bytes, length-onSet, bytes-onSet, onSet-in, onSet-out}
 use Rattle.observed.proofs.Noted.{set-fits, sets-apart, length-observedSet}
 use Rattle.observed.proofs.Observe.{test-observedSet}

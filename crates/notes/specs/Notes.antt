@@ -19,7 +19,8 @@ use Rattle.turning.specs.Turning.{flipped}
 use Rattle.observed.specs.Inverse.{turnMarks, someUnbound}
 use Rattle.format.specs.Form.{Form}
 use Rattle.format.specs.Decode.{recordedStep}
-use Rattle.observed.specs.Observed.{alwaysBefore, alwaysAfter, bound, Observed, setAt, observedSet, onSet, noted, firstNamed, observe}
+use Rattle.observed.specs.Observed.{alwaysBefore, alwaysAfter, bound, Observed, setAt, observedSet, noted, firstNamed, observe}
+use Rattle.observed.specs.OnSet.{onSet}
 
 -- the set at an offset, intersected and united with another
 unfoldable pub narrowed : ℕ → List ℕ → List ℕ → List ℕ

@@ -11,8 +11,8 @@ use Rattle.terms.specs.declared.Binding.{Binding}
 use Rattle.terms.specs.declared.Fact.{Fact}
 use Rattle.terms.specs.Facts.{precedes}
 use Rattle.terms.specs.Steps.{objectOf}
-use Rattle.observed.specs.Observed.{everBefore, added, deleted, setAt, observedSet, onSet, noted}
-use Rattle.observed.specs.Inverse.{gives, paramOf, placeBound, factBound, atomOf, mark, marks, atomsIn, unbound, alone, inOneAlone, someFact, unboundChanged}
+use Rattle.observed.specs.Observed.{everBefore, added, deleted, setAt, observedSet, onSet, noted, setsOf, encoded, withSets, afterStep}
+use Rattle.observed.specs.Inverse.{gives, paramOf, placeBound, factBound, atomOf, mark, marks, atomsIn, unbound, alone, inOneAlone, someFact, unboundChanged, sameFact, sameFacts}
 
 abbrev roll : ℕ → ℕ → ℕ → Binding
 roll bank from to = record { objects = record { 0 = bank } ∷ record { 0 = from } ∷ record { 0 = to } ∷ record { 0 = 0 } ∷ [] }
@@ -64,5 +64,5 @@ sequence-right :
     × (observedSet (noted 1 (some 0) (some 2) (noted 1 (some 6) (some 2) none)) 1 deleted ≡ some 4)
     × (observedSet (noted 1 (some 6) (some 2) (noted 1 (some 0) (some 2) none)) 1 everBefore ≡ some 6)
     × (observedSet (noted 1 (some 0) (some 2) (noted 1 (some 6) (some 2) none)) 1 everBefore ≡ some 6)
-unfolding without bytewise intersection union difference setAt observedSet onSet noted
+unfolding without bytewise intersection union difference setAt observedSet setsOf encoded withSets afterStep noted
 sequence-right = (refl, refl, refl, refl, refl, refl)

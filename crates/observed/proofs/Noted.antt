@@ -1,22 +1,24 @@
 -- What a step makes of the masks: each of its move's six sets of what is seen is changed in its own way; the set of its bound facts stays, and so
 -- do those of every other move.
-use Prim.Native.Nat.{ℕ, zero, suc, _+_, _≤_, _<_}
+use Prim.Native.Nat.{ℕ, zero, suc, _+_, _-_, _*_, _≤_, _<_}
 use native.Mathlib.Decide.{decLt, ℕ-discrete}
 use native.Mathlib.Omega.{arith}
 use mathlib.Core.Path.{_≡_, refl, sym, ap, _∙_}
 use mathlib.Core.Logic.{_⊎_, inl, inr}
 use mathlib.Core.Bool.{Bool, true, false, _&&_, _||_, not}
-use mathlib.Core.List.{List}
-use lib.ListN.{length}
+use mathlib.Core.List.{List, [], _++_, append-nil, append-assoc}
+use lib.ListN.{length, take, drop, length-append, take-append-drop}
+use lib.Seq.{take-at, drop-at, drop-drop, length-take-le}
 use Rattle.limits.specs.Limits.{observedSize}
 use Rattle.mask.specs.Bits.{testBit, Bytes}
 use Rattle.mask.specs.Sets.{intersection, union, difference}
 use Rattle.mask.proofs.Laws.{test-intersection, length-intersection, bytes-intersection, test-union, length-union, bytes-union, test-difference, length-difference, bytes-difference}
-use Rattle.observed.specs.Observed.{setAt, observedSet, onSet, noted}
+use Rattle.observed.specs.Observed.{setAt, observedSet, setsOf, encoded, withSets, afterStep, noted}
+use Rattle.observed.specs.OnSet.{onSet}
 use Rattle.observed.proofs.Parts.{part-length, part-bytes, length-onSet, bytes-onSet, onSet-in, onSet-out}
 
 -- set k after a step with the bound facts x before and y after it
-pub change : ℕ → List ℕ → List ℕ → List ℕ → List ℕ
+unfoldable pub change : ℕ → List ℕ → List ℕ → List ℕ → List ℕ
 change zero x y m = intersection m x
 change (suc zero) x y m = union m x
 change (suc (suc zero)) x y m = intersection m y
@@ -45,13 +47,9 @@ changed-within (suc (suc (suc (suc zero)))) false x y b = refl
 changed-within (suc (suc (suc (suc (suc k))))) false x y b = refl
 
 -- the first sets of a move changed, so many of them
-changes : ℕ → (ℕ → List ℕ → List ℕ) → ℕ → List ℕ → List ℕ
+unfoldable pub changes : ℕ → (ℕ → List ℕ → List ℕ) → ℕ → List ℕ → List ℕ
 changes a f zero l = l
 changes a f (suc k) l = onSet (setAt a k) (f k) (changes a f k l)
-
-noted-changes : (a : ℕ) (x y l : List ℕ) → noted a x y l ≡ changes a (λ k. change k x y) 6 l
-unfolding noted changes change
-noted-changes a x y l = refl
 
 -- ---- where the sets stand
 pub set-fits : (a k : ℕ) → 1 ≤ a → a ≤ 32 → k < 7 → setAt a k + 32 ≤ observedSize
@@ -164,8 +162,80 @@ pub length-observedSet : (l : List ℕ) (a k : ℕ) → length l ≡ observedSiz
 unfolding observedSet
 length-observedSet l a k e h h′ hk = part-length l (setAt a k) (omega (arith, e, set-fits a k h h′ hk))
 
+-- ---- the sets changed one by one are the sets put together
+set-next : (a n : ℕ) → setAt a n + 32 ≡ setAt a (suc n)
+unfolding setAt
+set-next a n = omega arith
+
+set-last : (a : ℕ) → setAt a 6 + 32 ≡ setAt a 0 + 224
+unfolding setAt
+set-last a = omega arith
+
+on-part : (at : ℕ) (f : List ℕ → List ℕ) (x y z : List ℕ) → length x ≡ at → length y ≡ 32 → onSet at f (x ++ (y ++ z)) ≡ x ++ f y ++ z
+unfolding onSet
+on-part at f x y z e h =
+    let b : drop at (x ++ (y ++ z)) ≡ y ++ z = drop-at x (y ++ z) at e in
+    let c : drop (at + 32) (x ++ (y ++ z)) ≡ z = sym (drop-drop 32 at (x ++ (y ++ z))) ∙ ap (drop 32) b ∙ drop-at y z 32 h in
+    rw (take-at x (y ++ z) at e, b, take-at y z 32 h, c)
+
+module _ (a : ℕ) (counted : 1 ≤ a) (known : a ≤ 32) (l : List ℕ) (sized : length l ≡ observedSize)
+    (f : ℕ → List ℕ → List ℕ) (keeps : (k : ℕ) (m : List ℕ) → length (f k m) ≡ length m) where
+  -- the first sets of the move, changed, one after the other
+  joined : ℕ → List ℕ
+  joined zero = []
+  joined (suc n) = joined n ++ f n (observedSet l a n)
+
+  -- from a set on: the set, and what follows
+  set-first : (k : ℕ) → k < 7 → drop (setAt a k) l ≡ observedSet l a k ++ drop (setAt a k + 32) l
+  unfolding observedSet
+  set-first k h =
+      sym (take-append-drop 32 (drop (setAt a k) l)) ∙ ap (λ (r : List ℕ). take 32 (drop (setAt a k) l) ++ r) (drop-drop 32 (setAt a k) l)
+
+  front-length : (n : ℕ) → n ≤ 6 → length (take (setAt a 0) l ++ joined n) ≡ setAt a n
+  unfolding joined setAt
+  front-length zero h = omega (arith, length-append (take (224 * (a - 1) + 32 * 0) l) [], length-take-le (224 * (a - 1) + 32 * 0) l (omega arith))
+  front-length (suc n) h =
+      let front : List ℕ = take (224 * (a - 1) + 32 * 0) l in
+      omega (
+        arith,
+        length-append front (joined n ++ f n (observedSet l a n)),
+        length-append (joined n) (f n (observedSet l a n)),
+        length-append front (joined n),
+        front-length n (omega arith),
+        keeps n (observedSet l a n),
+        length-observedSet l a n sized counted known (omega arith),
+      )
+
+  front-changes : (n : ℕ) → n ≤ 6 → changes a f n l ≡ take (setAt a 0) l ++ joined n ++ drop (setAt a n) l
+  unfolding changes joined
+  front-changes zero h = sym (rw append-nil (take-append-drop (setAt a 0) l))
+  front-changes (suc n) h =
+      let front : List ℕ = take (setAt a 0) l ++ joined n in
+      let s : List ℕ = observedSet l a n in
+      let next : setAt a n + 32 ≡ setAt a (suc n) = set-next a n in
+      ap (onSet (setAt a n) (f n)) (front-changes n (omega arith) ∙ ap (λ (r : List ℕ). front ++ r) (set-first n (omega arith)))
+      ∙ on-part (setAt a n) (f n) front s (drop (setAt a n + 32) l) (front-length n (omega arith)) (length-observedSet l a n sized counted known (omega arith))
+      ∙ ap (λ (k : ℕ). front ++ f n s ++ drop k l) next
+      ∙ ap (λ (r : List ℕ). r ++ drop (setAt a (suc n)) l) (append-assoc (take (setAt a 0) l) (joined n) (f n s))
+
 -- ---- a step noted
 module _ (a : ℕ) (counted : 1 ≤ a) (known : a ≤ 32) (x y l : List ℕ) (sized : length l ≡ observedSize) where
+  -- set by set, as the code does it
+  pub noted-changes : noted a x y l ≡ changes a (λ k. change k x y) 6 l
+  unfolding noted withSets encoded afterStep setsOf change joined
+  noted-changes =
+      let f : ℕ → List ℕ → List ℕ = λ k. change k x y in
+      let j : List ℕ = joined a counted known l sized f (λ k m. length-change k x y m) 6 in
+      let s : List ℕ = observedSet l a 6 in
+      let d : List ℕ = drop (setAt a 0 + 224) l in
+      let last : setAt a 6 + 32 ≡ setAt a 0 + 224 = set-last a in
+      sym (front-changes a counted known l sized f (λ k m. length-change k x y m) 6 (omega arith)
+      ∙ ap (λ (r : List ℕ). take (setAt a 0) l ++ j ++ r) (set-first a counted known l sized f (λ k m. length-change k x y m) 6 (omega arith) ∙ ap (λ (k : ℕ). s ++ drop k l) last)
+      ∙ regroup (take (setAt a 0) l) j s d)
+    where
+      regroup : (p j s d : List ℕ) → p ++ j ++ (s ++ d) ≡ p ++ (j ++ s) ++ d
+      regroup p j s d = simp (append-assoc)
+
   pub length-noted : length (noted a x y l) ≡ observedSize
   length-noted = rw noted-changes (length-changes a counted known l sized _ (λ k m. length-change k x y m) 6 (omega arith))
 

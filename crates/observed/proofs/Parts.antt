@@ -8,7 +8,7 @@ use mathlib.Core.List.{List, _++_}
 use lib.ListN.{length, take, drop, getD, length-append, length-take, length-drop, List·getD-append, List·getD-eq-default}
 use lib.Seq.{length-take-le, getD-append-add, getD-take, getD-drop, ext-getD}
 use Rattle.mask.specs.Bits.{Bytes}
-use Rattle.observed.specs.Observed.{onSet}
+use Rattle.observed.specs.OnSet.{onSet}
 
 -- a list with m in place of the 32 bytes from `at`
 put : ℕ → List ℕ → List ℕ → List ℕ

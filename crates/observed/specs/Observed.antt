@@ -62,19 +62,54 @@ observedSet l a k = take setSize (drop (setAt a k) l)
 abbrev pub MoveObserved : List ℕ → ℕ → Type 0
 MoveObserved l a = (length l ≡ observedSize) × (1 ≤ a) × (a ≤ maxMoves)
 
--- the set at an offset replaced by what is made of it
-unfoldable pub onSet : ℕ → (List ℕ → List ℕ) → List ℕ → List ℕ
-onSet at f l = take at l ++ f (take setSize (drop at l)) ++ drop (at + setSize) l
+-- ---- the seven sets of a move together
 
--- one step of a move, by its bound facts that hold before and after
+pub record MoveSets : Type 0 where
+  pub alwaysBefore : List ℕ
+  pub everBefore : List ℕ
+  pub alwaysAfter : List ℕ
+  pub everAfter : List ℕ
+  pub added : List ℕ
+  pub deleted : List ℕ
+  pub bound : List ℕ
+
+unfoldable pub setsOf : List ℕ → ℕ → MoveSets
+setsOf l a =
+    record {
+      alwaysBefore = observedSet l a alwaysBefore;
+      everBefore = observedSet l a everBefore;
+      alwaysAfter = observedSet l a alwaysAfter;
+      everAfter = observedSet l a everAfter;
+      added = observedSet l a added;
+      deleted = observedSet l a deleted;
+      bound = observedSet l a bound;
+    }
+
+-- their bytes
+unfoldable pub encoded : MoveSets → List ℕ
+encoded m = m .alwaysBefore ++ m .everBefore ++ m .alwaysAfter ++ m .everAfter ++ m .added ++ m .deleted ++ m .bound
+
+-- what is observed, with other sets of a move
+unfoldable pub withSets : ℕ → MoveSets → List ℕ → List ℕ
+withSets a m l = take (setAt a 0) l ++ encoded m ++ drop (setAt a 0 + observedPerMove) l
+
+-- the sets of a move after one step more, by its bound facts that hold before and after it
+unfoldable pub afterStep : List ℕ → List ℕ → MoveSets → MoveSets
+afterStep before after m =
+    record {
+      alwaysBefore = intersection (m .alwaysBefore) before;
+      everBefore = union (m .everBefore) before;
+      alwaysAfter = intersection (m .alwaysAfter) after;
+      everAfter = union (m .everAfter) after;
+      added = union (m .added) (difference after before);
+      deleted = union (m .deleted) (difference before after);
+      bound = m .bound;
+    }
+
 unfoldable pub noted : ℕ → List ℕ → List ℕ → List ℕ → List ℕ
-noted a before after l =
-    onSet (setAt a deleted) (λ m. union m (difference before after))
-    (onSet (setAt a added) (λ m. union m (difference after before))
-    (onSet (setAt a everAfter) (λ m. union m after)
-    (onSet (setAt a alwaysAfter) (λ m. intersection m after)
-    (onSet (setAt a everBefore) (λ m. union m before)
-    (onSet (setAt a alwaysBefore) (λ m. intersection m before) l)))))
+noted a before after l = withSets a (afterStep before after (setsOf l a)) l
+
+-- ---- a walk over steps and records
 
 -- the offset of the first step that row 11 names, by what it named before and whether it names the step at an offset
 unfoldable pub firstNamed : ℕ → Bool → ℕ → ℕ

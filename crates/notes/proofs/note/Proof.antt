@@ -18,7 +18,7 @@ returns c =
     let x₃ = x₄ .before .before .before .before .before in
     let x₂ = x₃ .before .before .before .before .before in
     let x₁ = x₂ .before .before .before .before .before in
-    noted-by _ _ _ _ _ _ _ _ _ _ _ _ _ _ _ _
+    noted-by _ _ _ _ _ _ _ _ _ _ _ _ _ _ _ _ (x₁ .before .before .before .before .pre)
     (x₁ .before .set-at .ensures .0) (x₂ .before .set-at2 .ensures .0) (x₃ .before .set-at3 .ensures .0)
     (x₄ .before .set-at4 .ensures .0) (x₅ .before .set-at5 .ensures .0) (x₆ .before .set-at6 .ensures .0)
     (x₁ .narrow .ensures) (x₂ .widen .ensures) (x₃ .narrow2 .ensures) (x₄ .widen2 .ensures)
