@@ -12,7 +12,7 @@ use Rattle.answer.specs.Laws.{good-refused}
 use Rattle.terms.specs.declared.Fact.{Fact}
 use Rattle.terms.specs.declared.Param.{Param}
 use Rattle.terms.specs.declared.Step.{Step}
-use Rattle.terms.specs.Schema.{Schema, TypedObjects}
+use Rattle.terms.specs.Schema.{TypedObjects}
 use Rattle.terms.specs.Steps.{objectOf, stepAt, argumentBad}
 use Rattle.limits.specs.Limits.{maxObjects, stepSize, ruleSize}
 use Rattle.format.specs.Form.{Form}

@@ -11,8 +11,8 @@ use Rattle.terms.specs.declared.Binding.{Binding}
 use Rattle.terms.specs.declared.Fact.{Fact}
 use Rattle.terms.specs.Facts.{precedes}
 use Rattle.terms.specs.Steps.{objectOf}
-use Rattle.observed.specs.Observed.{everBefore, added, deleted, setAt, observedSet, onSet, noted, setsOf, encoded, withSets, afterStep}
-use Rattle.observed.specs.Inverse.{gives, paramOf, placeBound, factBound, atomOf, mark, marks, atomsIn, unbound, alone, inOneAlone, someFact, unboundChanged, sameFact, sameFacts}
+use Rattle.observed.specs.Observed.{everBefore, added, deleted, setAt, observedSet, noted, setsOf, encoded, withSets, afterStep}
+use Rattle.observed.specs.Inverse.{gives, paramOf, placeBound, factBound, atomOf, mark, marks, atomsIn, unbound, alone, inOneAlone, someFact, unboundChanged}
 
 abbrev roll : ℕ → ℕ → ℕ → Binding
 roll bank from to = record { objects = record { 0 = bank } ∷ record { 0 = from } ∷ record { 0 = to } ∷ record { 0 = 0 } ∷ [] }

@@ -4,7 +4,6 @@ use Prim.Native.Nat.{ℕ, _<_, _≤_}
 use native.Mathlib.Omega.{arith}
 use mathlib.Core.Path.{_≡_, refl, sym, ap, ap₂, _∙_}
 use mathlib.Core.Bool.{Bool, true, false, cond, not, _&&_, _||_, and-true, and-false, or-false}
-use mathlib.Core.List.{List}
 use lib.Dec.{eqb}
 use Rattle.truth.specs.Bools.{is-false, and-out}
 use Rattle.limits.specs.Limits.{stateSize, setSize, maxAtoms}
