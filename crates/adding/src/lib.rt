@@ -3,7 +3,7 @@
 use answer::Answer;
 use terms::Sections;
 ghost use mathlib.Core.Path.{_≡_};
-ghost use Prim.Native.Nat.{_+_, _≤_};
+ghost use Prim.Native.Nat.{_+_, _-_, _≤_};
 ghost use lib.ListN.{length};
 ghost use Rattle.limits.specs.Limits.{headerSize, maxLength};
 ghost use Rattle.jobs.specs.Add.{added};
@@ -13,6 +13,9 @@ ghost use Rattle.adding.specs.Outcome.{Outcome};
 const COUNT_AT: usize = 6;
 
 const END_AT: usize = 14;
+
+// Memory is cleared before the new book is formed in it. A book and a record of up to this length get less of it than the longest would need.
+const SMALL: usize = 4096;
 
 // The new book: the old one with the record after it, record count and end renewed.
 fn form(new: &mut [u8], book: &[u8], bytes: &[u8])
@@ -34,9 +37,10 @@ fn room_behind(book: &[u8]) -> usize
     limits::MAX_LENGTH - book.len()
 }
 
-// The job, by way of memory in which the new book is formed. Behind a good old book only the record count and the record itself can be refused.
+// The job, by way of memory in which the new book is formed: it is long enough for the new book, or for the longest. Behind a good old book only the
+// record count and the record itself can be refused.
 fn add_by(new: &mut [u8], book: &[u8], short: bool, bytes: &[u8], out: &mut [u8]) -> Answer
-    requires { ⌜ maxLength ≤ length (now new) ⌝ }
+    requires { ⌜ (length (now book) + length (now bytes)) - ((length (now book) + length (now bytes)) - maxLength) ≤ length (now new) ⌝ }
     ensures { λ r. ⌜ Outcome short (now (book .entry)) (now (bytes .entry)) (now (out .entry)) (now (out .exit)) r ⌝ }
 {
     let old = lookover::look_over(book, short);
@@ -67,6 +71,12 @@ fn add_by(new: &mut [u8], book: &[u8], short: bool, bytes: &[u8], out: &mut [u8]
 pub fn add(book: &[u8], short: bool, bytes: &[u8], out: &mut [u8]) -> Answer
     ensures { λ r. ⌜ Outcome short (now (book .entry)) (now (bytes .entry)) (now (out .entry)) (now (out .exit)) r ⌝ }
 {
+    if book.len() <= SMALL {
+        if bytes.len() <= SMALL {
+            let mut new = [0u8; 2 * SMALL];
+            return add_by(&mut new, book, short, bytes, out);
+        }
+    }
     let mut new = [0u8; limits::MAX_LENGTH];
     add_by(&mut new, book, short, bytes, out)
 }
