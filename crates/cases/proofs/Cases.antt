@@ -20,7 +20,7 @@ use Rattle.format.specs.Lists.{factsAt, listAt, listEnd}
 use Rattle.format.specs.Decode.{recordedStep, recordedStepsAt, stepsOfRecord, stepsOfRecords, recordedSteps}
 use Rattle.format.specs.Order.{objectCount, startCount, goalCount, stepCount, startAt, goalAt, stepsAt, orderCountsBad, orderOffsetsBad, orderHeader, orderObjects, orderObject, startsForm, entryBad, entries, planStepBad, planStep, fromGoal, fromStart, orderForm, startsFrom, starts, entryAt, goalFrom, goal, planFrom, plan}
 use Rattle.mask.specs.Sets.{maskOf}
-use Rattle.model.specs.Quantify.{same, below, any, has, later, first, least}
+use Rattle.quantify.specs.Quantify.{same, below, any, has, later, first, least}
 use Rattle.model.specs.Model.{image, inapplicable, next, run}
 use Rattle.model.specs.Judge.{wrong}
 use Rattle.model.specs.Learned.{saw, before, after, turned, learnedRules, modelOf, learned, unboundEffect, conflicting}

@@ -28,12 +28,12 @@ use Rattle.answer.specs.Bounds.{Bounded, bounded-good, bounded-then, bounded-ro
 use Rattle.format.proofs.Records.{head-limits, step-reach, steps-parted, record-good}
 use Rattle.format.proofs.LookOver.{look-over-good}
 use Rattle.lookover.proofs.Laws.{look-over-bounded}
-use Rattle.model.specs.Quantify.{Mem, here, there, first, least}
+use Rattle.quantify.specs.Quantify.{Mem, here, there, first, least}
 use Rattle.model.specs.Domain.{State, GroundAction, Transition, GoalLiteral}
 use Rattle.model.specs.Model.{Run, stopped, ended}
 use Rattle.model.specs.Judge.{wrong}
 use Rattle.model.specs.Learned.{conflicting}
-use Rattle.model.proofs.Quantify.{first-most, least-law}
+use Rattle.quantify.proofs.Quantify.{first-most, least-law}
 use Rattle.model.proofs.Lockstep.{run-within}
 use Rattle.jobs.specs.Planning.{domain, schemaOf, stepsOfBook, transitionsOf, startStates, goalOf, planOf}
 use Rattle.jobs.specs.Learn.{unboundEffects, conflictAnswer, conflictingMove, inconsistency, learnable, learn}
@@ -62,7 +62,7 @@ conflicting-bounded : (sch : Schema) (ts : List Transition) → sch .moves ≤ m
 unfolding conflictingMove conflictAnswer Bounded
 conflicting-bounded sch ts few = go (least (sch .moves) (conflicting (domain sch) ts)) (least-law (conflicting (domain sch) ts) (sch .moves))
   where
-    go : (k : ℕ) → Rattle.model.proofs.Quantify.Least (conflicting (domain sch) ts) (sch .moves) k → Bounded maxLength (conflictAnswer k)
+    go : (k : ℕ) → Rattle.quantify.proofs.Quantify.Least (conflicting (domain sch) ts) (sch .moves) k → Bounded maxLength (conflictAnswer k)
     go zero law = omega arith
     go (suc a) law = (omega arith, omega (arith, law .0))
 

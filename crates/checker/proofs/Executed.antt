@@ -18,7 +18,7 @@ use Rattle.limits.specs.Limits.{maxObjects, stepSize, ruleSize}
 use Rattle.format.specs.Form.{Form}
 use Rattle.format.specs.LookOver.{lookOver}
 use Rattle.format.specs.Order.{GoalEntry, startCount, stepCount, startAt, stepsAt, orderForm, starts, goal, plan, planFrom}
-use Rattle.model.specs.Quantify.{Mem, here, there}
+use Rattle.quantify.specs.Quantify.{Mem, here, there}
 use Rattle.model.specs.Learned.{Rules, modelOf, learned}
 use Rattle.model.proofs.Impossible.{learned-consistent}
 use Rattle.jobs.specs.Planning.{domain, holding, schemaOf, transitionsOf, groundAction, goalEntry, startStates, planOf, goalOf}
@@ -30,7 +30,7 @@ use Rattle.wellformed.proofs.Formed.{formed}
 use Rattle.terms.proofs.Atoms.{atom-below}
 use Rattle.wellformed.proofs.Atoms.{ground-below}
 use Rattle.wellformed.proofs.Suits.{object-most, move-known, argument-right}
-use Rattle.wellformed.proofs.Lists.{mem-map-in}
+use Rattle.quantify.proofs.Mapped.{mem-map-in}
 use Rattle.wellformed.proofs.Orders.{order-right, start-under}
 use Rattle.wellformed.specs.Right.{RightStep, orderTyped, RightOrder}
 use Rattle.wellformed.proofs.Learnable.{inconsistentIn, learnable-inconsistent}

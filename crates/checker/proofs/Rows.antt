@@ -22,7 +22,7 @@ use Rattle.terms.specs.Schema.{schema}
 use Rattle.format.specs.Form.{Form}
 use Rattle.format.specs.LookOver.{lookOver}
 use Rattle.format.specs.Order.{startCount, startAt, stepCount, stepsAt, orderForm, starts}
-use Rattle.model.specs.Quantify.{here}
+use Rattle.quantify.specs.Quantify.{here}
 use Rattle.jobs.specs.Planning.{schemaOf, holding, startStates}
 use Rattle.output.specs.Written.{written}
 use Rattle.output.proofs.Written.{front-written}

@@ -9,7 +9,7 @@ use lib.Seq.{drop-cons}
 use borrow.Author.Tests.{ne-eqb}
 use Rattle.answer.specs.declared.Answer.the-variants.{Refused}
 use Rattle.mask.specs.Sets.{intersection, union, difference}
-use Rattle.model.specs.Quantify.{any}
+use Rattle.quantify.specs.Quantify.{any}
 use Rattle.jobs.specs.Learn.{conflictAnswer}
 use Rattle.observed.specs.Observed.{alwaysAfter, everAfter, added, deleted, observedSet}
 use Rattle.observed.specs.Rules.{unboundAnswer, conflictObserved, inUse, conflictSet}

@@ -4,7 +4,7 @@ ghost use mathlib.Core.Path.{_≡_};
 ghost use Prim.Native.Nat.{_≤_};
 ghost use lib.ListN.{length};
 ghost use Rattle.limits.specs.Limits.{observedSize, maxMoves};
-ghost use Rattle.model.specs.Quantify.{least};
+ghost use Rattle.quantify.specs.Quantify.{least};
 ghost use Rattle.observed.specs.Rules.{unboundAnswer, conflictObserved, conflictAmong, inUse, conflictSet};
 ghost use Rattle.observed.specs.Observed.{MoveObserved};
 use answer::Answer;

@@ -13,7 +13,7 @@ use Rattle.format.specs.Form.{Form, mostListed, stateAfter}
 use Rattle.format.specs.Lists.{listAt}
 use Rattle.format.specs.Decode.{RecordedStep}
 use Rattle.jobs.specs.Convert.{listed}
-use Rattle.model.specs.Quantify.{Mem}
+use Rattle.quantify.specs.Quantify.{Mem}
 use Rattle.wellformed.specs.Right.{Increasing, RightState}
 use Rattle.wellformed.proofs.Toggled.{toggled-increasing, toggled-back, toggled-length-bound, toggled-suits}
 

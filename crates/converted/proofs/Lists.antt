@@ -15,7 +15,7 @@ use Rattle.limits.specs.Limits.{countSize, factSize}
 use Rattle.format.specs.Filed.{asWritten}
 use Rattle.format.specs.States.{cut, countBad, factRefused, facts, list}
 use Rattle.jobs.specs.Convert.{factsBytes, listBytes}
-use Rattle.model.specs.Quantify.{Mem, here, there}
+use Rattle.quantify.specs.Quantify.{Mem, here, there}
 use Rattle.wellformed.specs.Right.{Increasing}
 use Rattle.converted.proofs.Stands.{Stands}
 use Rattle.converted.proofs.Rendered.{fact-read, facts-behind, length-listBytes, count-read, facts-stand}

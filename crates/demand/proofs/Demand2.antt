@@ -16,7 +16,7 @@ use Rattle.terms.specs.Steps.{isAtom}
 use Rattle.format.specs.Form.{Form}
 use Rattle.format.specs.Decode.{RecordedStep}
 use Rattle.format.specs.LookOver.{lookOver}
-use Rattle.model.specs.Quantify.{Mem}
+use Rattle.quantify.specs.Quantify.{Mem}
 use Rattle.model.specs.Learned.{learnedRules, modelOf, learned}
 use Rattle.model.proofs.Seen.{before-in, before-out, turned-in, turned-out, need-in, need-out, effect-in, effect-out}
 use Rattle.model.proofs.Bounds.{precondition-iff-some, effect-iff-every}

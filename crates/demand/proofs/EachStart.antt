@@ -25,7 +25,7 @@ use Rattle.format.specs.Lists.{listAt, listEnd}
 use Rattle.format.specs.Order.{objectCount, startCount, stepCount, startAt, goalAt, orderObjects, orderForm, startsFrom, starts, goal, plan}
 use Rattle.format.proofs.States.{list-good, list-ends}
 use Rattle.format.proofs.OrderForm.{OrderGood, order-good}
-use Rattle.model.specs.Quantify.{Mem, here, there, first}
+use Rattle.quantify.specs.Quantify.{Mem, here, there, first}
 use Rattle.model.specs.Domain.{State, GoalLiteral}
 use Rattle.model.specs.Model.{Run, stopped, ended}
 use Rattle.model.specs.Judge.{wrong}

@@ -23,7 +23,7 @@ use Rattle.format.specs.Form.{Form}
 use Rattle.format.specs.LookOver.{lookOver}
 use Rattle.format.specs.Lists.{listAt}
 use Rattle.format.specs.Order.{stepCount, startAt, orderForm, startsFrom, starts, plan}
-use Rattle.model.specs.Quantify.{Mem, here, first}
+use Rattle.quantify.specs.Quantify.{Mem, here, first}
 use Rattle.model.specs.Domain.{State, GroundAction, GoalLiteral}
 use Rattle.model.specs.Model.{Run, stopped, ended}
 use Rattle.model.specs.Judge.{wrong}
@@ -35,7 +35,7 @@ use Rattle.wellformed.specs.Right.{RightOrder}
 use Rattle.wellformed.specs.Grounding.{factOf}
 use Rattle.wellformed.proofs.Headers.{right-schema}
 use Rattle.wellformed.proofs.Formed.{formed}
-use Rattle.wellformed.proofs.Lists.{mem-map-out}
+use Rattle.quantify.proofs.Mapped.{mem-map-out}
 use Rattle.wellformed.proofs.Holding.{holding-out}
 use Rattle.wellformed.proofs.Atoms.{ground-number, fact-right}
 use Rattle.wellformed.proofs.Orders.{order-right}

@@ -12,7 +12,7 @@ use Rattle.answer.specs.declared.Positioned.{Positioned}
 use Rattle.answer.specs.Answer.{number, place, unpositioned}
 use Rattle.format.specs.Form.{Form}
 use Rattle.format.specs.Order.{stepCount, orderForm}
-use Rattle.model.specs.Quantify.{Mem, here, there}
+use Rattle.quantify.specs.Quantify.{Mem, here, there}
 use Rattle.model.specs.Domain.{State}
 use Rattle.model.specs.Judge.{Verdict, impossible, stops, misses, passes}
 use Rattle.jobs.specs.Planning.{schemaOf, startStates}

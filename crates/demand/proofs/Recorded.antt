@@ -5,11 +5,11 @@ use mathlib.Core.Bool.{Bool}
 use mathlib.Core.List.{List}
 use Rattle.format.specs.Form.{Form}
 use Rattle.format.specs.Decode.{RecordedStep}
-use Rattle.model.specs.Quantify.{Mem}
+use Rattle.quantify.specs.Quantify.{Mem}
 use Rattle.model.specs.Domain.{Transition}
 use Rattle.model.proofs.Seen.{Sight}
 use Rattle.jobs.specs.Planning.{groundAction, transition, schemaOf, stepsOfBook, transitionsOf}
-use Rattle.wellformed.proofs.Lists.{mem-map-out, mem-map-in}
+use Rattle.quantify.proofs.Mapped.{mem-map-out, mem-map-in}
 use Rattle.demand.specs.Demand2.{valueIn}
 
 -- a recorded step of the move, with the values of the bound fact before and after it

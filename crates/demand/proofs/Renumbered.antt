@@ -18,7 +18,7 @@ use Rattle.terms.proofs.Agree.{atoms-same}
 use Rattle.limits.specs.Limits.{maxObjects}
 use Rattle.format.specs.Form.{Form}
 use Rattle.format.specs.Decode.{RecordedStep}
-use Rattle.model.specs.Quantify.{Mem, here, there}
+use Rattle.quantify.specs.Quantify.{Mem, here, there}
 use Rattle.jobs.specs.Planning.{domain, holding, groundAction, transition, schemaOf, stepsOfBook}
 use Rattle.jobs.specs.Learn.{rulesFrom, ruleRows, ruleSheet}
 use Rattle.wellformed.proofs.Headers.{right-schema}

@@ -9,7 +9,7 @@ use Rattle.terms.specs.Agree.{SameSchema}
 use Rattle.terms.proofs.Agree.{ground-same}
 use Rattle.format.specs.Form.{Form}
 use Rattle.format.specs.Decode.{RecordedStep}
-use Rattle.model.specs.Quantify.{Mem}
+use Rattle.quantify.specs.Quantify.{Mem}
 use Rattle.model.specs.Domain.{Domain, Transition}
 use Rattle.model.specs.Learned.{learnedRules}
 use Rattle.model.specs.Alike.{Alike, SameRow}
@@ -17,7 +17,7 @@ use Rattle.model.proofs.Row.{alike-sym, rules-same}
 use Rattle.jobs.specs.Planning.{domain, holding, groundAction, transition, schemaOf, stepsOfBook, transitionsOf}
 use Rattle.jobs.specs.Learn.{rulesFrom, ruleRow, ruleSheet}
 use Rattle.wellformed.proofs.Headers.{right-schema}
-use Rattle.wellformed.proofs.Lists.{mem-map-out, mem-map-in}
+use Rattle.quantify.proofs.Mapped.{mem-map-out, mem-map-in}
 use Rattle.demand.specs.TwoBooks.{SameStep, SameSteps, rowOf, SameStepsSameRow}
 use Rattle.demand.proofs.Agree.{domain-same}
 use Rattle.jobs.proofs.Sheet.{row-part, row-same}

@@ -13,7 +13,7 @@ use Rattle.terms.specs.Steps.{isAtom, ground}
 use Rattle.format.specs.Form.{Form}
 use Rattle.format.specs.Decode.{RecordedStep}
 use Rattle.format.specs.LookOver.{lookOver}
-use Rattle.model.specs.Quantify.{Mem}
+use Rattle.quantify.specs.Quantify.{Mem}
 use Rattle.model.specs.Model.{Model}
 use Rattle.jobs.specs.Planning.{holding, schemaOf, stepsOfBook}
 use Rattle.jobs.specs.Learn.{learnable, ruleSheet, learn, learnBytes}

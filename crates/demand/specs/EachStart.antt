@@ -9,7 +9,7 @@ use Rattle.answer.specs.declared.Answer.the-variants.{Good, Refused}
 use Rattle.input.specs.Bytes.{byteAt}
 use Rattle.format.specs.Form.{Form}
 use Rattle.format.specs.Order.{objectCount, startCount, stepCount, orderForm, starts, goal, plan}
-use Rattle.model.specs.Quantify.{Mem}
+use Rattle.quantify.specs.Quantify.{Mem}
 use Rattle.jobs.specs.Planning.{schemaOf}
 use Rattle.jobs.specs.Learn.{learnable}
 use Rattle.jobs.specs.Check.{firstFailing, check, checkBytes}

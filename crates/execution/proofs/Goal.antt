@@ -12,8 +12,8 @@ use Rattle.terms.specs.Facts.{factAt, factNumber}
 use Rattle.limits.specs.Limits.{entrySize}
 use Rattle.format.specs.Order.{goalFrom, entryAt}
 use Rattle.mask.specs.Bits.{testBit}
-use Rattle.model.specs.Quantify.{same}
-use Rattle.model.proofs.Quantify.{firstFrom, first-from}
+use Rattle.quantify.specs.Quantify.{same}
+use Rattle.quantify.proofs.Quantify.{firstFrom, first-from}
 use Rattle.statemask.specs.Statemask.{misses, missed}
 
 -- ---- one entry

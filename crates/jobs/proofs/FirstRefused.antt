@@ -11,7 +11,7 @@ use Rattle.answer.specs.Answer.{firstRefused, maxNumber}
 use Rattle.answer.specs.Laws.{refuse-met, refuse-unmet}
 use Rattle.answer.specs.Bounds.{Bounded, bounded-good, bounded-row}
 use Rattle.truth.specs.Bools.{clash, decide, neither}
-use Rattle.model.specs.Quantify.{any, Mem, here, there}
+use Rattle.quantify.specs.Quantify.{any, Mem, here, there}
 
 module _ {A : Type 0} (bad : A → Bool) (num : ℕ) (placed : A → ℕ) where
   pub first-refused-here : (x : A) (xs : List A) → bad x ≡ true → firstRefused bad num placed (x ∷ xs) ≡ Refused num (placed x)

@@ -12,7 +12,7 @@ use Rattle.answer.specs.declared.Answer.the-variants.{Good}
 use Rattle.answer.specs.Answer.{isRefused, unpositioned}
 use Rattle.answer.specs.declared.Positioned.{Positioned}
 use Rattle.truth.specs.Bools.{decide}
-use Rattle.model.specs.Quantify.{Mem, here, there}
+use Rattle.quantify.specs.Quantify.{Mem, here, there}
 use Rattle.jobs.specs.Check.{firstFailing, endAfter}
 
 module _ {A : Type 0} (f : A → Answer) (steps : ℕ) where

@@ -12,7 +12,7 @@ use Rattle.limits.specs.Limits.{stateSize, endSheetSize}
 use Rattle.mask.specs.Sets.{maskOf}
 use Rattle.format.specs.Form.{Form}
 use Rattle.format.specs.Order.{stepCount, orderForm}
-use Rattle.model.specs.Quantify.{first}
+use Rattle.quantify.specs.Quantify.{first}
 use Rattle.model.specs.Domain.{State, GroundAction, GoalLiteral}
 use Rattle.model.specs.Model.{Run, stopped, ended, run}
 use Rattle.model.specs.Judge.{wrong}

@@ -13,7 +13,7 @@ use Rattle.terms.specs.Schema.{Schema}
 use Rattle.format.specs.Form.{Form}
 use Rattle.format.specs.Decode.{RecordedStep}
 use Rattle.format.specs.LookOver.{lookOver}
-use Rattle.model.specs.Quantify.{least}
+use Rattle.quantify.specs.Quantify.{least}
 use Rattle.model.specs.Domain.{Transition}
 use Rattle.model.specs.Model.{Model}
 use Rattle.model.specs.Learned.{Rules, learnedRules, learned, unboundEffect, conflicting}

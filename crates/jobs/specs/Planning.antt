@@ -12,7 +12,7 @@ use Rattle.terms.specs.Steps.{isAtom, ground}
 use Rattle.format.specs.Form.{Form}
 use Rattle.format.specs.Decode.{RecordedStep, recordedSteps}
 use Rattle.format.specs.Order.{GoalEntry, starts, goal, plan}
-use Rattle.model.specs.Quantify.{any}
+use Rattle.quantify.specs.Quantify.{any}
 use Rattle.model.specs.Domain.{Domain, State, GroundAction, Transition, GoalLiteral}
 
 -- bound facts are numbered 16 to a relation, facts 256 to a relation

@@ -13,7 +13,7 @@ use Rattle.terms.specs.declared.Fact.{Fact}
 use Rattle.terms.specs.Facts.{factAt, factBad, factNumber, precedes, noFact}
 use Rattle.terms.specs.Told.{suits, factKey}
 use Rattle.format.specs.Lists.{listEnd}
-use Rattle.model.specs.Quantify.{here, there}
+use Rattle.quantify.specs.Quantify.{here, there}
 use Rattle.observed.specs.Inverse.{sameFact}
 use Rattle.observed.proofs.Facts.{same-fact}
 use Rattle.wellformed.proofs.Numbers.{number-below}

@@ -9,7 +9,7 @@ use Rattle.mask.specs.Bits.{flipBit}
 use Rattle.terms.specs.declared.Binding.{Binding}
 use Rattle.terms.specs.declared.Fact.{Fact}
 use Rattle.terms.specs.Facts.{factNumber}
-use Rattle.model.specs.Quantify.{any}
+use Rattle.quantify.specs.Quantify.{any}
 use Rattle.observed.specs.Inverse.{turnMarks, someUnbound}
 use Rattle.turning.specs.Turning.{flipped}
 use Rattle.factlist.specs.declared.ListCursor.{ListCursor}

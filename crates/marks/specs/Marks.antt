@@ -16,7 +16,7 @@ use Rattle.input.specs.Bytes.{two}
 use Rattle.format.specs.Filed.{asWritten}
 use Rattle.format.specs.Lists.{listAt, listEnd}
 use Rattle.format.specs.States.{facts}
-use Rattle.model.specs.Quantify.{Mem}
+use Rattle.quantify.specs.Quantify.{Mem}
 use Rattle.tables.specs.Tables.{RightByPlace, ForRightByPlace}
 use Rattle.factlist.specs.declared.ListCursor.{ListCursor}
 use Rattle.factlist.specs.Rest.{rest, Ahead}

@@ -7,7 +7,7 @@ use mathlib.Core.Bool.{Bool, true, false, _&&_}
 use mathlib.Core.List.{List, [], _∷_}
 use lib.Dec.{eqb, ltb}
 use lib.ListN.{getD}
-use Rattle.model.specs.Quantify.{same, below, any, later, first}
+use Rattle.quantify.specs.Quantify.{same, below, any, later, first}
 use Rattle.model.specs.Domain.{Domain, State, GroundAction, Transition, GoalLiteral}
 use Rattle.model.specs.Model.{image, inapplicable, next, run}
 use Rattle.model.specs.Judge.{Verdict, impossible, stops, misses, passes, wrong}

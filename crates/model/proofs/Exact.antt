@@ -6,7 +6,7 @@ use mathlib.Core.Logic.{_⊎_, inl, inr, _↔_}
 use mathlib.Core.Bool.{Bool, true, false}
 use mathlib.Core.List.{List}
 use Rattle.truth.specs.Bools.{decide, is-true}
-use Rattle.model.specs.Quantify.{has, first}
+use Rattle.quantify.specs.Quantify.{has, first}
 use Rattle.model.specs.Domain.{Domain, State, GroundAction, Transition, GoalLiteral}
 use Rattle.model.specs.Model.{Model, Valid, Consistent, Run, stopped, ended, run}
 use Rattle.model.specs.Judge.{impossible, wrong, MissesAt, Judged}
@@ -15,7 +15,7 @@ use Rattle.model.specs.Check.{reached, judgedRun, checkedBy, inconsisten
 use Rattle.model.specs.Formed.{Formed, Grounded}
 use Rattle.model.specs.Exact.{Exact}
 use Rattle.model.specs.Stricter.{Stricter}
-use Rattle.model.proofs.Quantify.{First, first-law}
+use Rattle.quantify.proofs.Quantify.{First, first-law}
 use Rattle.model.proofs.Stricter.{explains, stricter}
 use Rattle.model.proofs.Lockstep.{Ahead, lockstep}
 use Rattle.model.proofs.Impossible.{learned-consistent, impossible-iff}

@@ -7,14 +7,14 @@ use mathlib.Core.List.{List}
 use lib.Dec.{leb}
 use borrow.Author.Tests.{leb-true, leb-false}
 use Rattle.truth.specs.Bools.{clash, decide, is-false, is-true}
-use Rattle.model.specs.Quantify.{Mem}
+use Rattle.quantify.specs.Quantify.{Mem}
 use Rattle.model.specs.Domain.{Domain, Transition}
 use Rattle.model.specs.Model.{Model, Valid, Fits, Consistent, image, inapplicable, next}
 use Rattle.model.specs.Learned.{learned, unboundEffect, conflicting}
 use Rattle.model.specs.Check.{inconsistent}
 use Rattle.model.specs.Formed.{Formed}
 use Rattle.model.specs.Stricter.{value}
-use Rattle.model.proofs.Truth.{same-in, same-out}
+use Rattle.quantify.proofs.Truth.{same-in, same-out}
 use Rattle.model.proofs.Next.{each-fact, next-at, next-off, inapplicable-out}
 use Rattle.model.proofs.Seen.{sight, before-in, after-in, turned-out, need-out, effect-out}
 use Rattle.model.proofs.Stricter.{Unconflicted, Explains, explains, learned-makes, model-unconflicted}

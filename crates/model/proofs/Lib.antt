@@ -1,6 +1,4 @@
 -- Theorems about the definitions of specs/.
-pub mod Truth
-pub mod Quantify
 pub mod Next
 pub mod Seen
 pub mod Stricter
@@ -9,7 +7,6 @@ pub mod Rows
 pub mod Impossible
 pub mod Judge
 pub mod Exact
-pub mod Members
 pub mod Row
 pub mod Order
 pub mod Bounds

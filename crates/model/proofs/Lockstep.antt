@@ -8,7 +8,7 @@ use mathlib.Core.Bool.{true, false, not}
 use mathlib.Core.List.{List, [], _∷_}
 use lib.ListN.{length}
 use Rattle.truth.specs.Bools.{clash, decide, is-false}
-use Rattle.model.specs.Quantify.{here, there}
+use Rattle.quantify.specs.Quantify.{here, there}
 use Rattle.model.specs.Domain.{Domain, State, GroundAction}
 use Rattle.model.specs.Model.{Model, Valid, Run, stopped, ended, image, inapplicable, next, run}
 use Rattle.model.specs.Formed.{Proper, Grounded}

@@ -10,7 +10,7 @@ use Rattle.model.specs.Domain.{Domain, State, GroundAction}
 use Rattle.model.specs.Model.{Model, Valid, image, inapplicable, next}
 use Rattle.model.specs.Formed.{Proper}
 use Rattle.model.specs.Stricter.{value}
-use Rattle.model.proofs.Quantify.{below-in, below-out}
+use Rattle.quantify.proofs.Quantify.{below-in, below-out}
 
 module _ (D : Domain) (s : GroundAction) where
   pub image-in : (q : ℕ → Bool) (n : ℕ) → n < D .atoms → q n ≡ true → image D q s (s .ground n) ≡ true

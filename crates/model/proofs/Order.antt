@@ -3,13 +3,13 @@ use Prim.Native.Nat.{ℕ, suc}
 use mathlib.Core.Path.{_≡_, ap}
 use mathlib.Core.Logic.{_↔_}
 use mathlib.Core.List.{List}
-use Rattle.model.specs.Quantify.{any}
+use Rattle.quantify.specs.Quantify.{any}
 use Rattle.model.specs.Domain.{Domain, Transition}
 use Rattle.model.specs.Model.{Model, Consistent}
 use Rattle.model.specs.Learned.{learnedRules, modelOf, learned, unboundEffect, conflicting}
 use Rattle.model.specs.Check.{inconsistent, checked}
 use Rattle.model.specs.Alike.{SameRow, SameMembers}
-use Rattle.model.proofs.Quantify.{any-alike, below-same}
+use Rattle.quantify.proofs.Quantify.{any-alike, below-same}
 use Rattle.model.proofs.Row.{rules-equal, row-of-members, rules-same, conflicting-same}
 
 module _ (D : Domain) (ts us : List Transition) (same : SameMembers ts us) where

@@ -5,11 +5,11 @@ use mathlib.Core.Logic.{_↔_}
 use mathlib.Core.Bool.{Bool, true, false, _||_, not}
 use mathlib.Core.List.{List, _++_}
 use Rattle.truth.specs.Bools.{bool-eq, guarded}
-use Rattle.model.specs.Quantify.{Mem, here, there}
+use Rattle.quantify.specs.Quantify.{Mem, here, there}
 use Rattle.model.specs.Domain.{Domain, Transition}
 use Rattle.model.specs.Learned.{Rules, saw, before, after, turned, learnedRules, conflicting}
 use Rattle.model.specs.Alike.{Alike, EachAlike, SameRow, SameRules, Renumbered, none, more}
-use Rattle.model.proofs.Quantify.{any-append, below-same}
+use Rattle.quantify.proofs.Quantify.{any-append, below-same}
 use Rattle.model.proofs.Seen.{Sight, saw-in, saw-out}
 
 -- what was seen in two lists together was seen in one of them

@@ -8,13 +8,13 @@ use mathlib.Core.List.{List}
 use lib.Dec.{ltb}
 use borrow.Author.Tests.{not-true}
 use Rattle.truth.specs.Bools.{clash, is-false, and-in, and-out, or-left, or-right, or-out, neither, not-in}
-use Rattle.model.specs.Quantify.{same, below, any, Mem, first, least}
+use Rattle.quantify.specs.Quantify.{same, below, any, Mem, first, least}
 use Rattle.model.specs.Domain.{Domain, Transition}
 use Rattle.model.specs.Model.{image}
 use Rattle.model.specs.Learned.{after, turned, unboundEffect, conflicting}
 use Rattle.model.specs.Check.{inconsistent}
-use Rattle.model.proofs.Truth.{same-in, same-out}
-use Rattle.model.proofs.Quantify.{any-in, any-out, below-in, below-out, first-none, least-none, below-least}
+use Rattle.quantify.proofs.Truth.{same-in, same-out}
+use Rattle.quantify.proofs.Quantify.{any-in, any-out, below-in, below-out, first-none, least-none, below-least}
 use Rattle.model.proofs.Stricter.{Unconflicted}
 
 module _ (D : Domain) where

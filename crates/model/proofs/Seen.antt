@@ -6,11 +6,11 @@ use mathlib.Core.List.{List}
 use lib.Dec.{eqb}
 use borrow.Author.Tests.{eqb-true, eq-eqb, not-true}
 use Rattle.truth.specs.Bools.{and-in, and-out, not-in}
-use Rattle.model.specs.Quantify.{same, Mem}
+use Rattle.quantify.specs.Quantify.{same, Mem}
 use Rattle.model.specs.Domain.{Domain, Transition}
 use Rattle.model.specs.Learned.{saw, before, after, turned, learnedRules, modelOf, learned}
-use Rattle.model.proofs.Truth.{same-in, same-out}
-use Rattle.model.proofs.Quantify.{any-in, any-out}
+use Rattle.quantify.proofs.Truth.{same-in, same-out}
+use Rattle.quantify.proofs.Quantify.{any-in, any-out}
 
 -- a transition of the action, with the values at the atom's fact before and after it
 pub record Sight (ts : List Transition) (a n : ℕ) (x y : Bool) : Type 0 where

@@ -2,7 +2,7 @@
 use Prim.Native.Nat.{ℕ, zero, suc}
 use mathlib.Core.Bool.{Bool, true, false, _||_}
 use mathlib.Core.List.{List}
-use Rattle.model.specs.Quantify.{any, below, first}
+use Rattle.quantify.specs.Quantify.{any, below, first}
 use Rattle.model.specs.Domain.{Domain, State, GroundAction, Transition, GoalLiteral}
 use Rattle.model.specs.Model.{Model, Run, stopped, ended, run}
 use Rattle.model.specs.Judge.{Verdict, impossible, stops, misses, passes, wrong}

@@ -3,7 +3,7 @@ use Prim.Native.Nat.{ℕ, _≤_}
 use mathlib.Core.Path.{_≡_}
 use mathlib.Core.Bool.{Bool, true, not}
 use mathlib.Core.List.{List}
-use Rattle.model.specs.Quantify.{same, has}
+use Rattle.quantify.specs.Quantify.{same, has}
 use Rattle.model.specs.Domain.{Domain, State, GroundAction, GoalLiteral}
 use Rattle.model.specs.Model.{Model, stopped, ended, run}
 

@@ -3,7 +3,7 @@ use Prim.Native.Nat.{ℕ}
 use mathlib.Core.Bool.{Bool, true, false, _&&_, _||_, not}
 use mathlib.Core.List.{List}
 use lib.Dec.{eqb}
-use Rattle.model.specs.Quantify.{same, below, any}
+use Rattle.quantify.specs.Quantify.{same, below, any}
 use Rattle.model.specs.Domain.{Domain, Transition}
 use Rattle.model.specs.Model.{Model, image}
 

@@ -1,5 +1,4 @@
 -- Planning over numbered facts, with no bytes: what a model is, what the judge says, what is learned, how a plan is checked.
-pub mod Quantify
 pub mod Domain
 pub mod Model
 pub mod Judge

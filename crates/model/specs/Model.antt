@@ -4,7 +4,7 @@ use mathlib.Core.Path.{_≡_}
 use mathlib.Core.Bool.{Bool, true, false, _&&_, _||_, not}
 use mathlib.Core.List.{List, [], _∷_}
 use lib.Dec.{eqb}
-use Rattle.model.specs.Quantify.{below, Mem}
+use Rattle.quantify.specs.Quantify.{below, Mem}
 use Rattle.model.specs.Domain.{Domain, State, GroundAction, Transition}
 
 -- Four sets of lifted atoms for each action. `precondition true`: needed to hold; `precondition false`: needed not to hold;

@@ -15,10 +15,10 @@ use Rattle.mask.proofs.Whole.{length-maskOf, bytes-maskOf, test-maskOf, is-mask
 use Rattle.terms.specs.Schema.{Schema}
 use Rattle.terms.specs.Steps.{isAtom}
 use Rattle.terms.proofs.Atoms.{atom-below}
-use Rattle.model.specs.Quantify.{any, below}
+use Rattle.quantify.specs.Quantify.{any, below}
 use Rattle.model.specs.Domain.{Transition}
 use Rattle.model.specs.Learned.{after, turned, conflicting}
-use Rattle.model.proofs.Quantify.{below-in, below-out, below-cong, below-wide, least-same}
+use Rattle.quantify.proofs.Quantify.{below-in, below-out, below-cong, below-wide, least-same}
 use Rattle.jobs.specs.Planning.{domain}
 use Rattle.jobs.specs.Learn.{conflictAnswer, conflictingMove}
 use Rattle.observed.specs.Observed.{alwaysAfter, everAfter, added, deleted, setAt, observedSet}

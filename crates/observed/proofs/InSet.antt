@@ -5,10 +5,10 @@ use mathlib.Core.Bool.{Bool, true, false, _&&_, _||_, not, or-false, and-comm}
 use mathlib.Core.List.{List, [], _∷_, _++_}
 use lib.Dec.{eqb}
 use borrow.Author.Tests.{eq-eqb, ne-eqb}
-use Rattle.model.specs.Quantify.{same, any}
+use Rattle.quantify.specs.Quantify.{same, any}
 use Rattle.model.specs.Domain.{Transition}
 use Rattle.model.specs.Learned.{saw, before, after, turned}
-use Rattle.model.proofs.Truth.{same-true, same-false}
+use Rattle.quantify.proofs.Truth.{same-true, same-false}
 use Rattle.model.proofs.Row.{saw-append}
 use Rattle.observed.specs.Seen.{inSet}
 use Rattle.observed.proofs.Noted.{changed}

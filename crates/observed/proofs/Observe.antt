@@ -17,7 +17,7 @@ use Rattle.terms.specs.declared.Fact.{Fact}
 use Rattle.terms.specs.Schema.{Schema}
 use Rattle.terms.specs.Steps.{isAtom}
 use Rattle.format.specs.Decode.{RecordedStep}
-use Rattle.model.specs.Quantify.{any, Mem, here, there}
+use Rattle.quantify.specs.Quantify.{any, Mem, here, there}
 use Rattle.model.specs.Domain.{Transition}
 use Rattle.model.specs.Learned.{saw, before, after, turned}
 use Rattle.jobs.specs.Planning.{groundAction, transition}

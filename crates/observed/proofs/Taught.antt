@@ -5,7 +5,7 @@ use mathlib.Core.Path.{_≡_, refl}
 use mathlib.Core.List.{List, [], map}
 use Rattle.terms.specs.Schema.{Schema}
 use Rattle.format.specs.Decode.{RecordedStep}
-use Rattle.model.specs.Quantify.{Mem}
+use Rattle.quantify.specs.Quantify.{Mem}
 use Rattle.jobs.specs.Planning.{transition}
 use Rattle.observed.specs.Observed.{observeAll, nothingSeen}
 use Rattle.observed.specs.Faithful.{Faithful}

@@ -11,7 +11,7 @@ use Rattle.truth.specs.Bools.{decide}
 use Rattle.limits.specs.Limits.{maxMoves}
 use Rattle.terms.specs.Schema.{Schema}
 use Rattle.format.specs.Decode.{RecordedStep}
-use Rattle.model.specs.Quantify.{any, Mem, here, there}
+use Rattle.quantify.specs.Quantify.{any, Mem, here, there}
 use Rattle.model.specs.Domain.{Transition}
 use Rattle.model.specs.Learned.{unboundEffect}
 use Rattle.jobs.specs.Planning.{domain, transition}

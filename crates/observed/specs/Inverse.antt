@@ -12,7 +12,7 @@ use Rattle.terms.specs.declared.Binding.{Binding}
 use Rattle.terms.specs.declared.Fact.{Fact}
 use Rattle.terms.specs.Facts.{precedes}
 use Rattle.terms.specs.Steps.{objectOf}
-use Rattle.model.specs.Quantify.{any}
+use Rattle.quantify.specs.Quantify.{any}
 
 -- the binding gives parameter i the object
 unfoldable pub gives : Binding → ℕ → Object → Bool

@@ -6,7 +6,7 @@ use lib.Dec.{eqb}
 use Rattle.answer.specs.declared.Answer.{Answer}
 use Rattle.answer.specs.declared.Answer.the-variants.{Good, Refused}
 use Rattle.mask.specs.Sets.{intersection, union, difference}
-use Rattle.model.specs.Quantify.{any, least}
+use Rattle.quantify.specs.Quantify.{any, least}
 use Rattle.jobs.specs.Learn.{conflictAnswer}
 use Rattle.jobs.specs.SheetBits.{neededSet, neededNotSet, addedSet, removedSet}
 use Rattle.observed.specs.Observed.{alwaysBefore, everBefore, alwaysAfter, everAfter, added, deleted, bound, observedSet}

@@ -10,7 +10,7 @@ use Rattle.format.specs.Form.{Form, stateAfter}
 use Rattle.format.specs.LookOver.{lookOver}
 use Rattle.format.specs.Lists.{listEnd}
 use Rattle.format.specs.Decode.{RecordedStep, firstAt, recordedStepsAt, stepsOfRecord, recordedStep}
-use Rattle.model.specs.Quantify.{Mem, here, there}
+use Rattle.quantify.specs.Quantify.{Mem, here, there}
 use Rattle.jobs.specs.Planning.{schemaOf, stepsOfBook}
 use Rattle.observed.specs.Observed.{observeAll, nothingSeen}
 use Rattle.observed.specs.Faithful.{Faithful}

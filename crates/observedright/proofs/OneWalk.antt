@@ -29,8 +29,8 @@ use Rattle.format.specs.Parts.{recordPart, sectionsPart}
 use Rattle.format.proofs.Records.{head-limits, step-reach, steps-parted, record-good}
 use Rattle.format.proofs.LookOver.{LookedOver, look-over-good}
 use Rattle.format.proofs.Parts.{parts-joined}
-use Rattle.model.specs.Quantify.{Mem, here, there}
-use Rattle.model.proofs.Members.{mem-left}
+use Rattle.quantify.specs.Quantify.{Mem, here, there}
+use Rattle.quantify.proofs.Members.{mem-left}
 use Rattle.jobs.specs.Planning.{schemaOf, stepsOfBook, transitionsOf}
 use Rattle.jobs.specs.Learn.{conflictingMove, inconsistency, ruleSheet, rulesFrom}
 use Rattle.observed.specs.Observed.{Observed, observe, observeBy, firstNamed, observeAll, observedAfter, nothingSeen, heldAfter, observedOf}

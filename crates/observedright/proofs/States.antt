@@ -15,7 +15,7 @@ use Rattle.terms.specs.Schema.{Schema, TypedObjects}
 use Rattle.terms.specs.Facts.{factBad}
 use Rattle.terms.specs.Steps.{isAtom, ground}
 use Rattle.limits.specs.Limits.{maxObjects}
-use Rattle.model.specs.Quantify.{any, Mem, here, there}
+use Rattle.quantify.specs.Quantify.{any, Mem, here, there}
 use Rattle.jobs.specs.Planning.{holding}
 use Rattle.observed.specs.Inverse.{factBound, atomOf, mark, marks, atomsIn}
 use Rattle.observed.specs.Faithful.{Found}

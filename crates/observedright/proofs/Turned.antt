@@ -22,8 +22,8 @@ use Rattle.terms.specs.Steps.{isAtom, ground}
 use Rattle.terms.proofs.Atoms.{atom-below}
 use Rattle.limits.specs.Limits.{maxRelations, maxObjects, setSize, stateSize}
 use Rattle.format.specs.Toggled.{toggle, toggled}
-use Rattle.model.specs.Quantify.{Mem, here, there, any}
-use Rattle.model.proofs.Quantify.{any-in, any-out}
+use Rattle.quantify.specs.Quantify.{Mem, here, there, any}
+use Rattle.quantify.proofs.Quantify.{any-in, any-out}
 use Rattle.jobs.specs.Planning.{holding}
 use Rattle.atoms.specs.Atoms.{atomSet}
 use Rattle.observed.specs.Inverse.{factBound, atomOf, atomsIn, unboundChanged, turnMark, turnMarks, someUnbound}

@@ -9,7 +9,7 @@ use Rattle.terms.specs.declared.Binding.{Binding}
 use Rattle.terms.specs.declared.Fact.{Fact}
 use Rattle.terms.specs.Facts.{precedes, noFact}
 use Rattle.format.specs.Toggled.{toggled}
-use Rattle.model.specs.Quantify.{Mem, here, there}
+use Rattle.quantify.specs.Quantify.{Mem, here, there}
 use Rattle.observed.specs.Inverse.{factBound, unbound, alone, inOneAlone, someFact, unboundChanged}
 use Rattle.observed.proofs.Facts.{alone-before, alone-after, alone-both}
 use Rattle.wellformed.specs.Right.{Increasing}

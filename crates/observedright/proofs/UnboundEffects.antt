@@ -16,10 +16,10 @@ use Rattle.terms.specs.Steps.{isAtom, ground}
 use Rattle.terms.proofs.Atoms.{atom-below}
 use Rattle.limits.specs.Limits.{maxRelations, maxObjects}
 use Rattle.format.specs.Decode.{RecordedStep}
-use Rattle.model.specs.Quantify.{below, Mem}
+use Rattle.quantify.specs.Quantify.{below, Mem}
 use Rattle.model.specs.Model.{image}
 use Rattle.model.specs.Learned.{unboundEffect}
-use Rattle.model.proofs.Quantify.{below-in, below-out}
+use Rattle.quantify.proofs.Quantify.{below-in, below-out}
 use Rattle.model.proofs.Rows as rows
 use Rattle.jobs.specs.Planning.{domain, holding, groundAction, transition}
 use Rattle.atoms.specs.Atoms.{atomSet}

@@ -27,7 +27,7 @@ use Rattle.format.specs.Toggled.{toggled}
 use Rattle.format.specs.Form.{Form, full, mostListed, stateAfter}
 use Rattle.format.specs.States.{list}
 use Rattle.format.specs.Decode.{recordedStep}
-use Rattle.model.specs.Quantify.{Mem}
+use Rattle.quantify.specs.Quantify.{Mem}
 use Rattle.atoms.specs.Atoms.{atomSet, atomsEnd}
 use Rattle.grounding.specs.Grounding.{Bounded, heldAtoms}
 use Rattle.tables.specs.Tables.{RightByPlace}

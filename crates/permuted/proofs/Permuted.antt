@@ -11,8 +11,8 @@ use Rattle.format.specs.LookOver.{lookOver}
 use Rattle.format.specs.Decode.{RecordedStep, recordedSteps}
 use Rattle.format.specs.Parts.{recordsOf}
 use Rattle.format.proofs.LookOver.{LookedOver, look-over-good}
-use Rattle.model.specs.Quantify.{Mem}
-use Rattle.model.proofs.Members.{flat-alike}
+use Rattle.quantify.specs.Quantify.{Mem}
+use Rattle.quantify.proofs.Members.{flat-alike}
 use Rattle.jobs.specs.Planning.{stepsOfBook}
 use Rattle.converted.specs.Converted.{unplaced}
 use Rattle.twins.specs.Twins.{SameTransitions}

@@ -28,7 +28,7 @@ use Rattle.format.proofs.Copies.{record-copied}
 use Rattle.format.proofs.Front.{sections-same}
 use Rattle.format.proofs.LookOver.{LookedOver, look-over-good, look-over-in}
 use Rattle.format.proofs.Parts.{record-length, part-alone, parts-joined, byte-before}
-use Rattle.model.specs.Quantify.{Mem, here, there}
+use Rattle.quantify.specs.Quantify.{Mem, here, there}
 use Rattle.jobs.specs.Planning.{schemaOf}
 use Rattle.wellformed.proofs.Parts.{RecordOf, each-record}
 use Rattle.permuted.specs.Permuted.{Permutation, refiled, RefiledGood}

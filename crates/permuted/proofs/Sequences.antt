@@ -5,7 +5,7 @@ use mathlib.Core.Path.{_≡_, refl, ap, _∙_, subst}
 use mathlib.Core.Logic.{_↔_}
 use mathlib.Core.List.{List, [], _∷_, flatten, List·Permᴰ, List·Permᴰ·nil, List·Permᴰ·cons, List·Permᴰ·swap, List·Permᴰ·trans, Permᴰ·symm}
 use lib.ListN.{length, length-append}
-use Rattle.model.specs.Quantify.{Mem, here, there}
+use Rattle.quantify.specs.Quantify.{Mem, here, there}
 
 module _ {A : Type 0} where
   member-over : {x : A} {xs ys : List A} → List·Permᴰ xs ys → Mem x xs → Mem x ys

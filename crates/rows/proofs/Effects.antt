@@ -17,8 +17,8 @@ use Rattle.mask.proofs.Numbers.{bit-number, number-lt}
 use Rattle.mask.proofs.Bytes.{bytes-stored}
 use Rattle.mask.proofs.Whole.{length-maskOf, test-maskOf, is-maskOf, maskOf-same}
 use Rattle.atoms.proofs.Words.{bit-high, number-same}
-use Rattle.model.specs.Quantify.{below}
-use Rattle.model.proofs.Quantify.{below-in, below-out}
+use Rattle.quantify.specs.Quantify.{below}
+use Rattle.quantify.proofs.Quantify.{below-in, below-out}
 use Rattle.rows.specs.declared.Placement.{Placement}
 use Rattle.rows.specs.Rows.{Indices, rowOf, facts, columnSet, changed, putAt, inRow, inWord}
 use Rattle.rows.proofs.Words.{number-and, number-or, number-not, number-bits, bit-from, bit-low, Part, part-low, part-field}

@@ -13,8 +13,8 @@ use Rattle.truth.specs.Bools.{clash, is-false, neither, and-in}
 use Rattle.mask.specs.Bits.{bitOf, testBit}
 use Rattle.mask.specs.Sets.{number}
 use Rattle.mask.proofs.Numbers.{bit-and, bit-or, bit-none, bit-number}
-use Rattle.model.specs.Quantify.{below}
-use Rattle.model.proofs.Quantify.{below-in, below-out, below-cong, below-same}
+use Rattle.quantify.specs.Quantify.{below}
+use Rattle.quantify.proofs.Quantify.{below-in, below-out, below-cong, below-same}
 use Rattle.rows.specs.declared.Placement.{Placement}
 use Rattle.rows.specs.Rows.{Indices, rowOf, facts, columnSet, Clear, rowUnmet, wordUnmet}
 use Rattle.rows.proofs.Words.{number-and, number-or, number-not, number-some, number-bits, number-from, Part, part-low, part-field}

@@ -15,8 +15,8 @@ use Rattle.truth.specs.Bools.{clash, is-false, bool-eq, and-in, and-out}
 use Rattle.mask.specs.Bits.{bitOf}
 use Rattle.mask.specs.Sets.{number}
 use Rattle.mask.proofs.Numbers.{bit-or, bit-power, bit-none, bits-ext, number-lt}
-use Rattle.model.specs.Quantify.{below}
-use Rattle.model.proofs.Quantify.{below-in, below-out, below-same}
+use Rattle.quantify.specs.Quantify.{below}
+use Rattle.quantify.proofs.Quantify.{below-in, below-out, below-same}
 use Rattle.rows.specs.Rows.{StartsRelation, Indices, unused, inPlace, columnSet, Tabled, Tables, tableAt, rowsFrom, placementOf, Within}
 use Rattle.atoms.proofs.Words.{number-same}
 use Rattle.rows.proofs.Words.{number-or, bit-from}

@@ -7,8 +7,8 @@ use mathlib.Core.Bool.{Bool, _&&_, _||_, or-false, or-assoc}
 use lib.Dec.{eqb}
 use borrow.Author.Tests.{eq-eqb, eqb-true}
 use Rattle.truth.specs.Bools.{bool-eq, and-in, and-out, or-left, or-right, or-out}
-use Rattle.model.specs.Quantify.{below}
-use Rattle.model.proofs.Quantify.{below-in, below-out, below-same}
+use Rattle.quantify.specs.Quantify.{below}
+use Rattle.quantify.proofs.Quantify.{below-in, below-out, below-same}
 
 -- the numbers below n + k are those below n, and k more from n on
 pub below-join : (n k : ℕ) (p : ℕ → Bool) → below (n + k) p ≡ (below n p || below k (λ j. p (n + j)))

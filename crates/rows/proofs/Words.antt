@@ -16,8 +16,8 @@ use Rattle.mask.specs.Sets.{digit, number}
 use Rattle.mask.proofs.Numbers.{bit-and, bit-or, bit-none, bits-ext, number-lt, bit-number}
 use Rattle.mask.proofs.Whole.{test-at}
 use Rattle.atoms.proofs.Words.{bit-high, number-low, number-same}
-use Rattle.model.specs.Quantify.{below}
-use Rattle.model.proofs.Quantify.{below-in, below-out}
+use Rattle.quantify.specs.Quantify.{below}
+use Rattle.quantify.proofs.Quantify.{below-in, below-out}
 
 -- ---- digits
 digit-not : (b : Bool) → digit b + digit (not b) ≡ 1

@@ -8,7 +8,7 @@ use lib.ListN.{getD}
 use Rattle.limits.specs.Limits.{maxObjects, maxParams, maxAtoms, atomsPerRelation, stateSize}
 use Rattle.mask.specs.Bits.{bitOf, testBit}
 use Rattle.mask.specs.Sets.{number, maskOf}
-use Rattle.model.specs.Quantify.{below}
+use Rattle.quantify.specs.Quantify.{below}
 use Rattle.rows.specs.declared.Placement.{Placement}
 
 -- the first bound fact of a relation

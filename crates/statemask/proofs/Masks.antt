@@ -14,10 +14,10 @@ use Rattle.mask.specs.Bits.{testBit, putBit}
 use Rattle.mask.specs.Sets.{maskOf}
 use Rattle.mask.proofs.Bytes.{test-past}
 use Rattle.mask.proofs.Whole.{length-maskOf, test-maskOf, maskOf-same, empty-maskOf, setBit-maskOf, putBit-maskOf}
-use Rattle.model.specs.Quantify.{any, below, Mem}
+use Rattle.quantify.specs.Quantify.{any, below, Mem}
 use Rattle.model.specs.Domain.{State}
 use Rattle.truth.specs.Bools.{is-false}
-use Rattle.model.proofs.Quantify.{any-out}
+use Rattle.quantify.proofs.Quantify.{any-out}
 use Rattle.jobs.specs.Planning.{holding}
 use Rattle.statemask.specs.Statemask.{withFacts, startMask, effects}
 use Rattle.statemask.specs.Executing.{Under}

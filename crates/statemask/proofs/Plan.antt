@@ -13,11 +13,11 @@ use Rattle.terms.specs.Schema.{Schema}
 use Rattle.terms.specs.Facts.{factNumber}
 use Rattle.format.specs.Order.{GoalEntry}
 use Rattle.mask.specs.Sets.{maskOf}
-use Rattle.model.specs.Quantify.{same, first, here, there}
+use Rattle.quantify.specs.Quantify.{same, first, here, there}
 use Rattle.model.specs.Domain.{Domain, State, GroundAction}
 use Rattle.model.specs.Model.{Model, Valid, Run, stopped, ended, inapplicable, next, run}
 use Rattle.model.specs.Judge.{wrong}
-use Rattle.model.proofs.Quantify.{first-map}
+use Rattle.quantify.proofs.Quantify.{first-map}
 use Rattle.model.proofs.Lockstep.{run-stop, run-go}
 use Rattle.jobs.specs.Planning.{holding, groundAction, goalEntry}
 use Rattle.jobs.specs.Check.{runAnswer, endSheet}

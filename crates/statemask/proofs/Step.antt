@@ -11,7 +11,7 @@ use Rattle.mask.specs.Sets.{maskOf}
 use Rattle.mask.proofs.Whole.{test-maskOf, maskOf-same}
 use Rattle.model.specs.Domain.{Domain, State, GroundAction}
 use Rattle.model.specs.Model.{Model, Valid, image, inapplicable, next}
-use Rattle.model.proofs.Quantify.{below-cong, below-wide}
+use Rattle.quantify.proofs.Quantify.{below-cong, below-wide}
 use Rattle.model.proofs.Next.{image-out}
 use Rattle.statemask.specs.Statemask.{MoveRules, unmet, inapplicableIn, effects, nextIn}
 use Rattle.statemask.specs.Executing.{Under, Ruled, InMask}

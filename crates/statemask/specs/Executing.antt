@@ -10,7 +10,7 @@ use Rattle.terms.specs.declared.Step.{Step}
 use Rattle.terms.specs.Schema.{Schema}
 use Rattle.format.specs.Order.{GoalEntry}
 use Rattle.mask.specs.Sets.{maskOf}
-use Rattle.model.specs.Quantify.{Mem}
+use Rattle.quantify.specs.Quantify.{Mem}
 use Rattle.model.specs.Domain.{Domain, State, GroundAction}
 use Rattle.model.specs.Model.{Model, Valid, Run, stopped, ended}
 use Rattle.jobs.specs.Planning.{groundAction}

@@ -13,7 +13,7 @@ use Rattle.terms.specs.Schema.{Schema}
 use Rattle.terms.specs.Facts.{factNumber}
 use Rattle.terms.specs.Steps.{ground}
 use Rattle.format.specs.Order.{GoalEntry}
-use Rattle.model.specs.Quantify.{same, below, first}
+use Rattle.quantify.specs.Quantify.{same, below, first}
 
 -- the rules that a step of a move goes by, four sets of its bound facts: needed to hold, needed not to hold, added, removed
 pub record MoveRules : Type 0 where

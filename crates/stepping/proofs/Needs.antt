@@ -9,8 +9,8 @@ use Rattle.truth.specs.Bools.{neither-in}
 use Rattle.mask.specs.Bits.{bitOf, testBit}
 use Rattle.mask.specs.Sets.{number}
 use Rattle.mask.proofs.Numbers.{bit-number}
-use Rattle.model.specs.Quantify.{below}
-use Rattle.model.proofs.Quantify.{below-in, below-out, below-cong}
+use Rattle.quantify.specs.Quantify.{below}
+use Rattle.quantify.proofs.Quantify.{below-in, below-out, below-cong}
 use Rattle.terms.specs.declared.Step.{Step}
 use Rattle.terms.specs.Schema.{Schema}
 use Rattle.terms.specs.Steps.{ground}

@@ -13,8 +13,8 @@ use Rattle.mask.specs.Bits.{bitOf, testBit, Bytes}
 use Rattle.mask.specs.Sets.{number, maskOf}
 use Rattle.mask.proofs.Numbers.{bit-none, bit-number}
 use Rattle.mask.proofs.Whole.{test-maskOf, maskOf-same, maskOf-testBit}
-use Rattle.model.specs.Quantify.{below}
-use Rattle.model.proofs.Quantify.{below-out, below-cong}
+use Rattle.quantify.specs.Quantify.{below}
+use Rattle.quantify.proofs.Quantify.{below-out, below-cong}
 use Rattle.terms.specs.declared.Step.{Step}
 use Rattle.terms.specs.Schema.{Schema}
 use Rattle.terms.specs.Steps.{ground}

@@ -10,7 +10,7 @@ use Rattle.mask.specs.Bits.{testBit}
 use Rattle.terms.specs.declared.Step.{Step}
 use Rattle.terms.specs.Schema.{Schema}
 use Rattle.terms.specs.Steps.{ground}
-use Rattle.model.specs.Quantify.{below}
+use Rattle.quantify.specs.Quantify.{below}
 use Rattle.rows.specs.Rows.{putAt}
 use Rattle.grounding.specs.Grounding.{Bounded}
 use Rattle.statemask.specs.Statemask.{MoveRules, unmet, stepInapplicable, stepNext}

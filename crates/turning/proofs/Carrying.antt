@@ -22,7 +22,7 @@ use Rattle.format.specs.Form.{Form, mostListed, stateAfter}
 use Rattle.format.specs.States.{list}
 use Rattle.format.proofs.States.{list-ends}
 use Rattle.answer.specs.declared.Answer.the-variants.{Good}
-use Rattle.model.specs.Quantify.{Mem, here, there, any}
+use Rattle.quantify.specs.Quantify.{Mem, here, there, any}
 use Rattle.jobs.specs.Planning.{holding}
 use Rattle.wellformed.specs.Right.{Increasing}
 use Rattle.wellformed.proofs.Numbers.{number-below}

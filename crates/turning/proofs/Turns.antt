@@ -13,7 +13,7 @@ use Rattle.mask.proofs.Flips.{length-flipBit, cardinality-flip-in, cardinality-
 use Rattle.terms.specs.declared.Fact.{Fact}
 use Rattle.terms.specs.Facts.{factAt, factNumber}
 use Rattle.format.specs.Lists.{factsAt}
-use Rattle.model.specs.Quantify.{here, there}
+use Rattle.quantify.specs.Quantify.{here, there}
 use Rattle.turning.specs.Turning.{flipped, Numbered}
 
 pub flipped-none : (s : List ℕ) (n at : ℕ) (m : List ℕ) → n ≡ 0 → flipped (factsAt s n at) m ≡ m

@@ -11,7 +11,7 @@ use Rattle.terms.specs.declared.Fact.{Fact}
 use Rattle.terms.specs.Facts.{factNumber}
 use Rattle.format.specs.Lists.{listAt, listEnd}
 use Rattle.format.specs.Form.{Form}
-use Rattle.model.specs.Quantify.{Mem}
+use Rattle.quantify.specs.Quantify.{Mem}
 use Rattle.jobs.specs.Planning.{holding}
 
 -- each fact of a list turned in a mask

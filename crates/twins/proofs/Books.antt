@@ -12,7 +12,7 @@ use Rattle.terms.proofs.Agree.{ground-same}
 use Rattle.format.specs.Form.{Form}
 use Rattle.format.specs.Decode.{RecordedStep, placedAt, placedBy}
 use Rattle.format.specs.Order.{plan}
-use Rattle.model.specs.Quantify.{Mem, any}
+use Rattle.quantify.specs.Quantify.{Mem, any}
 use Rattle.model.specs.Domain.{Domain, State, GroundAction, Transition}
 use Rattle.model.specs.Model.{Model, Consistent, run}
 use Rattle.model.specs.Learned.{learnedRules, modelOf, learned, unboundEffect, conflicting}
@@ -23,7 +23,7 @@ use Rattle.jobs.specs.Learn.{rulesFrom, learnedFrom}
 use Rattle.converted.specs.Converted.{unplaced}
 use Rattle.demand.proofs.Agree.{domain-same}
 use Rattle.wellformed.proofs.Headers.{right-schema}
-use Rattle.wellformed.proofs.Lists.{map-alike}
+use Rattle.quantify.proofs.Mapped.{map-alike}
 use Rattle.twins.specs.Twins.{SameTransitions}
 use Rattle.twins.proofs.Trimmed.{trimmed, trimmedTransition, OfAtoms, rules-trimmed, conflicting-trimmed, any-unbound-trimmed, run-trimmed, consistent-trimmed}
 

@@ -10,11 +10,11 @@ use Rattle.answer.specs.Answer.{_>>=_, refuse}
 use Rattle.answer.specs.Table.{among, impossibleRows, isImpossible, bookOffsetRows, isBookOffset}
 use Rattle.limits.specs.Limits.{ruleSize}
 use Rattle.format.specs.Form.{Form}
-use Rattle.model.specs.Quantify.{least}
+use Rattle.quantify.specs.Quantify.{least}
 use Rattle.model.specs.Learned.{Rules, unboundEffect}
 use Rattle.jobs.specs.Planning.{domain, transition, schemaOf, stepsOfBook, transitionsOf}
 use Rattle.jobs.specs.Learn.{unboundEffects, conflictAnswer, conflictingMove, inconsistency, learnable, ruleRows, ruleSheet, learn, learnBytes}
-use Rattle.wellformed.proofs.Lists.{any-map}
+use Rattle.quantify.proofs.Mapped.{any-map}
 use Rattle.twins.specs.Twins.{SameTransitions}
 use Rattle.twins.proofs.Answers.{Twin, equal, twin-bind, first-twin, twin-kept}
 use Rattle.twins.proofs.Books.{unbound-same, conflicts-same, rules-same}

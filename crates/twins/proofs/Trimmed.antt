@@ -7,15 +7,15 @@ use mathlib.Core.Bool.{Bool, true, false, cond, _&&_, _||_, not}
 use mathlib.Core.List.{List, [], _∷_, map}
 use lib.Dec.{eqb}
 use Rattle.truth.specs.Bools.{clash, is-false, guarded}
-use Rattle.model.specs.Quantify.{same, any}
+use Rattle.quantify.specs.Quantify.{same, any}
 use Rattle.model.specs.Domain.{Domain, State, GroundAction, Transition}
 use Rattle.model.specs.Model.{Model, Valid, Fits, Consistent, image, inapplicable, next, Run, stopped, run}
 use Rattle.model.specs.Learned.{learnedRules, learned, unboundEffect, conflicting}
 use Rattle.model.specs.Alike.{Alike, SameRow, Renumbered, none, more}
-use Rattle.model.proofs.Quantify.{below-same}
+use Rattle.quantify.proofs.Quantify.{below-same}
 use Rattle.model.proofs.Row.{rules-equal, row-of-renumbered, rules-same, conflicting-same}
 use Rattle.model.proofs.Seen.{need-out, effect-out}
-use Rattle.wellformed.proofs.Lists.{mem-map-out, mem-map-in}
+use Rattle.quantify.proofs.Mapped.{mem-map-out, mem-map-in}
 
 -- a ground action with no fact but those of its atoms
 unfoldable pub trimmed : Domain → GroundAction → GroundAction

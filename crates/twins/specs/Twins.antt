@@ -15,7 +15,7 @@ use Rattle.terms.specs.Agree.{SameSchema}
 use Rattle.format.specs.Form.{Form}
 use Rattle.format.specs.Decode.{RecordedStep}
 use Rattle.format.specs.LookOver.{lookOver}
-use Rattle.model.specs.Quantify.{Mem}
+use Rattle.quantify.specs.Quantify.{Mem}
 use Rattle.model.specs.Domain.{State}
 use Rattle.model.specs.Model.{Model}
 use Rattle.model.specs.Judge.{Verdict}

@@ -8,7 +8,7 @@ use Rattle.format.specs.LookOver.{lookOver}
 use Rattle.model.specs.Domain.{Transition}
 use Rattle.model.specs.Formed.{Proper, Formed}
 use Rattle.jobs.specs.Planning.{domain, groundAction, transition, schemaOf, stepsOfBook, transitionsOf}
-use Rattle.wellformed.proofs.Lists.{mem-map-out}
+use Rattle.quantify.proofs.Mapped.{mem-map-out}
 use Rattle.wellformed.proofs.Records.{recorded-right}
 use Rattle.wellformed.proofs.Suits.{move-known}
 use Rattle.wellformed.proofs.Atoms.{step-proper}

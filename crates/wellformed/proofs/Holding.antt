@@ -11,8 +11,8 @@ use Rattle.terms.specs.declared.Fact.{Fact}
 use Rattle.terms.specs.Schema.{Schema, TypedObjects}
 use Rattle.terms.specs.Facts.{factNumber}
 use Rattle.limits.specs.Limits.{maxObjects}
-use Rattle.model.specs.Quantify.{Mem}
-use Rattle.model.proofs.Quantify.{any-in, any-out}
+use Rattle.quantify.specs.Quantify.{Mem}
+use Rattle.quantify.proofs.Quantify.{any-in, any-out}
 use Rattle.jobs.specs.Planning.{holding}
 use Rattle.wellformed.specs.Right.{RightState}
 use Rattle.wellformed.proofs.Numbers.{number-below}

@@ -11,15 +11,15 @@ use Rattle.answer.specs.Table.{among, impossibleRows, isImpossible}
 use Rattle.terms.specs.Schema.{Schema}
 use Rattle.format.specs.Form.{Form}
 use Rattle.format.specs.LookOver.{lookOver}
-use Rattle.model.specs.Quantify.{any, below, least}
+use Rattle.quantify.specs.Quantify.{any, below, least}
 use Rattle.model.specs.Domain.{Domain, Transition}
 use Rattle.model.specs.Learned.{unboundEffect, conflicting}
 use Rattle.model.specs.Check.{inconsistent}
-use Rattle.model.proofs.Quantify.{least-none}
+use Rattle.quantify.proofs.Quantify.{least-none}
 use Rattle.jobs.specs.Planning.{domain, transition, schemaOf, stepsOfBook, transitionsOf}
 use Rattle.jobs.specs.Learn.{unboundEffects, conflictAnswer, conflictingMove, inconsistency, learnable}
 use Rattle.jobs.proofs.FirstRefused.{first-refused-none, first-refused-some}
-use Rattle.wellformed.proofs.Lists.{any-map}
+use Rattle.quantify.proofs.Mapped.{any-map}
 
 -- row 12 is met exactly if some move has a conflict
 pub conflicting-none : (sch : Schema) (ts : List Transition) → below (sch .moves) (λ a. conflicting (domain sch) ts (suc a)) ≡ false → conflictingMove sch ts ≡ Good 0

@@ -1,6 +1,5 @@
 -- Theorems about good form, from bytes up to the hypotheses of `model`. To cite: recorded-right (Records), every-record-has-a-step (Stepped), formed (Formed), order-right and grounded (Orders),
 -- fact-of-atom and fact-of-places (Inverse); of states in which facts turn, the laws of Toggled and Turned.
-pub mod Lists
 pub mod States
 pub mod Headers
 pub mod Records

@@ -24,7 +24,7 @@ use Rattle.format.proofs.States.{list-ends}
 use Rattle.format.proofs.Orders.{plan-step-entry, goal-chain, goal-entry-suits}
 use Rattle.format.proofs.Typing.{order-objects-known}
 use Rattle.format.proofs.OrderForm.{order-good}
-use Rattle.model.specs.Quantify.{Mem, here, there}
+use Rattle.quantify.specs.Quantify.{Mem, here, there}
 use Rattle.model.specs.Formed.{Proper, Grounded}
 use Rattle.jobs.specs.Planning.{domain, groundAction, holding, startStates, planOf}
 use Rattle.model.specs.Domain.{State, GroundAction}
@@ -32,7 +32,7 @@ use Rattle.wellformed.specs.Right.{RightStep, RightState, orderTyped, Ri
 use Rattle.wellformed.proofs.States.{state-right}
 use Rattle.wellformed.proofs.Holding.{holding-below}
 use Rattle.wellformed.proofs.Atoms.{step-proper, ground-below}
-use Rattle.wellformed.proofs.Lists.{mem-map-out}
+use Rattle.quantify.proofs.Mapped.{mem-map-out}
 
 module _ (sch : Schema) (ob : TypedObjects) (typed : RightObjects sch ob) (o : List ℕ) where
   -- the first of a number of good steps is right, and the others are good

@@ -9,7 +9,7 @@ use Rattle.format.specs.Form.{Form}
 use Rattle.format.specs.Records.{lengthIn, recordAt}
 use Rattle.format.specs.Parts.{recordPart, recordsAt}
 use Rattle.format.proofs.Records.{record-within}
-use Rattle.model.specs.Quantify.{Mem, here, there}
+use Rattle.quantify.specs.Quantify.{Mem, here, there}
 
 module _ (form : Form) (h : Sections) (s : List ℕ) where
   abbrev pub RecordOf : List ℕ → Type 0

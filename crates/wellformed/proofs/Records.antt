@@ -22,8 +22,8 @@ use Rattle.format.specs.Decode.{RecordedStep, firstAt, recordedStepsAt, stepsOf
 use Rattle.format.proofs.Records.{head-objects, step-good, steps-parted, record-good}
 use Rattle.format.proofs.Typing.{schema-right, objects-known}
 use Rattle.format.proofs.LookOver.{look-over-good}
-use Rattle.model.specs.Quantify.{Mem, here, there}
-use Rattle.model.proofs.Members.{mem-out}
+use Rattle.quantify.specs.Quantify.{Mem, here, there}
+use Rattle.quantify.proofs.Members.{mem-out}
 use Rattle.jobs.specs.Planning.{schemaOf, stepsOfBook}
 use Rattle.wellformed.specs.Right.{RightState, Right, RightSomewhere}
 use Rattle.wellformed.proofs.States.{state-right, next-right}

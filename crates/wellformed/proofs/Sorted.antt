@@ -13,7 +13,7 @@ use Rattle.truth.specs.Bools.{clash, decide, is-false, and-in, and-out, or-left
 use Rattle.terms.specs.declared.Fact.{Fact}
 use Rattle.terms.specs.Facts.{precedes}
 use Rattle.terms.proofs.Atoms.{fact-path}
-use Rattle.model.specs.Quantify.{Mem, here, there}
+use Rattle.quantify.specs.Quantify.{Mem, here, there}
 use Rattle.wellformed.specs.Right.{Increasing}
 
 -- the order byte by byte, in plain numbers

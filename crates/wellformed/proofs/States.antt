@@ -18,7 +18,7 @@ use Rattle.format.specs.States.{facts, list, state, nextState}
 use Rattle.format.specs.Lists.{factsAt, listAt}
 use Rattle.format.proofs.Chains.{chain-parted}
 use Rattle.format.proofs.States.{fact-good, facts-chain, list-good, next-good}
-use Rattle.model.specs.Quantify.{Mem, here, there}
+use Rattle.quantify.specs.Quantify.{Mem, here, there}
 use Rattle.wellformed.specs.Right.{Increasing, RightState}
 use Rattle.wellformed.proofs.Toggled.{toggled-right}
 

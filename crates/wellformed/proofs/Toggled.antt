@@ -12,7 +12,7 @@ use Rattle.terms.specs.Schema.{Schema, TypedObjects}
 use Rattle.terms.specs.Facts.{factBad, precedes, noFact}
 use Rattle.limits.specs.Limits.{maxFacts}
 use Rattle.format.specs.Toggled.{toggle, toggled}
-use Rattle.model.specs.Quantify.{Mem, here, there}
+use Rattle.quantify.specs.Quantify.{Mem, here, there}
 use Rattle.wellformed.specs.Right.{Increasing, RightState}
 use Rattle.wellformed.proofs.Sorted.{precedes-trans, precedes-self, precedes-not-back, precedes-apart, compare, behind-all, sorted, mem-cons, mem-rest, mem-none, mem-decide, once, same-members}
 

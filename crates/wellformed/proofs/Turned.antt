@@ -19,7 +19,7 @@ use Rattle.terms.specs.Schema.{Schema, TypedObjects}
 use Rattle.terms.specs.Facts.{factBad, factNumber, noFact}
 use Rattle.limits.specs.Limits.{maxRelations, maxObjects, stateSize}
 use Rattle.format.specs.Toggled.{toggle}
-use Rattle.model.specs.Quantify.{any, Mem, here, there}
+use Rattle.quantify.specs.Quantify.{any, Mem, here, there}
 use Rattle.jobs.specs.Planning.{holding}
 use Rattle.wellformed.specs.Right.{Increasing}
 use Rattle.wellformed.proofs.Numbers.{number-below, number-injective}

@@ -9,7 +9,7 @@ use Rattle.terms.specs.declared.Fact.{Fact}
 use Rattle.terms.specs.Schema.{Schema, TypedObjects}
 use Rattle.terms.specs.Steps.{isAtom, ground}
 use Rattle.limits.specs.Limits.{maxObjects}
-use Rattle.model.specs.Quantify.{Mem}
+use Rattle.quantify.specs.Quantify.{Mem}
 use Rattle.jobs.specs.Planning.{holding}
 use Rattle.wellformed.specs.Right.{RightStep, RightState}
 use Rattle.wellformed.specs.Grounding.{factOf}

@@ -13,7 +13,7 @@ use Rattle.terms.specs.Steps.{stepBad, repeats}
 use Rattle.limits.specs.Limits.{maxObjects, maxFacts}
 use Rattle.format.specs.Decode.{RecordedStep}
 use Rattle.format.specs.Order.{GoalEntry, orderObjects, starts, goal, plan}
-use Rattle.model.specs.Quantify.{Mem}
+use Rattle.quantify.specs.Quantify.{Mem}
 
 -- each fact of the list precedes the next, and the first one comes after `last`
 abbrev pub Increasing : Fact → List Fact → Type 0

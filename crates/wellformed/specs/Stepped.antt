@@ -9,7 +9,7 @@ use Rattle.format.specs.Records.{stepsIn}
 use Rattle.format.specs.LookOver.{lookOver}
 use Rattle.format.specs.Decode.{stepsOfRecord}
 use Rattle.format.specs.Parts.{recordsOf}
-use Rattle.model.specs.Quantify.{Mem}
+use Rattle.quantify.specs.Quantify.{Mem}
 
 -- every record of a good book has as many steps as its head says, and at least one; a record is its bytes
 abbrev pub EveryRecordHasAStep : Type 0

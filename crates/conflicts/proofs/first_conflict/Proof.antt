@@ -4,8 +4,8 @@ use native.Mathlib.Omega.{arith}
 use mathlib.Core.Path.{_≡_}
 use borrow.Author.Needs.{needs}
 use Rattle.observed.specs.Rules.{conflictObserved}
-use Rattle.model.specs.Quantify.{least}
-use Rattle.model.proofs.Quantify.{least-first, least-next, least-found, least-unfound}
+use Rattle.quantify.specs.Quantify.{least}
+use Rattle.quantify.proofs.Quantify.{least-first, least-next, least-found, least-unfound}
 use Rattle.conflicts.proofs.first_conflict.Statement.{statement}
 use Rattle.conflicts.proofs.first_conflict.Tie as tie
 

@@ -3,7 +3,7 @@ use mathlib.Core.Path.{_≡_, refl, ap, subst}
 use mathlib.Core.Logic.{_↔_}
 use mathlib.Core.Bool.{Bool, _||_}
 use mathlib.Core.List.{List, [], _∷_, map}
-use Rattle.model.specs.Quantify.{any, Mem, here, there}
+use Rattle.quantify.specs.Quantify.{any, Mem, here, there}
 
 -- a member of a list of values is the value of a member
 pub mem-map-out : {A B : Type 0} (f : A → B) (xs : List A) {y : B} → Mem y (map f xs) → (x : A) × Mem x xs × (f x ≡ y)

@@ -11,7 +11,7 @@ use mathlib.Core.Logic.{_⊎_, inl, inr, _↔_}
 use mathlib.Core.Bool.{Bool, true, false, _||_, or-false}
 use mathlib.Core.List.{List, [], _∷_, _++_, map}
 use Rattle.truth.specs.Bools.{clash, decide, is-true, bool-eq, or-left, or-right, or-out, neither}
-use Rattle.model.specs.Quantify.{below, any, Mem, here, there, has, later, first, least}
+use Rattle.quantify.specs.Quantify.{below, any, Mem, here, there, has, later, first, least}
 
 module _ {A : Type 0} where
   pub any-in : (p : A → Bool) (xs : List A) {x : A} → Mem x xs → p x ≡ true → any p xs ≡ true

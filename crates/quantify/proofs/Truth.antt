@@ -1,7 +1,7 @@
 -- Whether two truth values are the same, as a test. Other laws of truth values: truth/specs/Bools.
 use mathlib.Core.Path.{_≡_, refl, sym}
 use mathlib.Core.Bool.{Bool, true, false, not}
-use Rattle.model.specs.Quantify.{same}
+use Rattle.quantify.specs.Quantify.{same}
 
 pub same-in : (b c : Bool) → b ≡ c → same b c ≡ true
 unfolding same

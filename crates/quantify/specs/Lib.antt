@@ -1,0 +1,2 @@
+-- Quantifiers over numbers and lists, for definitions.
+pub mod Quantify
