@@ -24,7 +24,7 @@ use Rattle.quantify.specs.Quantify.{same, below, any, has, later, first, least}
 use Rattle.model.specs.Model.{image, inapplicable, next, run}
 use Rattle.model.specs.Judge.{wrong}
 use Rattle.model.specs.Learned.{saw, before, after, turned, learnedRules, modelOf, learned, unboundEffect, conflicting}
-use Rattle.jobs.specs.Planning.{domain, holding, groundAction, transition, goalEntry, schemaOf, stepsOfBook, transitionsOf, startStates, planOf, goalOf}
+use Rattle.jobs.specs.Planning.{domain, groundAction, transition, goalEntry, schemaOf, stepsOfBook, transitionsOf, startStates, planOf, goalOf}
 use Rattle.jobs.specs.Learn.{unboundEffects, conflictAnswer, conflictingMove, learnable, ruleRow, ruleRows, learnedFrom, ruleSheet, learn, learnBytes, inconsistency, rulesFrom}
 use Rattle.jobs.specs.Check.{planRun, orderRun, goalAnswer, runAnswer, startAnswer, firstFailing, startsAnswer, beforePlan, check, endSheet, endAfter, checkBytes}
 use Rattle.jobs.specs.Add.{added, add, addBytes}
@@ -42,6 +42,7 @@ use Rattle.format.specs.Filed.{filedStepAt, filedFact}
 use Rattle.jobs.specs.Alone.{startSize, goalAlone, leftAlone, aloneAt, aloneFrom, alone}
 use Rattle.cases.specs.EachStart.{startsAlone}
 use Rattle.cases.specs.EndSheet.{rightBits}
+use Rattle.factsets.specs.Holding.{holding}
 
 -- The definitions that are computed: `unfolding opened` opens them all. Its value is not used.
 unfoldable opened : ℕ

@@ -21,7 +21,7 @@ use Rattle.format.specs.Order.{GoalEntry, startCount, stepCount, startAt, steps
 use Rattle.quantify.specs.Quantify.{Mem, here, there}
 use Rattle.model.specs.Learned.{Rules, modelOf, learned}
 use Rattle.model.proofs.Impossible.{learned-consistent}
-use Rattle.jobs.specs.Planning.{domain, holding, schemaOf, transitionsOf, groundAction, goalEntry, startStates, planOf, goalOf}
+use Rattle.jobs.specs.Planning.{domain, schemaOf, transitionsOf, groundAction, goalEntry, startStates, planOf, goalOf}
 use Rattle.jobs.specs.Learn.{learnable, rulesFrom, learnedFrom, ruleSheet}
 use Rattle.jobs.proofs.Sheet.{needed-set, needed-not-set, added-set, removed-set}
 use Rattle.jobs.specs.Check.{planRun, orderRun, runAnswer, startAnswer, endSheet}
@@ -29,10 +29,10 @@ use Rattle.wellformed.proofs.Headers.{relations-few, right-schema}
 use Rattle.wellformed.proofs.Formed.{formed}
 use Rattle.terms.proofs.Atoms.{atom-below}
 use Rattle.wellformed.proofs.Atoms.{ground-below}
-use Rattle.wellformed.proofs.Suits.{object-most, move-known, argument-right}
+use Rattle.factsets.proofs.Suits.{object-most, move-known, argument-right}
 use Rattle.quantify.proofs.Mapped.{mem-map-in}
 use Rattle.wellformed.proofs.Orders.{order-right, start-under}
-use Rattle.wellformed.specs.Right.{RightStep, orderTyped, RightOrder}
+use Rattle.wellformed.specs.Right.{orderTyped, RightOrder}
 use Rattle.wellformed.proofs.Learnable.{inconsistentIn, learnable-inconsistent}
 use Rattle.statemask.specs.Statemask.{rulesIn, execute, startMask}
 use Rattle.statemask.specs.Executing.{Under, Ruled, Executing, executedAnswer}
@@ -40,6 +40,8 @@ use Rattle.statemask.proofs.Plan.{execute-start, execute-answer, agrees-sheet}
 use Rattle.format.proofs.OrderForm.{order-good}
 use Rattle.execution.specs.Execution.{Executable}
 use Rattle.starts.specs.Starts.{executedFrom, answerFrom, StartsGood}
+use Rattle.factsets.specs.Holding.{holding}
+use Rattle.factsets.specs.Right.{RightStep}
 
 -- the sets of a move on the sheet are those of the learned model
 ruled : (form : Form) (s : List ℕ) (a : ℕ) → 1 ≤ a → a ≤ schemaOf s .moves → Ruled (learnedFrom form s) a (rulesIn (ruleSheet form s) a)

@@ -23,7 +23,7 @@ use Rattle.format.specs.Form.{Form}
 use Rattle.format.specs.LookOver.{lookOver}
 use Rattle.format.specs.Order.{startCount, startAt, stepCount, stepsAt, orderForm, starts}
 use Rattle.quantify.specs.Quantify.{here}
-use Rattle.jobs.specs.Planning.{schemaOf, holding, startStates}
+use Rattle.jobs.specs.Planning.{schemaOf, startStates}
 use Rattle.output.specs.Written.{written}
 use Rattle.output.proofs.Written.{front-written}
 use Rattle.jobs.specs.Learn.{learnable, rulesFrom, ruleSheet}
@@ -41,6 +41,7 @@ use Rattle.starts.specs.Starts.{executedFrom, answerFrom, StartsGood, answerEac
 use Rattle.starts.proofs.Starts.{only-goes}
 use Rattle.checker.specs.Checker.{fromOrder, Ready, OrderOutcome, CheckOutcome}
 use Rattle.checker.proofs.Executed.{executable, starts-good, start-executed, start-sheet}
+use Rattle.factsets.specs.Holding.{holding}
 
 -- ---- rows 14 to 20
 module _ (form : Form) (s o old : List ℕ) (h : Sections) (observed : List ℕ) (ready : Ready form s h observed old) (a : Answer) (b : Bool) (ordered : a ≡ orderForm (schema h s) o) (told : b ≡ isRefused a) where

@@ -14,8 +14,8 @@ use Rattle.format.specs.Lists.{listAt}
 use Rattle.format.specs.Decode.{RecordedStep}
 use Rattle.jobs.specs.Convert.{listed}
 use Rattle.quantify.specs.Quantify.{Mem}
-use Rattle.wellformed.specs.Right.{Increasing, RightState}
-use Rattle.wellformed.proofs.Toggled.{toggled-increasing, toggled-back, toggled-length-bound, toggled-suits}
+use Rattle.factsets.specs.Right.{Increasing, RightState}
+use Rattle.factsets.proofs.Toggled.{toggled-increasing, toggled-back, toggled-length-bound, toggled-suits}
 
 -- no list may have more facts than a count of two bytes tells
 pub most-told : (to : Form) → mostListed to ≤ 512

@@ -16,7 +16,7 @@ use Rattle.format.specs.Filed.{asWritten}
 use Rattle.format.specs.States.{cut, countBad, factRefused, facts, list}
 use Rattle.jobs.specs.Convert.{factsBytes, listBytes}
 use Rattle.quantify.specs.Quantify.{Mem, here, there}
-use Rattle.wellformed.specs.Right.{Increasing}
+use Rattle.factsets.specs.Right.{Increasing}
 use Rattle.converted.proofs.Stands.{Stands}
 use Rattle.converted.proofs.Rendered.{fact-read, facts-behind, length-listBytes, count-read, facts-stand}
 

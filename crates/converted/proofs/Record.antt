@@ -29,8 +29,8 @@ use Rattle.format.proofs.States.{list-ends}
 use Rattle.format.proofs.Records.{RecordGood, head-passed, head-objects, head-limits, object-entry, record-good, record-in}
 use Rattle.format.proofs.Typing.{objects-known}
 use Rattle.jobs.specs.Convert.{bytesAt, listBytes, stepsBytes}
-use Rattle.wellformed.specs.Right.{RightState}
-use Rattle.wellformed.proofs.States.{state-right}
+use Rattle.factsets.specs.Right.{RightState}
+use Rattle.factsets.proofs.States.{state-right}
 use Rattle.converted.proofs.Stands.{Stands, stands-at, stands-first, stands-rest, stands-left, stands-right, length-part, part-read, part-same}
 use Rattle.converted.proofs.Rendered.{length-two, two-read, list-read, list-end-read}
 use Rattle.converted.proofs.Lists.{list-in}

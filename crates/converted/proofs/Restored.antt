@@ -25,8 +25,8 @@ use Rattle.format.proofs.States.{list-ends, next-good}
 use Rattle.format.proofs.Records.{head-limits, step-good, step-ends, steps-parted, steps-within, record-good, record-within}
 use Rattle.jobs.specs.Convert.{factsBytes, listBytes, filedStepBytes, listed, stepsBytes, bytesAt}
 use Rattle.jobs.proofs.Bytes.{filed-step-again}
-use Rattle.wellformed.specs.Right.{RightState}
-use Rattle.wellformed.proofs.States.{length-facts, list-increasing, next-right, state-right}
+use Rattle.factsets.specs.Right.{RightState}
+use Rattle.factsets.proofs.States.{length-facts, list-increasing, next-right, state-right}
 use Rattle.converted.proofs.Stands.{Stands, stands-at, stands-none, stands-more, stands-both, length-part, part-stands}
 use Rattle.converted.proofs.Rendered.{length-two, length-listBytes, length-filedStepBytes}
 use Rattle.converted.proofs.Listed.{listed-again}

@@ -24,8 +24,8 @@ use Rattle.format.specs.Decode.{RecordedStep, recordedStep, recordedStepsAt, pl
 use Rattle.format.proofs.States.{next-in}
 use Rattle.format.proofs.Records.{step-good, steps-parted}
 use Rattle.jobs.specs.Convert.{listBytes, filedStepBytes, listed, stepsBytes}
-use Rattle.wellformed.specs.Right.{RightState}
-use Rattle.wellformed.proofs.States.{next-right}
+use Rattle.factsets.specs.Right.{RightState}
+use Rattle.factsets.proofs.States.{next-right}
 use Rattle.converted.proofs.Stands.{Stands, stands-at, stands-left, stands-right}
 use Rattle.converted.proofs.Rendered.{length-filedStepBytes, list-read, list-end-read, step-read}
 use Rattle.converted.proofs.Listed.{most-told, listed-suits, listed-increasing, listed-few, listed-after}

@@ -29,7 +29,7 @@ use Rattle.quantify.specs.Quantify.{Mem, here, there, first}
 use Rattle.model.specs.Domain.{State, GoalLiteral}
 use Rattle.model.specs.Model.{Run, stopped, ended}
 use Rattle.model.specs.Judge.{wrong}
-use Rattle.jobs.specs.Planning.{schemaOf, holding, startStates, planOf, goalOf}
+use Rattle.jobs.specs.Planning.{schemaOf, startStates, planOf, goalOf}
 use Rattle.jobs.specs.Learn.{learnable}
 use Rattle.jobs.specs.Check.{orderRun, goalAnswer, runAnswer, startAnswer, firstFailing, startsAnswer, beforePlan, check, checkBytes}
 use Rattle.jobs.specs.Alone.{aloneAt, aloneFrom, alone}
@@ -38,6 +38,7 @@ use Rattle.demand.specs.EachStart.{FromEachStart}
 use Rattle.demand.proofs.Alone.{StartIn, start-end, objects-there}
 use Rattle.demand.proofs.AloneRead.{objects-same, steps-same, starts-alone, goal-same, plan-same}
 use Rattle.demand.proofs.AloneGood.{alone-good}
+use Rattle.factsets.specs.Holding.{holding}
 
 -- ---- the starts of an order of good form
 

@@ -28,7 +28,7 @@ use Rattle.model.specs.Domain.{State, GroundAction, GoalLiteral}
 use Rattle.model.specs.Model.{Run, stopped, ended}
 use Rattle.model.specs.Judge.{wrong}
 use Rattle.model.proofs.Impossible.{learned-valid}
-use Rattle.jobs.specs.Planning.{domain, groundAction, holding, schemaOf, transitionsOf, startStates, planOf, goalOf}
+use Rattle.jobs.specs.Planning.{domain, groundAction, schemaOf, transitionsOf, startStates, planOf, goalOf}
 use Rattle.jobs.specs.Learn.{learnable, learnedFrom}
 use Rattle.jobs.specs.Check.{planRun, orderRun, goalAnswer, runAnswer, startAnswer, startsAnswer, check, endSheet, endAfter, checkBytes}
 use Rattle.wellformed.specs.Right.{RightOrder}
@@ -36,13 +36,14 @@ use Rattle.wellformed.specs.Grounding.{factOf}
 use Rattle.wellformed.proofs.Headers.{right-schema}
 use Rattle.wellformed.proofs.Formed.{formed}
 use Rattle.quantify.proofs.Mapped.{mem-map-out}
-use Rattle.wellformed.proofs.Holding.{holding-out}
+use Rattle.factsets.proofs.Holding.{holding-out}
 use Rattle.wellformed.proofs.Atoms.{ground-number, fact-right}
 use Rattle.wellformed.proofs.Orders.{order-right}
 use Rattle.wellformed.proofs.Ends.{Within, run-within}
 use Rattle.wellformed.proofs.Learnable.{inconsistentIn, learnable-clean, learnable-inconsistent}
 use Rattle.demand.specs.EndSheet.{RightNumber, RightBits, EndSheetRight}
 use Rattle.demand.proofs.EachStart.{only-answer, ready, check-ready, refused-check}
+use Rattle.factsets.specs.Holding.{holding}
 
 -- a run whose answer has number 0 ends, and its answer is good
 run-passes : (steps : ℕ) (goal : List GoalLiteral) (r : Run) → number (runAnswer steps goal r) ≡ 0 → (end : State) × (r ≡ ended end) × (runAnswer steps goal r ≡ Good steps)

@@ -19,10 +19,10 @@ use Rattle.limits.specs.Limits.{maxObjects}
 use Rattle.format.specs.Form.{Form}
 use Rattle.format.specs.Decode.{RecordedStep}
 use Rattle.quantify.specs.Quantify.{Mem, here, there}
-use Rattle.jobs.specs.Planning.{domain, holding, groundAction, transition, schemaOf, stepsOfBook}
+use Rattle.jobs.specs.Planning.{domain, groundAction, transition, schemaOf, stepsOfBook}
 use Rattle.jobs.specs.Learn.{rulesFrom, ruleRows, ruleSheet}
 use Rattle.wellformed.proofs.Headers.{right-schema}
-use Rattle.wellformed.specs.Right.{RightStep, RightState, RightSomewhere}
+use Rattle.wellformed.specs.Right.{RightSomewhere}
 use Rattle.wellformed.specs.Grounding.{objectIn, factOf}
 use Rattle.wellformed.proofs.Records.{recorded-right}
 use Rattle.wellformed.proofs.Values.{holds-in, holds-out}
@@ -30,6 +30,8 @@ use Rattle.demand.specs.TwoBooks.{Renumbering, renumbered, RenumberedFac
 use Rattle.demand.proofs.Agree.{fact-same}
 use Rattle.jobs.proofs.Sheet.{rows-same}
 use Rattle.demand.proofs.TwoBooks.{AlikeRecorded, same-row}
+use Rattle.factsets.specs.Holding.{holding}
+use Rattle.factsets.specs.Right.{RightStep, RightState}
 
 -- facts that are one when renumbered are one
 renumbered-apart : (to : ℕ → ℕ) → Renumbering to → (f g : Fact) → renumbered to f ≡ renumbered to g → f ≡ g

@@ -14,13 +14,14 @@ use Rattle.model.specs.Domain.{Domain, Transition}
 use Rattle.model.specs.Learned.{learnedRules}
 use Rattle.model.specs.Alike.{Alike, SameRow}
 use Rattle.model.proofs.Row.{alike-sym, rules-same}
-use Rattle.jobs.specs.Planning.{domain, holding, groundAction, transition, schemaOf, stepsOfBook, transitionsOf}
+use Rattle.jobs.specs.Planning.{domain, groundAction, transition, schemaOf, stepsOfBook, transitionsOf}
 use Rattle.jobs.specs.Learn.{rulesFrom, ruleRow, ruleSheet}
 use Rattle.wellformed.proofs.Headers.{right-schema}
 use Rattle.quantify.proofs.Mapped.{mem-map-out, mem-map-in}
 use Rattle.demand.specs.TwoBooks.{SameStep, SameSteps, rowOf, SameStepsSameRow}
 use Rattle.demand.proofs.Agree.{domain-same}
 use Rattle.jobs.proofs.Sheet.{row-part, row-same}
+use Rattle.factsets.specs.Holding.{holding}
 
 module _ (F G : Form) (s t : List ℕ) (agree : SameSchema (schemaOf s) (schemaOf t)) (right-s : RightSchema (schemaOf s)) (right-t : RightSchema (schemaOf t)) where
   -- a recorded step of the one book shows what a recorded step of the other shows

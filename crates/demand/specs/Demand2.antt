@@ -15,11 +15,12 @@ use Rattle.format.specs.Decode.{RecordedStep}
 use Rattle.format.specs.LookOver.{lookOver}
 use Rattle.quantify.specs.Quantify.{Mem}
 use Rattle.model.specs.Model.{Model}
-use Rattle.jobs.specs.Planning.{holding, schemaOf, stepsOfBook}
+use Rattle.jobs.specs.Planning.{schemaOf, stepsOfBook}
 use Rattle.jobs.specs.Learn.{learnable, ruleSheet, learn, learnBytes}
 use Rattle.jobs.specs.SheetBits.{neededSet, neededNotSet, addedSet, removedSet, sheetBit}
 use Rattle.jobs.specs.Judge.{FitsBook}
 use Rattle.demand.specs.Demand3.{NoneFits, Impossible}
+use Rattle.factsets.specs.Holding.{holding}
 
 -- whether bound fact n, with the objects of the recorded step in, holds among the facts given
 abbrev pub valueIn : List ℕ → RecordedStep → List Fact → ℕ → Bool

@@ -1,9 +1,7 @@
 -- From the values of a book or an order to the planning domain of `model`: its atoms, transitions, states, plans and goals.
 use Prim.Native.Nat.{ℕ, _*_}
 use mathlib.Core.List.{List, map}
-use lib.Dec.{eqb}
 use Rattle.limits.specs.Limits.{atomsPerRelation, factsPerRelation}
-use Rattle.terms.specs.declared.Fact.{Fact}
 use Rattle.terms.specs.declared.Step.{Step}
 use Rattle.terms.specs.Sections.{sectionsOf}
 use Rattle.terms.specs.Schema.{Schema, schema}
@@ -12,16 +10,13 @@ use Rattle.terms.specs.Steps.{isAtom, ground}
 use Rattle.format.specs.Form.{Form}
 use Rattle.format.specs.Decode.{RecordedStep, recordedSteps}
 use Rattle.format.specs.Order.{GoalEntry, starts, goal, plan}
-use Rattle.quantify.specs.Quantify.{any}
 use Rattle.model.specs.Domain.{Domain, State, GroundAction, Transition, GoalLiteral}
+use Rattle.factsets.specs.Holding.{holding}
 
 -- bound facts are numbered 16 to a relation, facts 256 to a relation
 unfoldable pub domain : Schema → Domain
 domain sch =
     record { atom = isAtom sch; atoms = atomsPerRelation * sch .relations; facts = factsPerRelation * sch .relations; actions = sch .moves }
-
-unfoldable pub holding : List Fact → State
-holding fs n = any (λ f. eqb (factNumber f) n) fs
 
 unfoldable pub groundAction : Schema → Step → GroundAction
 groundAction sch st = record { action = st .action .0; ground = ground sch (st .binding) }

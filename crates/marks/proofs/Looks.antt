@@ -16,7 +16,7 @@ use Rattle.format.specs.Lists.{listEnd}
 use Rattle.quantify.specs.Quantify.{here, there}
 use Rattle.observed.specs.Inverse.{sameFact}
 use Rattle.observed.proofs.Facts.{same-fact}
-use Rattle.wellformed.proofs.Numbers.{number-below}
+use Rattle.factsets.proofs.Numbers.{number-below}
 use Rattle.tables.specs.Tables.{ForRightByPlace}
 use Rattle.states.specs.declared.FactCursor.{FactCursor}
 use Rattle.states.specs.Cursor as states

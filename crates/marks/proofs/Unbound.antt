@@ -10,7 +10,7 @@ use Rattle.terms.specs.declared.Fact.{Fact}
 use Rattle.terms.specs.Facts.{precedes}
 use Rattle.observed.specs.Inverse.{factBound, unbound, alone, inOneAlone, someFact, unboundChanged}
 use Rattle.observed.proofs.Facts.{alone-before, alone-after, alone-both}
-use Rattle.wellformed.proofs.Sorted.{precedes-self, precedes-neither}
+use Rattle.factsets.proofs.Sorted.{precedes-self, precedes-neither}
 
 module _ (atoms : List ℕ) (b : Binding) where
   -- ---- no facts before, or none after: whether any is no bound fact

@@ -12,8 +12,9 @@ use Rattle.terms.specs.Steps.{isAtom, ground}
 use Rattle.atoms.specs.Atoms.{atomSet}
 use Rattle.format.specs.Decode.{RecordedStep}
 use Rattle.model.specs.Learned.{unboundEffect}
-use Rattle.jobs.specs.Planning.{domain, holding, transition}
+use Rattle.jobs.specs.Planning.{domain, transition}
 use Rattle.observed.specs.Inverse.{atomsIn, unboundChanged}
+use Rattle.factsets.specs.Holding.{holding}
 
 -- the set found from the facts has those of the step's atoms whose facts hold in the state
 abbrev pub Found : Schema → Step → List Fact → Type 0

@@ -23,10 +23,10 @@ use Rattle.limits.specs.Limits.{maxObjects, maxAtoms}
 use Rattle.atoms.specs.Atoms.{atomSet}
 use Rattle.observed.specs.Inverse.{paramOf, placeBound, factBound, atomOf}
 use Rattle.observed.proofs.Params.{param-most}
-use Rattle.wellformed.specs.Right.{RightStep}
+use Rattle.factsets.specs.Right.{RightStep}
 use Rattle.wellformed.specs.Grounding.{objectIn, factOf}
-use Rattle.wellformed.proofs.Suits.{used-out, argument-used}
-use Rattle.wellformed.proofs.Numbers.{fact-parts}
+use Rattle.factsets.proofs.Suits.{used-out, argument-used}
+use Rattle.factsets.proofs.Numbers.{fact-parts}
 use Rattle.wellformed.proofs.Inverse.{fact-of-atom, fact-of-places}
 use Rattle.observedright.proofs.Params.{param-none, bound-out, bound-in}
 

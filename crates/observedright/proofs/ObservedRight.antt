@@ -17,7 +17,7 @@ use Rattle.observed.specs.Faithful.{Faithful}
 use Rattle.observed.specs.Taught.{Taught}
 use Rattle.observed.proofs.Taught.{taught}
 use Rattle.wellformed.proofs.Records.{recorded-somewhere, recorded-right}
-use Rattle.wellformed.proofs.Suits.{move-known}
+use Rattle.factsets.proofs.Suits.{move-known}
 use Rattle.wellformed.proofs.Headers.{relations-few, moves-few}
 use Rattle.observedright.proofs.States.{state-found}
 use Rattle.observedright.proofs.UnboundEffects.{unbound-changed-right}

@@ -14,9 +14,9 @@ use Rattle.terms.specs.Schema.{Schema, TypedObjects}
 use Rattle.terms.specs.Steps.{objectOf}
 use Rattle.observed.specs.Inverse.{gives, paramOf, placeBound}
 use Rattle.observed.proofs.Params.{param-out}
-use Rattle.wellformed.specs.Right.{RightStep}
+use Rattle.factsets.specs.Right.{RightStep}
 use Rattle.terms.proofs.Atoms.{four}
-use Rattle.wellformed.proofs.Suits.{objectAt, parameters-apart}
+use Rattle.factsets.proofs.Suits.{objectAt, parameters-apart}
 
 module _ (b : Binding) (x : Object) where
   -- an object that a parameter has is found

@@ -16,11 +16,11 @@ use Rattle.terms.specs.Facts.{factBad}
 use Rattle.terms.specs.Steps.{isAtom, ground}
 use Rattle.limits.specs.Limits.{maxObjects}
 use Rattle.quantify.specs.Quantify.{any, Mem, here, there}
-use Rattle.jobs.specs.Planning.{holding}
+use Rattle.factsets.specs.Holding.{holding}
 use Rattle.observed.specs.Inverse.{factBound, atomOf, mark, marks, atomsIn}
 use Rattle.observed.specs.Faithful.{Found}
 use Rattle.observed.proofs.Observe.{length-mark}
-use Rattle.wellformed.specs.Right.{RightStep}
+use Rattle.factsets.specs.Right.{RightStep}
 use Rattle.observedright.proofs.Atoms.{atomsOf, found}
 
 -- a bit put in if a test holds

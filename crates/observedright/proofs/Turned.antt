@@ -24,15 +24,15 @@ use Rattle.limits.specs.Limits.{maxRelations, maxObjects, setSize, stateSize}
 use Rattle.format.specs.Toggled.{toggle, toggled}
 use Rattle.quantify.specs.Quantify.{Mem, here, there, any}
 use Rattle.quantify.proofs.Quantify.{any-in, any-out}
-use Rattle.jobs.specs.Planning.{holding}
+use Rattle.factsets.specs.Holding.{holding}
 use Rattle.atoms.specs.Atoms.{atomSet}
 use Rattle.observed.specs.Inverse.{factBound, atomOf, atomsIn, unboundChanged, turnMark, turnMarks, someUnbound}
 use Rattle.observed.proofs.Observe.{length-atomsIn, bytes-atomsIn}
-use Rattle.wellformed.specs.Right.{Increasing, RightStep}
+use Rattle.factsets.specs.Right.{Increasing, RightStep}
 use Rattle.wellformed.proofs.Atoms.{ground-below}
-use Rattle.wellformed.proofs.Sorted.{mem-decide}
-use Rattle.wellformed.proofs.Toggled.{increasing-after, toggle-increasing, toggle-from, toggled-increasing, OneOf, toggled-mem}
-use Rattle.wellformed.proofs.Turned.{holding-toggle}
+use Rattle.factsets.proofs.Sorted.{mem-decide}
+use Rattle.factsets.proofs.Toggled.{increasing-after, toggle-increasing, toggle-from, toggled-increasing, OneOf, toggled-mem}
+use Rattle.factsets.proofs.Turned.{holding-toggle}
 use Rattle.observedright.proofs.Atoms.{found, found-out}
 use Rattle.observedright.proofs.States.{atoms-found}
 use Rattle.observedright.proofs.Unbound.{changed-in, changed-out}

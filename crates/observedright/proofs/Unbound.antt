@@ -12,9 +12,9 @@ use Rattle.format.specs.Toggled.{toggled}
 use Rattle.quantify.specs.Quantify.{Mem, here, there}
 use Rattle.observed.specs.Inverse.{factBound, unbound, alone, inOneAlone, someFact, unboundChanged}
 use Rattle.observed.proofs.Facts.{alone-before, alone-after, alone-both}
-use Rattle.wellformed.specs.Right.{Increasing}
-use Rattle.wellformed.proofs.Sorted.{precedes-self, precedes-not-back, compare, mem-cons, mem-none}
-use Rattle.wellformed.proofs.Toggled.{increasing-after, OneOf, toggled-mem, toggled-none, merge-before, merge-after, merge-both}
+use Rattle.factsets.specs.Right.{Increasing}
+use Rattle.factsets.proofs.Sorted.{precedes-self, precedes-not-back, compare, mem-cons, mem-none}
+use Rattle.factsets.proofs.Toggled.{increasing-after, OneOf, toggled-mem, toggled-none, merge-before, merge-after, merge-both}
 
 -- ---- the facts in one alone of two lists
 

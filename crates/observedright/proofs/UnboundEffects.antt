@@ -21,15 +21,17 @@ use Rattle.model.specs.Model.{image}
 use Rattle.model.specs.Learned.{unboundEffect}
 use Rattle.quantify.proofs.Quantify.{below-in, below-out}
 use Rattle.model.proofs.Rows as rows
-use Rattle.jobs.specs.Planning.{domain, holding, groundAction, transition}
+use Rattle.jobs.specs.Planning.{domain, groundAction, transition}
 use Rattle.atoms.specs.Atoms.{atomSet}
 use Rattle.observed.specs.Inverse.{factBound, unboundChanged}
-use Rattle.wellformed.specs.Right.{RightStep, Right}
-use Rattle.wellformed.proofs.Numbers.{number-below, number-injective}
-use Rattle.wellformed.proofs.Holding.{holding-in, holding-out}
+use Rattle.wellformed.specs.Right.{Right}
+use Rattle.factsets.proofs.Numbers.{number-below, number-injective}
+use Rattle.factsets.proofs.Holding.{holding-in, holding-out}
 use Rattle.observedright.proofs.Atoms.{atomsOf, found-in, found-out}
-use Rattle.wellformed.proofs.Toggled.{OneOf}
+use Rattle.factsets.proofs.Toggled.{OneOf}
 use Rattle.observedright.proofs.Unbound.{changed-in, changed-out}
+use Rattle.factsets.specs.Holding.{holding}
+use Rattle.factsets.specs.Right.{RightStep}
 
 -- the fact is that of a bound fact of the step
 pub imaged : Schema → Step → ℕ → Bool

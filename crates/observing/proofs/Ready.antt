@@ -32,10 +32,10 @@ use Rattle.atoms.specs.Atoms.{atomSet, atomsEnd}
 use Rattle.grounding.specs.Grounding.{Bounded, heldAtoms}
 use Rattle.tables.specs.Tables.{RightByPlace}
 use Rattle.turning.proofs.Carrying.{carries-count}
-use Rattle.wellformed.specs.Right.{Increasing, RightStep}
-use Rattle.wellformed.proofs.Suits.{object-most, argument-right, move-there}
-use Rattle.wellformed.proofs.States.{list-suits, list-increasing}
-use Rattle.wellformed.proofs.Numbers.{fact-parts}
+use Rattle.factsets.specs.Right.{Increasing, RightStep}
+use Rattle.factsets.proofs.Suits.{object-most, argument-right, move-there}
+use Rattle.factsets.proofs.States.{list-suits, list-increasing}
+use Rattle.factsets.proofs.Numbers.{fact-parts}
 use Rattle.terms.proofs.Atoms.{range-out}
 use Rattle.observed.specs.Inverse.{atomsIn}
 use Rattle.observed.specs.Observed.{bound, Observed, observedSet, observe, observeBy}

@@ -20,7 +20,7 @@ use Rattle.states.specs.Looked.{wholeList}
 use Rattle.records.specs.declared.Scope.{Scope}
 use Rattle.records.specs.Readable.{schemaIn, typedIn, Readable, stepAlone}
 use Rattle.atoms.specs.Atoms.{atomSet}
-use Rattle.wellformed.specs.Right.{RightState}
+use Rattle.factsets.specs.Right.{RightState}
 use Rattle.turning.specs.Turning.{Carried, Carries}
 use Rattle.observed.specs.Observed.{bound, Observed, observedSet, observedAfter, observedAfterAll}
 use Rattle.notes.specs.declared.Noted.{Noted}

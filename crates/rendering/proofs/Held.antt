@@ -13,7 +13,7 @@ use Rattle.output.proofs.Two.{two-there}
 use Rattle.limits.specs.Limits.{countSize, factSize, maxFacts}
 use Rattle.format.specs.Lists.{factsAt, listAt, listEnd}
 use Rattle.format.proofs.Reading.{Copied, list-copied}
-use Rattle.wellformed.proofs.States.{length-facts}
+use Rattle.factsets.proofs.States.{length-facts}
 use Rattle.rendering.specs.Held.{heldSize, Holds}
 
 -- ---- how long a list is

@@ -14,9 +14,9 @@ use Rattle.limits.specs.Limits.{nearCeiling}
 use Rattle.format.specs.Lists.{listAt, listEnd}
 use Rattle.format.specs.Toggled.{toggled}
 use Rattle.jobs.specs.Convert.{factsBytes}
-use Rattle.wellformed.specs.Right.{Increasing}
-use Rattle.wellformed.proofs.Sorted.{precedes-neither}
-use Rattle.wellformed.proofs.Toggled.{merge-before, merge-after, merge-both, toggled-none, toggled-nothing}
+use Rattle.factsets.specs.Right.{Increasing}
+use Rattle.factsets.proofs.Sorted.{precedes-neither}
+use Rattle.factsets.proofs.Toggled.{merge-before, merge-after, merge-both, toggled-none, toggled-nothing}
 use Rattle.factlist.specs.declared.ListCursor.{ListCursor}
 use Rattle.factlist.specs.Rest.{rest, Ahead, next, Comes}
 use Rattle.factlist.proofs.Rest.{rest-none}

@@ -24,9 +24,9 @@ use Rattle.format.proofs.States.{list-ends}
 use Rattle.format.proofs.Records.{record-good, record-within, head-limits}
 use Rattle.jobs.specs.Convert.{listBytes, stepsBytes, bytesAt, bodyBytes, recordBytes, recordsBytes}
 use Rattle.jobs.proofs.Bytes.{part-cons, part-three}
-use Rattle.wellformed.specs.Right.{Increasing}
-use Rattle.wellformed.proofs.States.{list-increasing, list-few}
-use Rattle.wellformed.proofs.Toggled.{toggled-none}
+use Rattle.factsets.specs.Right.{Increasing}
+use Rattle.factsets.proofs.States.{list-increasing, list-few}
+use Rattle.factsets.proofs.Toggled.{toggled-none}
 use Rattle.appending.specs.Appended.{pastEnd, Appended, AllBut}
 use Rattle.rendering.specs.Held.{Holds, Carried}
 use Rattle.rendering.specs.Good.{GoodNext, GoodTrajectory, GoodRecord, GoodRecords}

@@ -15,7 +15,7 @@ use Rattle.format.specs.Decode.{recordedStep, recordedStepsAt}
 use Rattle.format.proofs.States.{next-good}
 use Rattle.format.proofs.Records.{step-good, step-ends, steps-parted}
 use Rattle.jobs.specs.Convert.{listBytes, filedStepBytes, listed, stepsBytes}
-use Rattle.wellformed.proofs.States.{list-increasing}
+use Rattle.factsets.proofs.States.{list-increasing}
 use Rattle.appending.specs.Appended.{pastEnd, Appended, AllBut}
 use Rattle.rendering.specs.Held.{Holds, Carried}
 use Rattle.rendering.specs.Good.{GoodNext, GoodSteps}

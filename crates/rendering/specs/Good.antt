@@ -14,7 +14,7 @@ use Rattle.format.specs.Lists.{listAt, listEnd}
 use Rattle.format.specs.Form.{Form, stateAfter}
 use Rattle.format.specs.Records.{steps, recordAt}
 use Rattle.format.specs.LookOver.{lookOver}
-use Rattle.wellformed.specs.Right.{Increasing}
+use Rattle.factsets.specs.Right.{Increasing}
 
 -- a book of good form
 abbrev pub GoodBook : Form → List ℕ → Type 0

@@ -4,7 +4,7 @@ use mathlib.Core.List.{List}
 use Rattle.terms.specs.declared.Fact.{Fact}
 use Rattle.format.specs.Toggled.{toggled}
 use Rattle.jobs.specs.Convert.{factsBytes}
-use Rattle.wellformed.specs.Right.{Increasing}
+use Rattle.factsets.specs.Right.{Increasing}
 use Rattle.factlist.specs.Rest.{rest, Ahead}
 use Rattle.rendering.specs.declared.Walk.{Walk}
 use Rattle.appending.specs.Appended.{AllBut}

@@ -18,7 +18,7 @@ use Rattle.quantify.specs.Quantify.{any, below, Mem}
 use Rattle.model.specs.Domain.{State}
 use Rattle.truth.specs.Bools.{is-false}
 use Rattle.quantify.proofs.Quantify.{any-out}
-use Rattle.jobs.specs.Planning.{holding}
+use Rattle.factsets.specs.Holding.{holding}
 use Rattle.statemask.specs.Statemask.{withFacts, startMask, effects}
 use Rattle.statemask.specs.Executing.{Under}
 

@@ -19,12 +19,13 @@ use Rattle.model.specs.Model.{Model, Valid, Run, stopped, ended, inapplicable, 
 use Rattle.model.specs.Judge.{wrong}
 use Rattle.quantify.proofs.Quantify.{first-map}
 use Rattle.model.proofs.Lockstep.{run-stop, run-go}
-use Rattle.jobs.specs.Planning.{holding, groundAction, goalEntry}
+use Rattle.jobs.specs.Planning.{groundAction, goalEntry}
 use Rattle.jobs.specs.Check.{runAnswer, endSheet}
 use Rattle.statemask.specs.Statemask.{MoveRules, startMask, stepInapplicable, stepNext, Executed, execute, missed, misses}
 use Rattle.statemask.specs.Executing.{Under, Ruled, InMask, Executing, Agrees, executedAnswer}
 use Rattle.statemask.proofs.Masks.{test-mask, start-mask}
 use Rattle.statemask.proofs.Step.{next-under, inapplicable-mask, next-mask}
+use Rattle.factsets.specs.Holding.{holding}
 
 module _ (sch : Schema) (R : ℕ → MoveRules) (st : Step) (plan : List Step) (m : List ℕ) (k : ℕ) where
   pub execute-stop : stepInapplicable sch R st m ≡ true → execute sch R (st ∷ plan) m k ≡ record { stop = k; mask = m }

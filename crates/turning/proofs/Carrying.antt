@@ -23,12 +23,12 @@ use Rattle.format.specs.States.{list}
 use Rattle.format.proofs.States.{list-ends}
 use Rattle.answer.specs.declared.Answer.the-variants.{Good}
 use Rattle.quantify.specs.Quantify.{Mem, here, there, any}
-use Rattle.jobs.specs.Planning.{holding}
-use Rattle.wellformed.specs.Right.{Increasing}
-use Rattle.wellformed.proofs.Numbers.{number-below}
-use Rattle.wellformed.proofs.States.{list-suits}
-use Rattle.wellformed.proofs.Toggled.{increasing-after, toggle-increasing, toggle-from, toggled-none, toggled-increasing, toggled-suits}
-use Rattle.wellformed.proofs.Turned.{flip-holding, cardinality-holding}
+use Rattle.factsets.specs.Holding.{holding}
+use Rattle.factsets.specs.Right.{Increasing}
+use Rattle.factsets.proofs.Numbers.{number-below}
+use Rattle.factsets.proofs.States.{list-suits}
+use Rattle.factsets.proofs.Toggled.{increasing-after, toggle-increasing, toggle-from, toggled-none, toggled-increasing, toggled-suits}
+use Rattle.factsets.proofs.Turned.{flip-holding, cardinality-holding}
 use Rattle.turning.specs.Turning.{flipped, Numbered, Turnable, Carried, Carries}
 
 -- in a full book the list is the state

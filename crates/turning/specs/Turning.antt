@@ -12,7 +12,7 @@ use Rattle.terms.specs.Facts.{factNumber}
 use Rattle.format.specs.Lists.{listAt, listEnd}
 use Rattle.format.specs.Form.{Form}
 use Rattle.quantify.specs.Quantify.{Mem}
-use Rattle.jobs.specs.Planning.{holding}
+use Rattle.factsets.specs.Holding.{holding}
 
 -- each fact of a list turned in a mask
 unfoldable pub flipped : List Fact → List ℕ → List ℕ

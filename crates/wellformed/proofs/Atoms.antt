@@ -18,10 +18,10 @@ use Rattle.terms.proofs.Suits.{suits-through}
 use Rattle.limits.specs.Limits.{maxObjects}
 use Rattle.model.specs.Formed.{Proper}
 use Rattle.jobs.specs.Planning.{domain, groundAction}
-use Rattle.wellformed.specs.Right.{RightStep}
+use Rattle.factsets.specs.Right.{RightStep}
 use Rattle.wellformed.specs.Grounding.{objectIn, factOf}
-use Rattle.wellformed.proofs.Suits.{used-in, unused-in, argument-used, parameters-apart}
-use Rattle.wellformed.proofs.Numbers.{number-below, number-injective}
+use Rattle.factsets.proofs.Suits.{used-in, unused-in, argument-used, parameters-apart}
+use Rattle.factsets.proofs.Numbers.{number-below, number-injective}
 
 -- `ground` is the number of the fact that the bound fact becomes
 pub ground-number : (sch : Schema) (b : Binding) (n : ℕ) → factNumber (factOf sch b n) ≡ ground sch b n

@@ -10,9 +10,9 @@ use Rattle.model.specs.Formed.{Proper, Formed}
 use Rattle.jobs.specs.Planning.{domain, groundAction, transition, schemaOf, stepsOfBook, transitionsOf}
 use Rattle.quantify.proofs.Mapped.{mem-map-out}
 use Rattle.wellformed.proofs.Records.{recorded-right}
-use Rattle.wellformed.proofs.Suits.{move-known}
+use Rattle.factsets.proofs.Suits.{move-known}
 use Rattle.wellformed.proofs.Atoms.{step-proper}
-use Rattle.wellformed.proofs.Holding.{holding-below}
+use Rattle.factsets.proofs.Holding.{holding-below}
 
 -- The transitions of a book of good form meet the hypotheses of `model`.
 pub formed : (form : Form) (s : List ℕ) (n : ℕ) → lookOver form s ≡ Good n → Formed (domain (schemaOf s)) (transitionsOf form s)

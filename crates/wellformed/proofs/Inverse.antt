@@ -15,10 +15,10 @@ use Rattle.terms.specs.Facts.{factBad, factNumber}
 use Rattle.terms.specs.Steps.{objectOf, atomRelation, atomFirst, atomSecond, isAtom, ground}
 use Rattle.terms.proofs.Atoms.{fact-path}
 use Rattle.limits.specs.Limits.{maxObjects}
-use Rattle.wellformed.specs.Right.{RightStep}
+use Rattle.factsets.specs.Right.{RightStep}
 use Rattle.wellformed.specs.Grounding.{objectIn, factOf}
-use Rattle.wellformed.proofs.Suits.{unused-out}
-use Rattle.wellformed.proofs.Numbers.{fact-parts, number-injective}
+use Rattle.factsets.proofs.Suits.{unused-out}
+use Rattle.factsets.proofs.Numbers.{fact-parts, number-injective}
 use Rattle.wellformed.proofs.Atoms.{ground-number, fact-right}
 
 module _ (sch : Schema) (ob : TypedObjects) (few : ob .count ≤ maxObjects) (st : Step) (right : RightStep sch ob st) where

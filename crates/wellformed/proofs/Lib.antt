@@ -1,19 +1,12 @@
 -- Theorems about good form, from bytes up to the hypotheses of `model`. To cite: recorded-right (Records), every-record-has-a-step (Stepped), formed (Formed), order-right and grounded (Orders),
 -- fact-of-atom and fact-of-places (Inverse); of states in which facts turn, the laws of Toggled and Turned.
-pub mod States
 pub mod Headers
 pub mod Records
 pub mod Parts
 pub mod Stepped
-pub mod Suits
-pub mod Numbers
 pub mod Atoms
 pub mod Inverse
-pub mod Holding
 pub mod Values
-pub mod Sorted
-pub mod Toggled
-pub mod Turned
 pub mod Formed
 pub mod Orders
 pub mod Learnable

@@ -26,13 +26,15 @@ use Rattle.format.proofs.Typing.{order-objects-known}
 use Rattle.format.proofs.OrderForm.{order-good}
 use Rattle.quantify.specs.Quantify.{Mem, here, there}
 use Rattle.model.specs.Formed.{Proper, Grounded}
-use Rattle.jobs.specs.Planning.{domain, groundAction, holding, startStates, planOf}
+use Rattle.jobs.specs.Planning.{domain, groundAction, startStates, planOf}
 use Rattle.model.specs.Domain.{State, GroundAction}
-use Rattle.wellformed.specs.Right.{RightStep, RightState, orderTyped, RightOrder}
-use Rattle.wellformed.proofs.States.{state-right}
-use Rattle.wellformed.proofs.Holding.{holding-below}
+use Rattle.wellformed.specs.Right.{orderTyped, RightOrder}
+use Rattle.factsets.proofs.States.{state-right}
+use Rattle.factsets.proofs.Holding.{holding-below}
 use Rattle.wellformed.proofs.Atoms.{step-proper, ground-below}
 use Rattle.quantify.proofs.Mapped.{mem-map-out}
+use Rattle.factsets.specs.Holding.{holding}
+use Rattle.factsets.specs.Right.{RightStep, RightState}
 
 module _ (sch : Schema) (ob : TypedObjects) (typed : RightObjects sch ob) (o : List ℕ) where
   -- the first of a number of good steps is right, and the others are good

@@ -25,8 +25,9 @@ use Rattle.format.proofs.LookOver.{look-over-good}
 use Rattle.quantify.specs.Quantify.{Mem, here, there}
 use Rattle.quantify.proofs.Members.{mem-out}
 use Rattle.jobs.specs.Planning.{schemaOf, stepsOfBook}
-use Rattle.wellformed.specs.Right.{RightState, Right, RightSomewhere}
-use Rattle.wellformed.proofs.States.{state-right, next-right}
+use Rattle.wellformed.specs.Right.{Right, RightSomewhere}
+use Rattle.factsets.proofs.States.{state-right, next-right}
+use Rattle.factsets.specs.Right.{RightState}
 
 module _ (form : Form) (sch : Schema) (ob : TypedObjects) (typed : RightObjects sch ob) (s : List ℕ) (end : ℕ) where
   -- a step of good form is right, and so is the state after it if the state before it is

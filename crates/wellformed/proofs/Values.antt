@@ -10,12 +10,12 @@ use Rattle.terms.specs.Schema.{Schema, TypedObjects}
 use Rattle.terms.specs.Steps.{isAtom, ground}
 use Rattle.limits.specs.Limits.{maxObjects}
 use Rattle.quantify.specs.Quantify.{Mem}
-use Rattle.jobs.specs.Planning.{holding}
-use Rattle.wellformed.specs.Right.{RightStep, RightState}
+use Rattle.factsets.specs.Holding.{holding}
+use Rattle.factsets.specs.Right.{RightStep, RightState}
 use Rattle.wellformed.specs.Grounding.{factOf}
 use Rattle.wellformed.proofs.Atoms.{ground-number}
 use Rattle.wellformed.proofs.Inverse.{fact-of-atom}
-use Rattle.wellformed.proofs.Holding.{holding-in, holding-out}
+use Rattle.factsets.proofs.Holding.{holding-in, holding-out}
 
 pub holds-in : (sch : Schema) (b : Binding) (fs : List Fact) (n : ℕ) → Mem (factOf sch b n) fs → holding fs (ground sch b n) ≡ true
 holds-in sch b fs n m = rw (ground-number sch b n) at (holding-in fs m)

@@ -14,7 +14,7 @@ use Rattle.terms.specs.declared.Fact.{Fact}
 use Rattle.terms.specs.Facts.{precedes}
 use Rattle.terms.proofs.Atoms.{fact-path}
 use Rattle.quantify.specs.Quantify.{Mem, here, there}
-use Rattle.wellformed.specs.Right.{Increasing}
+use Rattle.factsets.specs.Right.{Increasing}
 
 -- the order byte by byte, in plain numbers
 abbrev pub Less : Fact → Fact → Type 0

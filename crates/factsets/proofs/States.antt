@@ -19,8 +19,8 @@ use Rattle.format.specs.Lists.{factsAt, listAt}
 use Rattle.format.proofs.Chains.{chain-parted}
 use Rattle.format.proofs.States.{fact-good, facts-chain, list-good, next-good}
 use Rattle.quantify.specs.Quantify.{Mem, here, there}
-use Rattle.wellformed.specs.Right.{Increasing, RightState}
-use Rattle.wellformed.proofs.Toggled.{toggled-right}
+use Rattle.factsets.specs.Right.{Increasing, RightState}
+use Rattle.factsets.proofs.Toggled.{toggled-right}
 
 pub length-facts : (s : List ℕ) (n at : ℕ) → length (factsAt s n at) ≡ n
 unfolding factsAt

@@ -13,9 +13,9 @@ use Rattle.terms.specs.Facts.{factNumber}
 use Rattle.limits.specs.Limits.{maxObjects}
 use Rattle.quantify.specs.Quantify.{Mem}
 use Rattle.quantify.proofs.Quantify.{any-in, any-out}
-use Rattle.jobs.specs.Planning.{holding}
-use Rattle.wellformed.specs.Right.{RightState}
-use Rattle.wellformed.proofs.Numbers.{number-below}
+use Rattle.factsets.specs.Holding.{holding}
+use Rattle.factsets.specs.Right.{RightState}
+use Rattle.factsets.proofs.Numbers.{number-below}
 
 -- a fact holds in a state exactly if some fact of the list has its number
 pub holding-in : (fs : List Fact) {f : Fact} → Mem f fs → holding fs (factNumber f) ≡ true

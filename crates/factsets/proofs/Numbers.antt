@@ -11,7 +11,7 @@ use Rattle.terms.specs.Schema.{Schema, TypedObjects, outOfRange, objectBad}
 use Rattle.terms.specs.Facts.{factBad, factNumber}
 use Rattle.terms.proofs.Atoms.{range-out, fact-path}
 use Rattle.limits.specs.Limits.{maxObjects}
-use Rattle.wellformed.proofs.Suits.{used-out, unused-out, object-most}
+use Rattle.factsets.proofs.Suits.{used-out, unused-out, object-most}
 
 -- three digits, of which the last two are under 16, are told by their number
 pub digits-same : (a b c d e f : ℕ) → b < 16 → c < 16 → e < 16 → f < 16 → 256 * a + 16 * b + c ≡ 256 * d + 16 * e + f

@@ -20,12 +20,12 @@ use Rattle.terms.specs.Facts.{factBad, factNumber, noFact}
 use Rattle.limits.specs.Limits.{maxRelations, maxObjects, stateSize}
 use Rattle.format.specs.Toggled.{toggle}
 use Rattle.quantify.specs.Quantify.{any, Mem, here, there}
-use Rattle.jobs.specs.Planning.{holding}
-use Rattle.wellformed.specs.Right.{Increasing}
-use Rattle.wellformed.proofs.Numbers.{number-below, number-injective}
-use Rattle.wellformed.proofs.Holding.{holding-in, holding-out}
-use Rattle.wellformed.proofs.Sorted.{mem-decide}
-use Rattle.wellformed.proofs.Toggled.{toggle-from, toggle-kept, toggle-new, toggle-gone, increasing-once}
+use Rattle.factsets.specs.Holding.{holding}
+use Rattle.factsets.specs.Right.{Increasing}
+use Rattle.factsets.proofs.Numbers.{number-below, number-injective}
+use Rattle.factsets.proofs.Holding.{holding-in, holding-out}
+use Rattle.factsets.proofs.Sorted.{mem-decide}
+use Rattle.factsets.proofs.Toggled.{toggle-from, toggle-kept, toggle-new, toggle-gone, increasing-once}
 
 -- a fact of another number does not matter
 holding-skip : (f : Fact) (fs : List Fact) (n : ℕ) → (factNumber f ≡ n → ⊥) → holding (f ∷ fs) n ≡ holding fs n

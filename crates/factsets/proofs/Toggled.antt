@@ -13,8 +13,8 @@ use Rattle.terms.specs.Facts.{factBad, precedes, noFact}
 use Rattle.limits.specs.Limits.{maxFacts}
 use Rattle.format.specs.Toggled.{toggle, toggled}
 use Rattle.quantify.specs.Quantify.{Mem, here, there}
-use Rattle.wellformed.specs.Right.{Increasing, RightState}
-use Rattle.wellformed.proofs.Sorted.{precedes-trans, precedes-self, precedes-not-back, precedes-apart, compare, behind-all, sorted, mem-cons, mem-rest, mem-none, mem-decide, once, same-members}
+use Rattle.factsets.specs.Right.{Increasing, RightState}
+use Rattle.factsets.proofs.Sorted.{precedes-trans, precedes-self, precedes-not-back, precedes-apart, compare, behind-all, sorted, mem-cons, mem-rest, mem-none, mem-decide, once, same-members}
 
 -- ---- one fact turned, by where it stands
 pub toggle-before : (t f : Fact) (fs : List Fact) → precedes t f ≡ true → toggle t (f ∷ fs) ≡ t ∷ f ∷ fs

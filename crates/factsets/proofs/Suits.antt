@@ -13,7 +13,7 @@ use Rattle.terms.specs.declared.Step.{Step}
 use Rattle.terms.specs.Schema.{Schema, TypedObjects, outOfRange, kindSuits, objectBad}
 use Rattle.terms.specs.Steps.{objectOf, argumentBad, stepBad, samePair, repeats}
 use Rattle.terms.proofs.Atoms.{range-out, range-in, four}
-use Rattle.wellformed.specs.Right.{RightStep}
+use Rattle.factsets.specs.Right.{RightStep}
 
 module _ (sch : Schema) (ob : TypedObjects) (named : ℕ) (x : Object) where
   -- a used place has the number of an object of a kind that suits; an unused one has 0
