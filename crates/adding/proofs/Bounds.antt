@@ -6,7 +6,7 @@ use borrow.Author.Tests.{ltb-false}
 use lib.ListN.{length}
 use Rattle.limits.specs.Limits.{maxLength}
 use Rattle.jobs.specs.Add.{added, add}
-use Rattle.answer.specs.Bounds.{Bounded, bounded-good, bounded-then, bounded-row}
+use Rattle.answer.proofs.Bounds.{Bounded, bounded-good, bounded-then, bounded-row}
 use Rattle.lookover.proofs.Laws.{look-over-bounded}
 use Rattle.format.specs.Form.{Form}
 

@@ -6,7 +6,7 @@ use native.Mathlib.Numerals.{add-one}
 use native.Mathlib.Omega.{arith}
 use lib.ListN.{length}
 use Rattle.answer.specs.declared.Answer.the-variants.{Good}
-use Rattle.answer.specs.Walk.{walk, walk-last}
+use Rattle.answer.specs.Walk.{walk}
 use Rattle.input.specs.Bytes.{byteAt, two}
 use Rattle.terms.specs.Sections.{sectionsOf}
 use Rattle.terms.specs.Schema.{schema}
@@ -26,6 +26,7 @@ use Rattle.format.proofs.LookOver.{LookedOver}
 use Rattle.adding.specs.ReadBack.{oneMore}
 use Rattle.adding.proofs.Formed.{length-added}
 use Rattle.adding.proofs.NewBook.{not-renewed, byte-kept, byte-added, header-added}
+use Rattle.answer.proofs.Walks.{walk-last}
 
 module _ (form : Form) (s r : List ℕ) (old : ℕ) (was : LookedOver form s old) (most : length s + length r ≤ maxLength) where
   pub long : headerSize ≤ length s

@@ -9,7 +9,7 @@ use lib.ListN.{length}
 use Rattle.answer.specs.declared.Answer.{Answer}
 use Rattle.answer.specs.declared.Answer.the-variants.{Good, Refused}
 use Rattle.answer.specs.Answer.{_>>=_, refuse}
-use Rattle.answer.specs.Laws.{refuse-met, refuse-unmet, bind-good, bind-unit, bind-assoc, bind-cong}
+use Rattle.answer.proofs.Laws.{refuse-met, refuse-unmet, bind-good, bind-unit, bind-assoc, bind-cong}
 use Rattle.answer.specs.Walk.{walk}
 use Rattle.terms.specs.declared.Sections.{Sections}
 use Rattle.terms.specs.Sections.{sectionsOf}

@@ -10,14 +10,14 @@ use lib.Seq.{take-at}
 use Rattle.answer.specs.declared.Answer.{Answer}
 use Rattle.answer.specs.declared.Answer.the-variants.{Good, Refused}
 use Rattle.answer.specs.Answer.{_>>=_, refuse, isRefused, valueOf, kept}
-use Rattle.answer.specs.Laws.{stays, follows, bind-assoc, refuse-met, refuse-unmet, refused-kept}
+use Rattle.answer.proofs.Laws.{stays, follows, bind-assoc, refuse-met, refuse-unmet, refused-kept}
 use Rattle.terms.specs.declared.Sections.{Sections}
 use Rattle.terms.specs.Sections.{sectionsOf}
 use Rattle.limits.specs.Limits.{headerSize, maxLength, maxRecords, maxRelations}
 use Rattle.format.specs.Form.{Form}
 use Rattle.format.specs.LookOver.{lookOver, allRecords}
 use Rattle.jobs.specs.Add.{added, add, addBytes}
-use Rattle.answer.specs.Turns.{is-good, part-stays}
+use Rattle.answer.proofs.Turns.{is-good, part-stays}
 use Rattle.format.proofs.LookOver.{look-over-good}
 use Rattle.output.specs.Written.{written}
 use Rattle.adding.specs.Outcome.{Outcome}

@@ -8,7 +8,7 @@ use native.Mathlib.Omega.{arith}
 use borrow.Author.Tests.{le-ltb, eq-eqb}
 use lib.ListN.{length}
 use Rattle.answer.specs.declared.Answer.the-variants.{Refused}
-use Rattle.answer.specs.Laws.{refuse-met, refuse-unmet, bind-good, bind-refused}
+use Rattle.answer.proofs.Laws.{refuse-met, refuse-unmet, bind-good, bind-refused}
 use Rattle.terms.specs.Sections.{sectionsOf}
 use Rattle.limits.specs.Limits.{maxLength, maxRecords}
 use Rattle.format.specs.Form.{Form}

@@ -1,11 +1,4 @@
--- The answer of a job, how rows of the refusal table follow each other, and laws of both.
+-- The answer of a job, how rows of the refusal table follow each other, a walk over items, and the table's order as data.
 pub mod Answer
 pub mod Table
-pub mod Laws
 pub mod Walk
-pub mod Turns
-pub mod Bounds
-pub mod Refusals
-pub mod Entries
-pub mod Items
-pub mod Positions

@@ -11,7 +11,7 @@ use lib.ListN.{length, length-append}
 use Rattle.limits.specs.Limits.{headerSize, maxLength}
 use Rattle.answer.specs.declared.Answer.the-variants.{Good, Refused}
 use Rattle.answer.specs.Answer.{_>>=_, refuse, number, place}
-use Rattle.answer.specs.Laws.{bind-good}
+use Rattle.answer.proofs.Laws.{bind-good}
 use Rattle.answer.specs.Walk.{walk}
 use Rattle.input.specs.Bytes.{byteAt, two}
 use Rattle.terms.specs.declared.Sections.{Sections}

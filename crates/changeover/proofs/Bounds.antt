@@ -12,8 +12,8 @@ use Rattle.answer.specs.declared.Answer.{Answer}
 use Rattle.answer.specs.declared.Answer.the-variants.{Good, Refused}
 use Rattle.answer.specs.declared.Positioned.{Positioned}
 use Rattle.answer.specs.Answer.{isRefused, number, unpositioned, thenAt}
-use Rattle.answer.specs.Laws.{passed, parted, bind-assoc}
-use Rattle.answer.specs.Positions.{then-answer}
+use Rattle.answer.proofs.Laws.{passed, parted, bind-assoc}
+use Rattle.answer.proofs.Positions.{then-answer}
 use Rattle.terms.specs.Sections.{sectionsOf}
 use Rattle.terms.specs.declared.Fact.{Fact}
 use Rattle.terms.specs.Schema.{Schema, TypedObjects}
@@ -24,7 +24,7 @@ use Rattle.format.specs.Lists.{listEnd}
 use Rattle.format.specs.Records.{lengthIn, steps}
 use Rattle.format.specs.Decode.{RecordedStep, recordedStepsAt, stepsOfRecord, recordedStep}
 use Rattle.format.specs.Order.{stepCount, goalCount, goal, goalFrom, orderForm}
-use Rattle.answer.specs.Bounds.{Bounded, bounded-good, bounded-then, bounded-row, bounded-wider}
+use Rattle.answer.proofs.Bounds.{Bounded, bounded-good, bounded-then, bounded-row, bounded-wider}
 use Rattle.format.proofs.Records.{head-limits, step-reach, steps-parted, record-good}
 use Rattle.format.proofs.LookOver.{look-over-good}
 use Rattle.lookover.proofs.Laws.{look-over-bounded}

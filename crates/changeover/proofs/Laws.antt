@@ -5,7 +5,7 @@ use native.Mathlib.Omega.{arith}
 use Rattle.answer.specs.declared.Answer.{Answer}
 use Rattle.answer.specs.declared.Positioned.{Positioned}
 use Rattle.answer.specs.Answer.{number, place, packed}
-use Rattle.answer.specs.Bounds.{Bounded, bounded-number, bounded-place}
+use Rattle.answer.proofs.Bounds.{Bounded, bounded-number, bounded-place}
 use Rattle.changeover.specs.Calls.{Says}
 
 -- number, position and place can be packed into one number

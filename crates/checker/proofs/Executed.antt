@@ -8,7 +8,7 @@ use native.Mathlib.Omega.{arith}
 use lib.ListN.{length}
 use Rattle.answer.specs.declared.Answer.the-variants.{Good}
 use Rattle.truth.specs.Bools.{decide}
-use Rattle.answer.specs.Laws.{good-refused}
+use Rattle.answer.proofs.Laws.{good-refused}
 use Rattle.terms.specs.declared.Fact.{Fact}
 use Rattle.terms.specs.declared.Param.{Param}
 use Rattle.terms.specs.declared.Step.{Step}

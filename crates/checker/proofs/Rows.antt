@@ -11,9 +11,9 @@ use Rattle.answer.specs.declared.Answer.{Answer}
 use Rattle.answer.specs.declared.Answer.the-variants.{Good, Refused}
 use Rattle.answer.specs.declared.Positioned.{Positioned}
 use Rattle.answer.specs.Answer.{_>>=_, refuse, isRefused, valueOf, unpositioned, thenAt, kept}
-use Rattle.answer.specs.Laws.{stays, bind-good, refuse-unmet, refused-kept}
-use Rattle.answer.specs.Turns.{is-good}
-use Rattle.answer.specs.Positions.{then-refused, then-by}
+use Rattle.answer.proofs.Laws.{stays, bind-good, refuse-unmet, refused-kept}
+use Rattle.answer.proofs.Turns.{is-good}
+use Rattle.answer.proofs.Positions.{then-refused, then-by}
 use Rattle.limits.specs.Limits.{endSheetSize, observedSize, ruleSize, maxMoves}
 use Rattle.terms.specs.declared.Sections.{Sections}
 use Rattle.terms.specs.declared.Fact.{Fact}

@@ -11,7 +11,7 @@ use lib.ListN.{length, drop, length-append, length-drop}
 use lib.Seq.{take-at, drop-at}
 use Rattle.answer.specs.declared.Answer.the-variants.{Good, Refused}
 use Rattle.answer.specs.Answer.{kept}
-use Rattle.answer.specs.Laws.{good-refused, bind-good, refuse-met, refuse-unmet, passed, parted}
+use Rattle.answer.proofs.Laws.{good-refused, bind-good, refuse-met, refuse-unmet, passed, parted}
 use Rattle.limits.specs.Limits.{maxLength}
 use Rattle.format.specs.Form.{Form}
 use Rattle.format.specs.LookOver.{lookOver}

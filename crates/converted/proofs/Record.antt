@@ -8,9 +8,9 @@ use borrow.Author.Tests.{le-ltb}
 use lib.ListN.{length, length-append}
 use Rattle.truth.specs.Bools.{neither}
 use Rattle.answer.specs.declared.Answer.the-variants.{Good}
-use Rattle.answer.specs.Laws.{refuse-unmet}
+use Rattle.answer.proofs.Laws.{refuse-unmet}
 use Rattle.answer.specs.Walk.{walk}
-use Rattle.answer.specs.Entries.{entries-right, entries-all}
+use Rattle.answer.proofs.Entries.{entries-right, entries-all}
 use Rattle.input.specs.Bytes.{byteAt}
 use Rattle.output.specs.Written.{twoBytes}
 use Rattle.limits.specs.Limits.{headSize, maxFacts, maxObjects, maxSteps}

@@ -6,8 +6,8 @@ use mathlib.Core.List.{List, _++_}
 use native.Mathlib.Omega.{arith}
 use lib.ListN.{length, length-append}
 use Rattle.answer.specs.declared.Answer.the-variants.{Good}
-use Rattle.answer.specs.Laws.{bind-good}
-use Rattle.answer.specs.Walk.{walk, walk-parted}
+use Rattle.answer.proofs.Laws.{bind-good}
+use Rattle.answer.specs.Walk.{walk}
 use Rattle.terms.specs.declared.Sections.{Sections}
 use Rattle.terms.specs.Schema.{schema}
 use Rattle.terms.specs.Typing.{Falling}
@@ -21,6 +21,7 @@ use Rattle.format.proofs.Copies.{placed-append}
 use Rattle.converted.proofs.Stands.{Stands, stands-left, stands-right}
 use Rattle.converted.proofs.Rendering.{recordIn, recordsIn}
 use Rattle.converted.proofs.Record.{head-read, record-rendered, record-told, record-again}
+use Rattle.answer.proofs.Walks.{walk-parted}
 
 -- what is so of records rendered from `at` on, which stand from `at′` on
 pub record RowAgain (form to : Form) (k : Sections) (s t : List ℕ) (n at at′ : ℕ) : Type 0 where

@@ -7,7 +7,7 @@ use native.Mathlib.Omega.{arith}
 use borrow.Author.Tests.{ltb-false}
 use lib.ListN.{length, length-append}
 use Rattle.answer.specs.declared.Answer.the-variants.{Good}
-use Rattle.answer.specs.Walk.{walk, walk-parted}
+use Rattle.answer.specs.Walk.{walk}
 use Rattle.input.specs.Bytes.{byteAt, two}
 use Rattle.output.specs.Written.{twoBytes}
 use Rattle.mask.specs.Bits.{Bytes}
@@ -32,6 +32,7 @@ use Rattle.converted.proofs.Rendered.{length-two, length-listBytes, len
 use Rattle.converted.proofs.Listed.{listed-again}
 use Rattle.converted.proofs.Rendering.{bodyIn, recordIn, recordsIn, length-recordIn}
 use Rattle.converted.proofs.Record.{low-end}
+use Rattle.answer.proofs.Walks.{walk-parted}
 
 -- ---- a list of facts, and a step
 

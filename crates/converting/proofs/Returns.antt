@@ -10,8 +10,8 @@ use borrow.Author.Tests.{ltb-false, lt-ltb, le-ltb}
 use Rattle.answer.specs.declared.Answer.{Answer}
 use Rattle.answer.specs.declared.Answer.the-variants.{Good, Refused}
 use Rattle.answer.specs.Answer.{_>>=_, refuse, isRefused, valueOf, kept}
-use Rattle.answer.specs.Laws.{stays, follows, bind-good, bind-assoc, bind-cong, passed, refuse-met, refuse-unmet, refused-kept}
-use Rattle.answer.specs.Turns.{is-good}
+use Rattle.answer.proofs.Laws.{stays, follows, bind-good, bind-assoc, bind-cong, passed, refuse-met, refuse-unmet, refused-kept}
+use Rattle.answer.proofs.Turns.{is-good}
 use Rattle.limits.specs.Limits.{maxLength}
 use Rattle.output.specs.Written.{written}
 use Rattle.output.proofs.Written.{front-written}

@@ -10,9 +10,9 @@ use lib.ListN.{length}
 use borrow.Author.Tests.{le-ltb}
 use Rattle.truth.specs.Bools.{decide}
 use Rattle.answer.specs.declared.Answer.the-variants.{Good}
-use Rattle.answer.specs.Laws.{refuse-unmet}
-use Rattle.answer.specs.Walk.{walk, walk-none, walk-last}
-use Rattle.answer.specs.Entries.{entries-right, entries-all}
+use Rattle.answer.proofs.Laws.{refuse-unmet}
+use Rattle.answer.specs.Walk.{walk}
+use Rattle.answer.proofs.Entries.{entries-right, entries-all}
 use Rattle.limits.specs.Limits.{headerSize, countSize, factSize, entrySize, stepSize, maxFacts}
 use Rattle.input.specs.Bytes.{two}
 use Rattle.terms.specs.declared.Object.{Object}
@@ -33,6 +33,7 @@ use Rattle.format.proofs.Reading.{Facing, facing-on, byte-copied, two-copied, f
 use Rattle.jobs.specs.Alone.{startSize, goalAlone, aloneAt}
 use Rattle.demand.proofs.Alone.{StartIn, start-end, goal-alone-is, length-alone, starts-one, goal-at, objects-there, start-there, rest-there}
 use Rattle.demand.proofs.AloneRead.{objects-same, goals-same, steps-same, start-at, steps-at, end-is, header}
+use Rattle.answer.proofs.Walks.{walk-none, walk-last}
 
 -- ---- facts and steps over objects that are as many and of the same kinds
 

@@ -11,7 +11,7 @@ use Rattle.answer.specs.Answer.{kept}
 use Rattle.limits.specs.Limits.{ruleSize}
 use Rattle.answer.specs.declared.Answer.the-variants.{Good}
 use Rattle.truth.specs.Bools.{clash, not-self, is-false}
-use Rattle.answer.specs.Laws.{bind-good, refuse-unmet}
+use Rattle.answer.proofs.Laws.{bind-good, refuse-unmet}
 use Rattle.terms.specs.Steps.{isAtom}
 use Rattle.format.specs.Form.{Form}
 use Rattle.format.specs.Decode.{RecordedStep}

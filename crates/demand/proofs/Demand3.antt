@@ -12,10 +12,10 @@ use Rattle.answer.specs.declared.Answer.{Answer}
 use Rattle.answer.specs.declared.Answer.the-variants.{Good, Refused}
 use Rattle.answer.specs.Answer.{_>>=_, isRefused, number, unpositioned, kept}
 use Rattle.truth.specs.Bools.{clash, decide, is-true}
-use Rattle.answer.specs.Laws.{kept-same, bind-good, bind-refused, bind-assoc, refuse-unmet}
-use Rattle.answer.specs.Positions.{then-refused, then-by, then-answer}
+use Rattle.answer.proofs.Laws.{kept-same, bind-good, bind-refused, bind-assoc, refuse-unmet}
+use Rattle.answer.proofs.Positions.{then-refused, then-by, then-answer}
 use Rattle.answer.specs.Table.{table, rowFrom, row, upTo, MetFrom, isImpossible}
-use Rattle.answer.specs.Refusals.{from-earlier, from-good, from-row, from-bind, impossible-early, impossible-refused}
+use Rattle.answer.proofs.Refusals.{from-earlier, from-good, from-row, from-bind, impossible-early, impossible-refused}
 use Rattle.mask.proofs.Whole.{length-maskOf, test-maskOf}
 use Rattle.format.specs.Form.{Form}
 use Rattle.format.specs.LookOver.{lookOver}

@@ -13,9 +13,9 @@ use Rattle.answer.specs.declared.Answer.{Answer}
 use Rattle.answer.specs.declared.Answer.the-variants.{Good, Refused}
 use Rattle.answer.specs.declared.Positioned.{Positioned}
 use Rattle.answer.specs.Answer.{_>>=_, refuse, isRefused, unpositioned, thenAt}
-use Rattle.answer.specs.Laws.{bind-good, bind-refused}
-use Rattle.answer.specs.Positions.{then-by}
-use Rattle.answer.specs.Walk.{walk, walk-parted}
+use Rattle.answer.proofs.Laws.{bind-good, bind-refused}
+use Rattle.answer.proofs.Positions.{then-by}
+use Rattle.answer.specs.Walk.{walk}
 use Rattle.limits.specs.Limits.{headerSize, endSheetSize, maxFacts}
 use Rattle.input.specs.Bytes.{byteAt}
 use Rattle.terms.specs.Schema.{Schema, typedObjects}
@@ -39,6 +39,7 @@ use Rattle.demand.proofs.Alone.{StartIn, start-end, objects-there}
 use Rattle.demand.proofs.AloneRead.{objects-same, steps-same, starts-alone, goal-same, plan-same}
 use Rattle.demand.proofs.AloneGood.{alone-good}
 use Rattle.factsets.specs.Holding.{holding}
+use Rattle.answer.proofs.Walks.{walk-parted}
 
 -- ---- the starts of an order of good form
 

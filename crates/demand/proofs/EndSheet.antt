@@ -13,8 +13,8 @@ use Rattle.truth.specs.Bools.{clash, is-false}
 use Rattle.answer.specs.declared.Answer.{Answer}
 use Rattle.answer.specs.declared.Answer.the-variants.{Good}
 use Rattle.answer.specs.Answer.{_>>=_, refuse, number, unpositioned, kept}
-use Rattle.answer.specs.Laws.{bind-good}
-use Rattle.answer.specs.Positions.{then-answer}
+use Rattle.answer.proofs.Laws.{bind-good}
+use Rattle.answer.proofs.Positions.{then-answer}
 use Rattle.mask.specs.Bits.{testBit}
 use Rattle.mask.specs.Sets.{maskOf}
 use Rattle.mask.proofs.Bytes.{test-past}

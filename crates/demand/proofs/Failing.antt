@@ -9,7 +9,7 @@ use Rattle.answer.specs.declared.Answer.the-variants.{Good, Refused}
 use Rattle.answer.specs.declared.Positioned.{Positioned}
 use Rattle.answer.specs.Answer.{isRefused, unpositioned}
 use Rattle.answer.specs.Table.{table, rowFrom, row, upTo, MetFrom}
-use Rattle.answer.specs.Refusals.{from-good, from-refused}
+use Rattle.answer.proofs.Refusals.{from-good, from-refused}
 use Rattle.quantify.specs.Quantify.{first}
 use Rattle.model.specs.Domain.{State, GoalLiteral}
 use Rattle.model.specs.Model.{Run, stopped, ended}

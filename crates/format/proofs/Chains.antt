@@ -9,8 +9,8 @@ use native.Mathlib.Omega.{arith}
 use Rattle.answer.specs.declared.Answer.{Answer}
 use Rattle.answer.specs.declared.Answer.the-variants.{Good, Refused}
 use Rattle.answer.specs.Answer.{_>>=_, refuse}
-use Rattle.answer.specs.Laws.{good-refused, refuse-met, refuse-unmet, passed}
-use Rattle.answer.specs.Refusals.{row-cases}
+use Rattle.answer.proofs.Laws.{good-refused, refuse-met, refuse-unmet, passed}
+use Rattle.answer.proofs.Refusals.{row-cases}
 
 -- `f` answers for a number of entries after one of which `last` was read; `read` is what is read at an offset
 pub record Chain {A : Type 0} (f : ℕ → A → ℕ → Answer) (bad : A → ℕ → Bool) (read : ℕ → A) (num size : ℕ) : Type 0 where

@@ -10,9 +10,9 @@ use lib.ListN.{length}
 use Rattle.answer.specs.declared.Answer.{Answer}
 use Rattle.answer.specs.declared.Answer.the-variants.{Good}
 use Rattle.truth.specs.Bools.{neither}
-use Rattle.answer.specs.Laws.{passed, refuse-unmet, bind-good}
-use Rattle.answer.specs.Walk.{walk, walk-induction, walk-beside}
-use Rattle.answer.specs.Entries.{entries-right, entries-all}
+use Rattle.answer.proofs.Laws.{passed, refuse-unmet, bind-good}
+use Rattle.answer.specs.Walk.{walk}
+use Rattle.answer.proofs.Entries.{entries-right, entries-all}
 use Rattle.input.specs.Bytes.{byteAt, two}
 use Rattle.terms.specs.declared.Fact.{Fact}
 use Rattle.terms.specs.declared.Sections.{Sections}
@@ -33,6 +33,7 @@ use Rattle.format.proofs.States.{fact-good, count-within, list-ends, ne
 use Rattle.format.proofs.Records.{head-in-limits, head-passed, head-limits, object-entry, step-good, step-reach, step-ends, steps-parted, steps-within, record-good, record-in, record-within}
 use Rattle.format.proofs.Typing.{objects-known}
 use Rattle.format.proofs.Reading.{Copied, Facing, facing-on, byte-copied, two-copied, fact-copied, filed-step-copied, head-copied, end-copied, list-copied}
+use Rattle.answer.proofs.Walks.{walk-induction, walk-beside}
 
 pub placed-same : (fs : List RecordedStep) → placedBy (λ p. p) fs ≡ fs
 unfolding placedBy placedAt

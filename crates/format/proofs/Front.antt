@@ -14,9 +14,9 @@ use lib.ListN.{length}
 use Rattle.truth.specs.Bools.{or-right}
 use Rattle.answer.specs.declared.Answer.the-variants.{Good}
 use Rattle.answer.specs.Answer.{_>>=_, refuse}
-use Rattle.answer.specs.Laws.{refuse-unmet, bind-good, bind-cong}
+use Rattle.answer.proofs.Laws.{refuse-unmet, bind-good, bind-cong}
 use Rattle.answer.specs.Walk.{walk}
-use Rattle.answer.specs.Entries.{entries-all}
+use Rattle.answer.proofs.Entries.{entries-all}
 use Rattle.input.specs.Bytes.{byteAt, two}
 use Rattle.limits.specs.Limits.{headerSize, maxLength, maxKinds, maxRelations, maxMoves, maxRecords, relationSize, moveSize}
 use Rattle.terms.specs.declared.Section.{Section}

@@ -10,12 +10,12 @@ use lib.Dec.{eqb}
 use lib.ListN.{length}
 use Rattle.answer.specs.declared.Answer.the-variants.{Good, Refused}
 use Rattle.truth.specs.Bools.{neither, or-out}
-use Rattle.answer.specs.Laws.{passed, parted, refuse-unmet, bind-good, none-over}
+use Rattle.answer.proofs.Laws.{passed, parted, refuse-unmet, bind-good, none-over}
 use Rattle.answer.specs.Walk.{walk}
 use Rattle.answer.specs.Answer.{maxNumber}
 use Rattle.answer.specs.Table.{table, rowFrom, row, upTo, Between}
-use Rattle.answer.specs.Refusals.{refused-cases, row-cases, between-at}
-use Rattle.answer.specs.Entries.{Entry, entries-end, entries-right, entries-place}
+use Rattle.answer.proofs.Refusals.{refused-cases, row-cases, between-at}
+use Rattle.answer.proofs.Entries.{Entry, entries-end, entries-right, entries-place}
 use Rattle.terms.specs.declared.Sections.{Sections}
 use Rattle.limits.specs.Limits.{headerSize, maxLength, maxKinds, maxRelations, maxMoves, maxRecords, relationSize, moveSize}
 use Rattle.format.specs.Header.{lengthBad, countsBad, offsetsBad, parentBad, relationBad, moveBad, parent, relation, move, sections}

@@ -6,9 +6,9 @@ use lib.ListN.{length}
 use native.Mathlib.Omega.{arith}
 use borrow.Author.Tests.{ltb-false, le-ltb}
 use Rattle.answer.specs.declared.Answer.the-variants.{Good}
-use Rattle.answer.specs.Laws.{passed, parted, refuse-unmet, bind-good}
+use Rattle.answer.proofs.Laws.{passed, parted, refuse-unmet, bind-good}
 use Rattle.answer.specs.Walk.{walk}
-use Rattle.answer.specs.Turns.{walk-within}
+use Rattle.answer.proofs.Turns.{walk-within}
 use Rattle.terms.specs.Sections.{sectionsOf}
 use Rattle.format.specs.Form.{Form}
 use Rattle.format.specs.Header.{sections}

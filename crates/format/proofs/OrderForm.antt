@@ -8,15 +8,15 @@ use lib.Dec.{ltb}
 use lib.ListN.{length}
 use Rattle.answer.specs.declared.Answer.{Answer}
 use Rattle.answer.specs.declared.Answer.the-variants.{Good, Refused}
-use Rattle.answer.specs.Laws.{good-refused, passed, parted, bind-good, refuse-unmet}
+use Rattle.answer.proofs.Laws.{good-refused, passed, parted, bind-good, refuse-unmet}
 use Rattle.answer.specs.Walk.{walk}
-use Rattle.answer.specs.Turns.{walk-within}
-use Rattle.answer.specs.Items.{items-end, items-place}
+use Rattle.answer.proofs.Turns.{walk-within}
+use Rattle.answer.proofs.Items.{items-end, items-place}
 use Rattle.answer.specs.Answer.{maxNumber}
 use Rattle.answer.specs.Table.{table, rowFrom, row, upTo, Between, MetFrom}
-use Rattle.answer.specs.Refusals.{refused-cases, row-cases, between-at}
-use Rattle.answer.specs.Entries.{entries-end, entries-place}
-use Rattle.answer.specs.Bounds.{Bounded, bounded-of}
+use Rattle.answer.proofs.Refusals.{refused-cases, row-cases, between-at}
+use Rattle.answer.proofs.Entries.{entries-end, entries-place}
+use Rattle.answer.proofs.Bounds.{Bounded, bounded-of}
 use Rattle.terms.specs.Schema.{Schema, TypedObjects, typedObjects, outOfRange}
 use Rattle.terms.specs.Facts.{noFact}
 use Rattle.limits.specs.Limits.{headerSize, maxStarts, maxFacts, entrySize, stepSize}

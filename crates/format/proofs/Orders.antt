@@ -8,8 +8,8 @@ use lib.Dec.{eqb, ltb}
 use lib.ListN.{length}
 use Rattle.truth.specs.Bools.{neither}
 use Rattle.answer.specs.declared.Answer.the-variants.{Good}
-use Rattle.answer.specs.Laws.{none-over, refuse-unmet, passed}
-use Rattle.answer.specs.Entries.{Entry}
+use Rattle.answer.proofs.Laws.{none-over, refuse-unmet, passed}
+use Rattle.answer.proofs.Entries.{Entry}
 use Rattle.input.specs.Bytes.{byteAt, two}
 use Rattle.terms.specs.declared.Fact.{Fact}
 use Rattle.terms.specs.Schema.{Schema, TypedObjects, outOfRange}

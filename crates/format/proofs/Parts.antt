@@ -11,7 +11,7 @@ use lib.Seq.{length-take-le, drop-length, drop-drop, getD-take, getD-drop}
 use borrow.Author.Tests.{ltb-false}
 use Rattle.answer.specs.declared.Answer.the-variants.{Good}
 use Rattle.truth.specs.Bools.{neither}
-use Rattle.answer.specs.Walk.{walk, walk-induction}
+use Rattle.answer.specs.Walk.{walk}
 use Rattle.input.specs.Bytes.{byteAt}
 use Rattle.limits.specs.Limits.{moveSize, maxParams}
 use Rattle.terms.specs.declared.Sections.{Sections}
@@ -31,6 +31,7 @@ use Rattle.format.proofs.LookOver.{LookedOver}
 use Rattle.format.proofs.Reading.{Copied, head-copied}
 use Rattle.format.proofs.Front.{header-same, parents-same, schema-same}
 use Rattle.format.proofs.Copies.{placed-same, recorded-copied}
+use Rattle.answer.proofs.Walks.{walk-induction}
 
 module _ (form : Form) (h : Sections) (s : List ℕ) where
   module _ (at next : ℕ) (good : recordAt form h s at ≡ Good next) where

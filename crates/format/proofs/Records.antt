@@ -9,9 +9,9 @@ use lib.Dec.{eqb, ltb}
 use borrow.Author.Tests.{ltb-false, eqb-false}
 use Rattle.answer.specs.declared.Answer.the-variants.{Good}
 use Rattle.truth.specs.Bools.{neither}
-use Rattle.answer.specs.Laws.{passed, parted, refuse-unmet, bind-good, none-over}
+use Rattle.answer.proofs.Laws.{passed, parted, refuse-unmet, bind-good, none-over}
 use Rattle.answer.specs.Walk.{walk}
-use Rattle.answer.specs.Entries.{Entry, item-good, entries-end}
+use Rattle.answer.proofs.Entries.{Entry, item-good, entries-end}
 use Rattle.input.specs.Bytes.{byteAt}
 use Rattle.terms.specs.declared.Sections.{Sections}
 use Rattle.terms.specs.declared.Fact.{Fact}

@@ -9,9 +9,9 @@ use borrow.Author.Tests.{ltb-false, le-ltb, not-false}
 use Rattle.answer.specs.declared.Answer.the-variants.{Good, Refused}
 use Rattle.truth.specs.Bools.{neither}
 use Rattle.answer.specs.Answer.{maxNumber}
-use Rattle.answer.specs.Laws.{passed, parted, bind-good, refuse-unmet}
-use Rattle.answer.specs.Refusals.{row-cases}
-use Rattle.answer.specs.Bounds.{Bounded, bounded-good, bounded-row, bounded-then}
+use Rattle.answer.proofs.Laws.{passed, parted, bind-good, refuse-unmet}
+use Rattle.answer.proofs.Refusals.{row-cases}
+use Rattle.answer.proofs.Bounds.{Bounded, bounded-good, bounded-row, bounded-then}
 use Rattle.input.specs.Bytes.{two}
 use Rattle.terms.specs.declared.Fact.{Fact}
 use Rattle.terms.specs.Schema.{Schema, TypedObjects}

@@ -10,7 +10,7 @@ use borrow.Author.Tests.{leb-false, ltb-false, le-leb}
 use Rattle.truth.specs.Bools.{neither}
 use Rattle.answer.specs.declared.Answer.the-variants.{Good}
 use Rattle.answer.specs.Walk.{walk}
-use Rattle.answer.specs.Entries.{entries-right}
+use Rattle.answer.proofs.Entries.{entries-right}
 use Rattle.input.specs.Bytes.{byteAt}
 use Rattle.limits.specs.Limits.{headerSize, maxParams}
 use Rattle.terms.specs.declared.Sections.{Sections}

@@ -8,8 +8,8 @@ use mathlib.Core.Bool.{Bool, true, false}
 use mathlib.Core.List.{List, [], _∷_}
 use Rattle.answer.specs.declared.Answer.the-variants.{Good, Refused}
 use Rattle.answer.specs.Answer.{firstRefused, maxNumber}
-use Rattle.answer.specs.Laws.{refuse-met, refuse-unmet}
-use Rattle.answer.specs.Bounds.{Bounded, bounded-good, bounded-row}
+use Rattle.answer.proofs.Laws.{refuse-met, refuse-unmet}
+use Rattle.answer.proofs.Bounds.{Bounded, bounded-good, bounded-row}
 use Rattle.truth.specs.Bools.{clash, decide, neither}
 use Rattle.quantify.specs.Quantify.{any, Mem, here, there}
 

@@ -9,8 +9,8 @@ use Rattle.answer.specs.declared.Answer.{Answer}
 use Rattle.answer.specs.declared.Answer.the-variants.{Good, Refused}
 use Rattle.answer.specs.Answer.{_>>=_, refuse, isRefused, valueOf, kept}
 use Rattle.truth.specs.Bools.{clash}
-use Rattle.answer.specs.Laws.{stays, follows, bind-good, bind-assoc, parted, refused-kept}
-use Rattle.answer.specs.Turns.{is-good, part-stays, part-follows}
+use Rattle.answer.proofs.Laws.{stays, follows, bind-good, bind-assoc, parted, refused-kept}
+use Rattle.answer.proofs.Turns.{is-good, part-stays, part-follows}
 use Rattle.terms.specs.declared.Sections.{Sections}
 use Rattle.terms.specs.Sections.{sectionsOf}
 use Rattle.terms.specs.Schema.{schema}

@@ -10,7 +10,7 @@ use Rattle.format.specs.Form.{full}
 use Rattle.answer.specs.declared.Answer.{Answer}
 use Rattle.answer.specs.declared.Answer.the-variants.{Good, Refused}
 use Rattle.answer.specs.Answer.{_>>=_, refuse, kept}
-use Rattle.answer.specs.Laws.{parted}
+use Rattle.answer.proofs.Laws.{parted}
 use Rattle.limits.specs.Limits.{maxMoves, ruleSize}
 use Rattle.terms.specs.declared.Sections.{Sections}
 use Rattle.terms.specs.Sections.{sectionsOf}

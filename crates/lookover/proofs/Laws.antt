@@ -7,7 +7,7 @@ use native.Mathlib.Nat.{add-zero}
 use native.Mathlib.Omega.{arith}
 use Rattle.answer.specs.declared.Answer.{Answer}
 use Rattle.answer.specs.Answer.{_>>=_, isRefused, valueOf}
-use Rattle.answer.specs.Laws.{bind-unit}
+use Rattle.answer.proofs.Laws.{bind-unit}
 use Rattle.answer.specs.Walk.{walk}
 use Rattle.terms.specs.declared.Sections.{Sections}
 use Rattle.terms.specs.Sections.{sectionsOf}
@@ -17,8 +17,8 @@ use Rattle.format.specs.Header.{sections}
 use Rattle.format.specs.Records.{stepsIn, recordAt}
 use Rattle.format.specs.LookOver.{stepTotal, allRecords, lookOverBy, lookOver}
 use Rattle.format.proofs.Header.{sections-good, sections-place}
-use Rattle.answer.specs.Bounds.{Bounded, bounded-of, bounded-good, bounded-then, bounded-row, bounded-wider}
-use Rattle.answer.specs.Turns.{part-stays, part-follows}
+use Rattle.answer.proofs.Bounds.{Bounded, bounded-of, bounded-good, bounded-then, bounded-row, bounded-wider}
+use Rattle.answer.proofs.Turns.{part-stays, part-follows}
 use Rattle.records.specs.declared.Head.{Head}
 use Rattle.records.specs.Head.{headOf}
 use Rattle.records.specs.Rows.{bookEnd}

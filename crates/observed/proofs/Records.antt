@@ -5,7 +5,7 @@ use native.Mathlib.Omega.{arith}
 use mathlib.Core.Path.{_≡_, refl, sym, ap, ap₂, _∙_}
 use mathlib.Core.List.{List, [], _∷_, _++_, append-assoc}
 use Rattle.answer.specs.declared.Answer.the-variants.{Good}
-use Rattle.answer.specs.Walk.{walk, walk-induction}
+use Rattle.answer.specs.Walk.{walk}
 use Rattle.terms.specs.declared.Sections.{Sections}
 use Rattle.format.specs.Form.{Form}
 use Rattle.format.specs.Records.{recordAt}
@@ -14,6 +14,7 @@ use Rattle.format.specs.Parts.{recordPart, recordsAt, offsetAfter}
 use Rattle.format.proofs.Records.{record-within}
 use Rattle.format.proofs.Parts.{record-length, record-alone}
 use Rattle.observed.specs.Observed.{Observed, observe, observeAll, observedAfter, observedAfterAll}
+use Rattle.answer.proofs.Walks.{walk-induction}
 
 observe-append : (fs gs : List RecordedStep) (h : Observed) → observeAll (fs ++ gs) h ≡ observeAll gs (observeAll fs h)
 unfolding observeAll

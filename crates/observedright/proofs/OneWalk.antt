@@ -11,7 +11,7 @@ use lib.Seq.{take-at, getD-append-add}
 use Rattle.answer.specs.declared.Answer.{Answer}
 use Rattle.answer.specs.declared.Answer.the-variants.{Good}
 use Rattle.answer.specs.Answer.{_>>=_}
-use Rattle.answer.specs.Laws.{parted}
+use Rattle.answer.proofs.Laws.{parted}
 use Rattle.input.specs.Bytes.{byteAt, two}
 use Rattle.output.specs.Written.{twoBytes}
 use Rattle.limits.specs.Limits.{maxLength, stepSize, observedSize}

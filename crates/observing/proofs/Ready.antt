@@ -9,7 +9,7 @@ use mathlib.Core.List.{List}
 use lib.ListN.{length}
 use Rattle.truth.specs.Bools.{clash, is-false}
 use Rattle.answer.specs.declared.Answer.the-variants.{Good}
-use Rattle.answer.specs.Laws.{parted}
+use Rattle.answer.proofs.Laws.{parted}
 use Rattle.mask.specs.Bits.{testBit}
 use Rattle.mask.specs.Sets.{maskOf, cardinality}
 use Rattle.mask.proofs.Bytes.{test-past}

@@ -7,7 +7,7 @@ use Rattle.truth.specs.Bools.{clash}
 use Rattle.answer.specs.declared.Answer.{Answer}
 use Rattle.answer.specs.declared.Answer.the-variants.{Good, Refused}
 use Rattle.answer.specs.Answer.{isRefused}
-use Rattle.answer.specs.Laws.{good-refused, refused-good, bind-good, parted}
+use Rattle.answer.proofs.Laws.{good-refused, refused-good, bind-good, parted}
 use Rattle.terms.specs.declared.Sections.{Sections}
 use Rattle.terms.specs.Schema.{Schema, TypedObjects, schema, typedObjects}
 use Rattle.terms.specs.Typing.{Falling}

@@ -5,7 +5,7 @@ use mathlib.Core.List.{List}
 use native.Mathlib.Numerals.{sub-one}
 use native.Mathlib.Omega.{arith}
 use Rattle.answer.specs.declared.Answer.the-variants.{Good, Refused}
-use Rattle.answer.specs.Laws.{good-refused}
+use Rattle.answer.proofs.Laws.{good-refused}
 use Rattle.terms.specs.declared.Sections.{Sections}
 use Rattle.format.specs.Form.{Form}
 use Rattle.format.specs.LookOver.{allRecords}

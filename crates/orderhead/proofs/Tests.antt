@@ -7,7 +7,7 @@ use lib.Dec.{eqb, ltb}
 use lib.ListN.{length}
 use Rattle.answer.specs.declared.Answer.the-variants.{Good, Refused}
 use Rattle.answer.specs.Answer.{_>>=_, refuse}
-use Rattle.answer.specs.Laws.{refuse-met, refuse-unmet}
+use Rattle.answer.proofs.Laws.{refuse-met, refuse-unmet}
 use Rattle.input.specs.Bytes.{two}
 use Rattle.terms.specs.declared.Objects.{Objects}
 use Rattle.terms.specs.Schema.{outOfRange}

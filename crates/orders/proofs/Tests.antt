@@ -9,9 +9,9 @@ use borrow.Author.Tests.{lt-ltb, le-ltb}
 use Rattle.answer.specs.declared.Answer.{Answer}
 use Rattle.answer.specs.declared.Answer.the-variants.{Good, Refused}
 use Rattle.answer.specs.Answer.{_>>=_, refuse, isRefused, valueOf}
-use Rattle.answer.specs.Laws.{refuse-met, refuse-unmet}
+use Rattle.answer.proofs.Laws.{refuse-met, refuse-unmet}
 use Rattle.answer.specs.Walk.{walk}
-use Rattle.answer.specs.Turns.{is-good, part-stays, part-follows, part-then}
+use Rattle.answer.proofs.Turns.{is-good, part-stays, part-follows, part-then}
 use Rattle.input.specs.Bytes.{byteAt}
 use Rattle.terms.specs.declared.Sections.{Sections}
 use Rattle.terms.specs.declared.Objects.{Objects}

@@ -3,7 +3,7 @@ use Prim.Native.Nat.{ℕ, _+_}
 use mathlib.Core.Path.{_≡_, refl, sym, ap, ap₂, _∙_}
 use mathlib.Core.List.{List, [], _∷_, _++_, flatMap}
 use Rattle.answer.specs.declared.Answer.the-variants.{Good}
-use Rattle.answer.specs.Walk.{walk, walk-induction}
+use Rattle.answer.specs.Walk.{walk}
 use Rattle.terms.specs.declared.Sections.{Sections}
 use Rattle.format.specs.Form.{Form}
 use Rattle.format.specs.Records.{stepsIn, lengthIn, recordAt}
@@ -15,6 +15,7 @@ use Rattle.format.proofs.Copies.{placed-append}
 use Rattle.format.proofs.Parts.{record-alone, steps-alone}
 use Rattle.converted.specs.Converted.{unplaced}
 use Rattle.permuted.proofs.Sequences.{total}
+use Rattle.answer.proofs.Walks.{walk-induction}
 
 -- the steps that the bytes of a record say by themselves, without their places
 unfoldable pub stepsAlone : Form → List ℕ → List RecordedStep

@@ -7,7 +7,7 @@ use native.Mathlib.Omega.{arith}
 use borrow.Author.Tests.{ltb-false}
 use Rattle.answer.specs.declared.Answer.the-variants.{Good}
 use Rattle.truth.specs.Bools.{neither}
-use Rattle.answer.specs.Laws.{parted}
+use Rattle.answer.proofs.Laws.{parted}
 use Rattle.answer.specs.Walk.{walk}
 use Rattle.terms.specs.declared.Fact.{Fact}
 use Rattle.terms.specs.declared.Sections.{Sections}
@@ -18,7 +18,7 @@ use Rattle.format.specs.Form.{Form, stateAfter}
 use Rattle.format.specs.States.{cut}
 use Rattle.format.specs.Records.{recordHead, object, step, steps, trajectory, body, recordAt, stepRefused, closed}
 use Rattle.format.specs.LookOver.{stepTotal}
-use Rattle.answer.specs.Bounds.{Bounded, bounded-good, bounded-then, bounded-row, bounded-walk, bounded-wider}
+use Rattle.answer.proofs.Bounds.{Bounded, bounded-good, bounded-then, bounded-row, bounded-walk, bounded-wider}
 use Rattle.format.proofs.States.{list-bounded, next-bounded}
 use Rattle.format.proofs.Records.{head-in-limits, head-limits, head-end, record-within, record-steps}
 

@@ -12,7 +12,7 @@ use borrow.Author.Tests.{lt-ltb, le-ltb}
 use Rattle.answer.specs.declared.Answer.{Answer}
 use Rattle.answer.specs.declared.Answer.the-variants.{Good, Refused}
 use Rattle.answer.specs.Answer.{isRefused, valueOf}
-use Rattle.answer.specs.Laws.{refuse-met, refuse-unmet, bind-good, bind-refused}
+use Rattle.answer.proofs.Laws.{refuse-met, refuse-unmet, bind-good, bind-refused}
 use Rattle.answer.specs.Walk.{walk}
 use Rattle.terms.specs.declared.Sections.{Sections}
 use Rattle.terms.specs.Schema.{schema, typedObjects}
@@ -21,7 +21,7 @@ use Rattle.tables.specs.Tables.{RightByKind, RightByPlace}
 use Rattle.format.specs.Form.{Form}
 use Rattle.format.specs.Records.{stepsIn, lengthIn, headBad, recordHead, object, objectsOf, trajectory, body, recordAt, closed}
 use Rattle.format.specs.LookOver.{stepTotal, allRecords}
-use Rattle.answer.specs.Turns.{part-stays, part-follows}
+use Rattle.answer.proofs.Turns.{part-stays, part-follows}
 use Rattle.records.specs.declared.Head.{Head}
 use Rattle.records.specs.declared.Scope.{Scope}
 use Rattle.records.specs.Head.{headOf}

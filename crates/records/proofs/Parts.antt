@@ -13,7 +13,7 @@ use Rattle.answer.specs.declared.Answer.{Answer}
 use Rattle.answer.specs.declared.Answer.the-variants.{Good, Refused}
 use Rattle.answer.specs.Answer.{_>>=_, refuse, isRefused, valueOf}
 use Rattle.truth.specs.Bools.{neither}
-use Rattle.answer.specs.Laws.{refuse-met, refuse-unmet, bind-good, bind-refused, passed, parted}
+use Rattle.answer.proofs.Laws.{refuse-met, refuse-unmet, bind-good, bind-refused, passed, parted}
 use Rattle.input.specs.Bytes.{byteAt}
 use Rattle.terms.specs.declared.Fact.{Fact}
 use Rattle.terms.specs.declared.Step.{Step}
@@ -27,7 +27,7 @@ use Rattle.format.specs.States.{cut, list, state, nextState}
 use Rattle.format.specs.Records.{stepRefused, step, steps, trajectory}
 use Rattle.records.specs.Readable.{stepAlone, stepListed}
 use Rattle.records.specs.Rows.{stepAfter}
-use Rattle.answer.specs.Turns.{is-good, part-stays, part-follows}
+use Rattle.answer.proofs.Turns.{is-good, part-stays, part-follows}
 
 -- a step after its list, as the code meets it
 module _ (at held next : ℕ) where

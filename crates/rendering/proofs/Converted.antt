@@ -9,7 +9,7 @@ use borrow.Author.Tests.{lt-ltb, le-ltb}
 use lib.ListN.{length, take, drop, length-append, length-take, length-drop}
 use lib.Seq.{take-add, drop-drop, length-take-le}
 use Rattle.answer.specs.declared.Answer.the-variants.{Good, Refused}
-use Rattle.answer.specs.Laws.{good-refused, refuse-met, refuse-unmet}
+use Rattle.answer.proofs.Laws.{good-refused, refuse-met, refuse-unmet}
 use Rattle.output.specs.Written.{written, twoBytes}
 use Rattle.terms.specs.declared.Sections.{Sections}
 use Rattle.terms.specs.Sections.{sectionsOf}

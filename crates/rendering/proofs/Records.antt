@@ -6,7 +6,7 @@ use mathlib.Core.Path.{_≡_, refl, _∙_}
 use mathlib.Core.Bool.{true, false, not, Bool·not-not}
 use mathlib.Core.List.{List, [], _∷_, _++_, append-assoc}
 use lib.ListN.{length, take, drop}
-use Rattle.answer.specs.Walk.{walk-parted}
+use Rattle.answer.proofs.Walks.{walk-parted}
 use Rattle.input.specs.Bytes.{byteAt, two}
 use Rattle.output.specs.Written.{written, twoBytes}
 use Rattle.terms.specs.declared.Fact.{Fact}

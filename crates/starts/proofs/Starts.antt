@@ -12,9 +12,9 @@ use Rattle.answer.specs.declared.Answer.the-variants.{Good}
 use Rattle.answer.specs.declared.Positioned.{Positioned}
 use Rattle.answer.specs.Answer.{isRefused, valueOf, unpositioned, kept}
 use Rattle.truth.specs.Bools.{clash, decide}
-use Rattle.answer.specs.Laws.{kept-same, refused-good, refused-kept}
-use Rattle.answer.specs.Turns.{is-good}
-use Rattle.answer.specs.Walk.{walk, walk-parted}
+use Rattle.answer.proofs.Laws.{kept-same, refused-good, refused-kept}
+use Rattle.answer.proofs.Turns.{is-good}
+use Rattle.answer.specs.Walk.{walk}
 use Rattle.input.specs.Bytes.{two}
 use Rattle.limits.specs.Limits.{maxLength, maxFacts, countSize}
 use Rattle.terms.specs.declared.Fact.{Fact}
@@ -30,6 +30,7 @@ use Rattle.statemask.specs.Statemask.{MoveRules, execute, startMask}
 use Rattle.wellformed.proofs.Orders.{length-starts}
 use Rattle.starts.specs.Starts.{PlanExecuted, executedFrom, answerFrom, StartsGood, answerEach, StartsOutcome}
 use Rattle.starts.proofs.Laws.{executed-ends}
+use Rattle.answer.proofs.Walks.{walk-parted}
 
 -- the start as the code reads it
 pub start-by : (o : List ℕ) (n at : ℕ) {m : List ℕ} → n ≡ two o at → m ≡ startMask (factsAt o n (at + countSize)) → m ≡ startMask (listAt o at)

@@ -6,7 +6,7 @@ use mathlib.Core.List.{List}
 use lib.Dec.{ltb}
 use borrow.Author.Tests.{lt-ltb, le-ltb}
 use Rattle.answer.specs.declared.Answer.the-variants.{Refused}
-use Rattle.answer.specs.Laws.{refuse-met, refuse-unmet}
+use Rattle.answer.proofs.Laws.{refuse-met, refuse-unmet}
 use Rattle.input.specs.Bytes.{two}
 use Rattle.terms.specs.Schema.{Schema, TypedObjects}
 use Rattle.terms.specs.Facts.{noFact}

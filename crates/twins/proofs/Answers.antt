@@ -8,7 +8,7 @@ use Rattle.answer.specs.declared.Answer.{Answer}
 use Rattle.answer.specs.declared.Answer.the-variants.{Good, Refused}
 use Rattle.answer.specs.declared.Positioned.{Positioned}
 use Rattle.answer.specs.Answer.{_>>=_, firstRefused, number, place, unpositioned, thenAt, kept}
-use Rattle.answer.specs.Laws.{bind-refused}
+use Rattle.answer.proofs.Laws.{bind-refused}
 use Rattle.truth.specs.Bools.{clash, decide}
 use Rattle.quantify.specs.Quantify.{any}
 use Rattle.jobs.proofs.FirstRefused.{first-refused-none, first-refused-some}

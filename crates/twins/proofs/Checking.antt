@@ -6,7 +6,7 @@ use mathlib.Core.List.{List}
 use lib.Dec.{eqb}
 use lib.ListN.{length}
 use Rattle.answer.specs.Answer.{refuse}
-use Rattle.answer.specs.Laws.{bind-cong}
+use Rattle.answer.proofs.Laws.{bind-cong}
 use Rattle.limits.specs.Limits.{endSheetSize}
 use Rattle.format.specs.Form.{Form}
 use Rattle.format.specs.Order.{stepCount}

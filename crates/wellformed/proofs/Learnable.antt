@@ -6,7 +6,7 @@ use mathlib.Core.Bool.{Bool, true, false}
 use mathlib.Core.List.{List}
 use Rattle.answer.specs.declared.Answer.the-variants.{Good, Refused}
 use Rattle.truth.specs.Bools.{clash, decide, neither}
-use Rattle.answer.specs.Laws.{bind-good, bind-refused}
+use Rattle.answer.proofs.Laws.{bind-good, bind-refused}
 use Rattle.answer.specs.Table.{among, impossibleRows, isImpossible}
 use Rattle.terms.specs.Schema.{Schema}
 use Rattle.format.specs.Form.{Form}

@@ -6,8 +6,8 @@ use mathlib.Core.List.{List, map}
 use lib.ListN.{length, length-map}
 use Rattle.answer.specs.declared.Answer.the-variants.{Good}
 use Rattle.truth.specs.Bools.{neither}
-use Rattle.answer.specs.Walk.{walk, walk-parted}
-use Rattle.answer.specs.Entries.{item-good}
+use Rattle.answer.specs.Walk.{walk}
+use Rattle.answer.proofs.Entries.{item-good}
 use Rattle.terms.specs.declared.Fact.{Fact}
 use Rattle.terms.specs.declared.Step.{Step}
 use Rattle.terms.specs.Schema.{Schema, TypedObjects, typedObjects}
@@ -35,6 +35,7 @@ use Rattle.wellformed.proofs.Atoms.{step-proper, ground-below}
 use Rattle.quantify.proofs.Mapped.{mem-map-out}
 use Rattle.factsets.specs.Holding.{holding}
 use Rattle.factsets.specs.Right.{RightStep, RightState}
+use Rattle.answer.proofs.Walks.{walk-parted}
 
 module _ (sch : Schema) (ob : TypedObjects) (typed : RightObjects sch ob) (o : List ℕ) where
   -- the first of a number of good steps is right, and the others are good

@@ -3,13 +3,14 @@ use Prim.Native.Nat.{ℕ, suc, _+_}
 use mathlib.Core.Path.{_≡_, refl, subst}
 use mathlib.Core.List.{List}
 use Rattle.answer.specs.declared.Answer.the-variants.{Good}
-use Rattle.answer.specs.Walk.{walk, walk-parted}
+use Rattle.answer.specs.Walk.{walk}
 use Rattle.terms.specs.declared.Sections.{Sections}
 use Rattle.format.specs.Form.{Form}
 use Rattle.format.specs.Records.{lengthIn, recordAt}
 use Rattle.format.specs.Parts.{recordPart, recordsAt}
 use Rattle.format.proofs.Records.{record-within}
 use Rattle.quantify.specs.Quantify.{Mem, here, there}
+use Rattle.answer.proofs.Walks.{walk-parted}
 
 module _ (form : Form) (h : Sections) (s : List ℕ) where
   abbrev pub RecordOf : List ℕ → Type 0

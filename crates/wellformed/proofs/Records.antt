@@ -5,7 +5,7 @@ use mathlib.Core.Logic.{_⊎_, inl, inr}
 use mathlib.Core.List.{List}
 use lib.ListN.{length}
 use Rattle.answer.specs.declared.Answer.the-variants.{Good}
-use Rattle.answer.specs.Walk.{walk, walk-parted}
+use Rattle.answer.specs.Walk.{walk}
 use Rattle.terms.specs.declared.Sections.{Sections}
 use Rattle.terms.specs.declared.Fact.{Fact}
 use Rattle.terms.specs.Sections.{sectionsOf}
@@ -28,6 +28,7 @@ use Rattle.jobs.specs.Planning.{schemaOf, stepsOfBook}
 use Rattle.wellformed.specs.Right.{Right, RightSomewhere}
 use Rattle.factsets.proofs.States.{state-right, next-right}
 use Rattle.factsets.specs.Right.{RightState}
+use Rattle.answer.proofs.Walks.{walk-parted}
 
 module _ (form : Form) (sch : Schema) (ob : TypedObjects) (typed : RightObjects sch ob) (s : List ℕ) (end : ℕ) where
   -- a step of good form is right, and so is the state after it if the state before it is

@@ -1,7 +1,7 @@
 -- `learner::learn` meets its contract: rows 1 to 12 by what was observed, row 13, then the sheet from what is observed.
 use Prim.Native.Nat.{_*_}
 use mathlib.Core.Path.{refl, sym, ap, _∙_}
-use Rattle.answer.specs.Turns.{is-good}
+use Rattle.answer.proofs.Turns.{is-good}
 use Rattle.mask.specs.Sets.{empty}
 use Rattle.wellformed.proofs.Headers.{moves-few}
 use Rattle.learner.proofs.Book.{moves-own, learn-refused, learn-size, learn-done, sheet-by, form-good}

@@ -4,7 +4,7 @@ use mathlib.Core.List.{List}
 use Prim.Native.Nat.{ℕ}
 use lib.ListN.{length}
 use native.Mathlib.Omega.{arith}
-use Rattle.answer.specs.Turns.{is-good}
+use Rattle.answer.proofs.Turns.{is-good}
 use Rattle.format.proofs.Header.{sections-good}
 use Rattle.format.proofs.Typing.{schema-right}
 use Rattle.observed.specs.Observed.{observedSet}

@@ -2,7 +2,7 @@
 use mathlib.Core.Path.{sym, _∙_}
 use native.Mathlib.Omega.{arith}
 use Rattle.format.proofs.Header.{sections-good}
-use Rattle.answer.specs.Turns.{is-good}
+use Rattle.answer.proofs.Turns.{is-good}
 use Rattle.lookover.proofs.Laws.{look-over-stays, look-over-records}
 use borrow.Author.Needs.{needs}
 use Rattle.lookover.proofs.look_over.Statement.{statement}

@@ -3,7 +3,7 @@ use Prim.Native.Nat.{_+_, _*_, _≤_}
 use mathlib.Core.Path.{_≡_, refl, sym, _∙_}
 use native.Mathlib.Omega.{arith}
 use Rattle.answer.specs.Walk.{walk}
-use Rattle.answer.specs.Turns.{turn-none, turn-refused, turn-good}
+use Rattle.answer.proofs.Turns.{turn-none, turn-refused, turn-good}
 use Rattle.limits.specs.Limits.{maxLength}
 use Rattle.format.specs.Records.{recordAt}
 use Rattle.format.specs.LookOver.{stepTotal}

@@ -4,7 +4,7 @@ use mathlib.Core.Path.{_≡_, sym, _∙_}
 use native.Mathlib.Omega.{arith}
 use Rattle.limits.specs.Limits.{factSize}
 use Rattle.terms.specs.Told.{factKey}
-use Rattle.answer.specs.Laws.{good-refused}
+use Rattle.answer.proofs.Laws.{good-refused}
 use Rattle.states.specs.Looked.{Looked}
 use Rattle.states.proofs.Looking.{looked-next, looked-bad, looked-all}
 use Rattle.lifting.specs.Pairs.{Inverts}

@@ -2,7 +2,7 @@
 use mathlib.Core.Path.{_≡_, refl, sym, ap, _∙_}
 use lib.ListN.{length}
 use borrow.Author.Needs.{needs}
-use Rattle.answer.specs.Laws.{good-refused}
+use Rattle.answer.proofs.Laws.{good-refused}
 use Rattle.format.specs.Lists.{listAt}
 use Rattle.lifting.specs.Pairs.{Inverts}
 use Rattle.factlist.specs.Rest.{rest}

@@ -3,7 +3,7 @@ use mathlib.Core.Path.{_≡_, sym, ap, _∙_}
 use native.Mathlib.Omega.{arith}
 use lib.ListN.{length}
 use Rattle.mask.specs.Sets.{cardinality}
-use Rattle.answer.specs.Laws.{good-refused}
+use Rattle.answer.proofs.Laws.{good-refused}
 use Rattle.states.proofs.Looking.{looked-next, looked-bad, looked-all}
 use Rattle.lifting.specs.Pairs.{Inverts}
 use Rattle.marks.specs.Marks.{plain}

@@ -1,7 +1,7 @@
 -- `observing::observe_record` meets its contract: a head that is right says where the record ends, and its own bytes are observed.
 use mathlib.Core.Path.{sym, ap, _∙_}
 use native.Mathlib.Omega.{arith}
-use Rattle.answer.specs.Turns.{is-good}
+use Rattle.answer.proofs.Turns.{is-good}
 use Rattle.format.proofs.Records.{head-limits, head-end, head-objects}
 use Rattle.records.specs.declared.Head.{Head}
 use Rattle.records.specs.Head.{headOf}

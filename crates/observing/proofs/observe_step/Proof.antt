@@ -4,7 +4,7 @@ use native.Mathlib.Omega.{arith}
 use borrow.Author.Tests.{not-true, not-false}
 use Rattle.truth.specs.Bools.{clash}
 use Rattle.answer.specs.Answer.{isRefused}
-use Rattle.answer.specs.Laws.{refused-good}
+use Rattle.answer.proofs.Laws.{refused-good}
 use Rattle.tables.specs.Tables.{ForRightByKind, ForRightByPlace}
 use Rattle.states.proofs.Looking.{list-looked, good-whole}
 use Rattle.records.proofs.Parts.{alone-found, step-stays, step-follows}

@@ -1,6 +1,6 @@
 -- `from_goal` meets its contract: the goal entries, then the plan steps.
 use mathlib.Core.Path.{_∙_}
-use Rattle.answer.specs.Turns.{part-stays, part-then}
+use Rattle.answer.proofs.Turns.{part-stays, part-then}
 use Rattle.tables.specs.Tables.{ForRightByKind, ForRightByPlace, RightFrom}
 use borrow.Author.Needs.{needs}
 use Rattle.orders.proofs.from_goal.Statement.{statement}

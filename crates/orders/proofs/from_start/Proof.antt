@@ -1,7 +1,7 @@
 -- `from_start` meets its contract: the starts, then what follows them, by tables of the order's own objects.
 use mathlib.Core.Path.{_∙_}
 use native.Mathlib.Omega.{arith}
-use Rattle.answer.specs.Turns.{part-stays, part-then}
+use Rattle.answer.proofs.Turns.{part-stays, part-then}
 use Rattle.tables.specs.Tables.{ForRightByKind, ForRightByPlace, RightForSome, RightFrom}
 use Rattle.format.specs.Order.{stepsAt, fromStart}
 use Rattle.orders.proofs.Tests.{objects-fit, own-kinds}

@@ -5,8 +5,8 @@ use native.Mathlib.Omega.{arith}
 use borrow.Author.Needs.{needs}
 use lib.ListN.{length}
 use Rattle.answer.specs.Walk.{walk}
-use Rattle.answer.specs.Turns.{turn-none}
-use Rattle.answer.specs.Entries.{entry-refused, entry-good}
+use Rattle.answer.proofs.Turns.{turn-none}
+use Rattle.answer.proofs.Entries.{entry-refused, entry-good}
 use Rattle.terms.specs.Schema.{schema}
 use Rattle.limits.specs.Limits.{stepSize, farCeiling}
 use Rattle.format.specs.Order.{stepCount, stepsAt, planStep}

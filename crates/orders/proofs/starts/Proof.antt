@@ -3,7 +3,7 @@ use Prim.Native.Nat.{_≤_}
 use mathlib.Core.Path.{_≡_, sym, _∙_}
 use native.Mathlib.Omega.{arith}
 use Rattle.answer.specs.Walk.{walk}
-use Rattle.answer.specs.Turns.{turn-none, turn-refused, turn-good}
+use Rattle.answer.proofs.Turns.{turn-none, turn-refused, turn-good}
 use Rattle.limits.specs.Limits.{nearCeiling}
 use Rattle.format.specs.Filed.{asWritten}
 use Rattle.format.specs.States.{state}

@@ -7,8 +7,8 @@ use Rattle.answer.specs.Walk.{walk}
 use Rattle.format.specs.Records.{object}
 use Rattle.records.proofs.Parts.{object-bad-by}
 use Rattle.format.proofs.Records.{object-entry}
-use Rattle.answer.specs.Turns.{turn-none}
-use Rattle.answer.specs.Entries.{entry-refused, entry-good}
+use Rattle.answer.proofs.Turns.{turn-none}
+use Rattle.answer.proofs.Entries.{entry-refused, entry-good}
 use Rattle.records.proofs.objects.Statement.{statement}
 use Rattle.records.proofs.objects.Tie as tie
 

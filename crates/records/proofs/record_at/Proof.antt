@@ -1,7 +1,7 @@
 -- `record_at` meets its contract: a head that is right says where the record ends, within the book.
 use mathlib.Core.Path.{sym, ap, _∙_}
 use native.Mathlib.Omega.{arith}
-use Rattle.answer.specs.Turns.{is-good}
+use Rattle.answer.proofs.Turns.{is-good}
 use Rattle.format.proofs.Records.{head-limits, head-end, head-objects}
 use Rattle.records.specs.declared.Head.{Head}
 use Rattle.records.specs.Head.{headOf}

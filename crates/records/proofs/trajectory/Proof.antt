@@ -3,7 +3,7 @@ use mathlib.Core.Path.{sym, _∙_}
 use native.Mathlib.Omega.{arith}
 use Rattle.format.specs.Filed.{filedFact}
 use Rattle.format.proofs.States.{list-within}
-use Rattle.answer.specs.Turns.{is-good}
+use Rattle.answer.proofs.Turns.{is-good}
 use Rattle.records.proofs.Parts.{trajectory-stays, trajectory-steps}
 use Rattle.tables.specs.Tables.{ForRightByPlace}
 use borrow.Author.Needs.{needs}

@@ -5,7 +5,7 @@ use native.Mathlib.Omega.{arith}
 use borrow.Author.Needs.{needs}
 use lib.ListN.{length}
 use Rattle.answer.specs.Walk.{walk}
-use Rattle.answer.specs.Turns.{turn-none, turn-refused, turn-good}
+use Rattle.answer.proofs.Turns.{turn-none, turn-refused, turn-good}
 use Rattle.terms.specs.Schema.{schema}
 use Rattle.limits.specs.Limits.{maxLength}
 use Rattle.format.specs.Parts.{recordsAt}

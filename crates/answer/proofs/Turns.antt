@@ -6,8 +6,9 @@ use Rattle.answer.specs.declared.Answer.{Answer}
 use Rattle.answer.specs.declared.Answer.the-variants.{Good, Refused}
 use Rattle.answer.specs.Answer.{_>>=_, isRefused, valueOf}
 use Rattle.truth.specs.Bools.{clash}
-use Rattle.answer.specs.Laws.{stays, follows}
-use Rattle.answer.specs.Walk.{walk, walk-none, walk-refused, walk-good, walk-induction}
+use Rattle.answer.proofs.Laws.{stays, follows}
+use Rattle.answer.specs.Walk.{walk}
+use Rattle.answer.proofs.Walks.{walk-none, walk-refused, walk-good, walk-induction}
 
 -- an answer that is not refused is good
 pub is-good : (a : Answer) → isRefused a ≡ false → a ≡ Good (valueOf a)

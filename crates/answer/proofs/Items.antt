@@ -6,9 +6,10 @@ use native.Mathlib.Nat.{mul-zero, mul-suc}
 use native.Mathlib.Omega.{arith}
 use Rattle.answer.specs.declared.Answer.{Answer}
 use Rattle.answer.specs.declared.Answer.the-variants.{Good, Refused}
-use Rattle.answer.specs.Laws.{good-refused}
-use Rattle.answer.specs.Refusals.{refused-cases}
-use Rattle.answer.specs.Walk.{walk, walk-induction}
+use Rattle.answer.proofs.Laws.{good-refused}
+use Rattle.answer.proofs.Refusals.{refused-cases}
+use Rattle.answer.specs.Walk.{walk}
+use Rattle.answer.proofs.Walks.{walk-induction}
 
 module _ (item : ℕ → Answer) (num most : ℕ)
     (reach : (at next : ℕ) → item at ≡ Good next → next ≤ at + most)

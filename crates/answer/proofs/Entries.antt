@@ -7,10 +7,11 @@ use native.Mathlib.Omega.{arith}
 use Rattle.answer.specs.declared.Answer.{Answer}
 use Rattle.answer.specs.declared.Answer.the-variants.{Good, Refused}
 use Rattle.answer.specs.Answer.{_>>=_, refuse}
-use Rattle.answer.specs.Laws.{good-refused, bind-good, refuse-met, refuse-unmet, passed}
-use Rattle.answer.specs.Refusals.{row-cases}
-use Rattle.answer.specs.Items.{items-place}
-use Rattle.answer.specs.Walk.{walk, walk-refused, walk-good, walk-parted, walk-induction}
+use Rattle.answer.proofs.Laws.{good-refused, bind-good, refuse-met, refuse-unmet, passed}
+use Rattle.answer.proofs.Refusals.{row-cases}
+use Rattle.answer.proofs.Items.{items-place}
+use Rattle.answer.specs.Walk.{walk}
+use Rattle.answer.proofs.Walks.{walk-refused, walk-good, walk-parted, walk-induction}
 
 -- an entry that says where the next one starts
 abbrev pub Entry : (ℕ → Answer) → (ℕ → Bool) → ℕ → ℕ → Type 0

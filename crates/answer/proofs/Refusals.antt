@@ -10,7 +10,7 @@ use lib.Dec.{eqb}
 use Rattle.answer.specs.declared.Answer.{Answer}
 use Rattle.answer.specs.declared.Answer.the-variants.{Good, Refused}
 use Rattle.answer.specs.Answer.{_>>=_, refuse}
-use Rattle.answer.specs.Laws.{good-refused}
+use Rattle.answer.proofs.Laws.{good-refused}
 use Rattle.answer.specs.Table.{table, rowFrom, row, upTo, Between, MetFrom, among, impossibleRows, isImpossible}
 use Rattle.truth.specs.Bools.{clash, and-out, or-out}
 
