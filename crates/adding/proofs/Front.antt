@@ -14,7 +14,7 @@ use Rattle.format.specs.Header.{sections}
 use Rattle.jobs.specs.Add.{added}
 use Rattle.format.proofs.Front.{sections-row as rows}
 use Rattle.format.proofs.LookOver.{LookedOver}
-use Rattle.adding.specs.ReadBack.{oneMore}
+use Rattle.adding.specs.NewHeader.{oneMore}
 use Rattle.adding.proofs.Formed.{length-added}
 use Rattle.adding.proofs.Kept.{long, between}
 

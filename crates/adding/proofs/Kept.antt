@@ -23,7 +23,7 @@ use Rattle.format.proofs.Front.{schema-same}
 use Rattle.format.proofs.Reading.{Copied}
 use Rattle.format.proofs.Copies.{placed-same, records-copied, all-recorded-copied, recorded-last}
 use Rattle.format.proofs.LookOver.{LookedOver}
-use Rattle.adding.specs.ReadBack.{oneMore}
+use Rattle.adding.specs.NewHeader.{oneMore}
 use Rattle.adding.proofs.Formed.{length-added}
 use Rattle.adding.proofs.NewBook.{not-renewed, byte-kept, byte-added, header-added}
 use Rattle.answer.proofs.Walks.{walk-last}

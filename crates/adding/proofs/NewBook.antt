@@ -15,7 +15,7 @@ use Rattle.limits.specs.Limits.{headerSize}
 use Rattle.jobs.specs.Add.{added}
 use Rattle.format.proofs.Reading.{two-by}
 use Rattle.format.proofs.Front.{header-kept}
-use Rattle.adding.specs.ReadBack.{renewed, oneMore}
+use Rattle.adding.specs.NewHeader.{renewed, oneMore}
 use Rattle.output.proofs.Two.{two-elsewhere, two-there}
 use Rattle.adding.proofs.Formed.{added-written, counted, length-counted, length-added}
 

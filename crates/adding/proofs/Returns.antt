@@ -23,7 +23,7 @@ use Rattle.output.specs.Written.{written}
 use Rattle.adding.specs.Outcome.{Outcome}
 use Rattle.output.proofs.Written.{front-written}
 use Rattle.adding.proofs.Formed.{length-added}
-use Rattle.adding.specs.ReadBack.{oneMore}
+use Rattle.adding.specs.NewHeader.{oneMore}
 use Rattle.adding.proofs.Kept.{header}
 use Rattle.adding.proofs.OneRecord.{book-full, record-alone}
 

@@ -1,5 +1,4 @@
--- What the functions promise: a call's answer with the lent output; and what follows for the new book.
+-- What the functions promise: a call's answer with the lent output; the new header; and looking over the record alone.
 pub mod Outcome
-pub mod ReadBack
 pub mod OneRecord
-pub mod Stepless
+pub mod NewHeader

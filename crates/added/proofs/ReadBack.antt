@@ -21,12 +21,12 @@ use Rattle.format.proofs.Records.{record-within}
 use Rattle.format.proofs.Reading.{Copied}
 use Rattle.format.proofs.Copies.{placed-same, recorded-copied}
 use Rattle.format.proofs.LookOver.{look-over-good}
 use Rattle.adding.specs.OneRecord.{lookRecord}
-use Rattle.adding.specs.ReadBack.{AddedIsReadBack, AddedIsStored, RefusedIsUntouched}
+use Rattle.added.specs.ReadBack.{AddedIsReadBack, AddedIsStored, RefusedIsUntouched}
 use Rattle.adding.proofs.Formed.{length-added}
 use Rattle.adding.proofs.NewBook.{byte-kept, byte-added, bytes-behind}
 use Rattle.adding.proofs.Kept.{header, kinds-kept, schema-kept, steps-last}
 use Rattle.adding.proofs.OneRecord.{only-the-record}
 
 -- what a success says: no row from 1 to 10 is met by either book, and neither are 1 and 13 by the new length
 record Success (form : Form) (s r : List ℕ) (size n : ℕ) : Type 0 where

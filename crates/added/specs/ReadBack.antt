@@ -1,13 +1,11 @@
 -- What adding does to a book, where it succeeds: the record is read back as it was filed, and the rest of the book stays.
 use Prim.Native.Nat.{ℕ, _+_, _<_}
 use mathlib.Core.Path.{_≡_}
-use mathlib.Core.Bool.{Bool, false, _||_}
+use mathlib.Core.Bool.{false}
 use mathlib.Core.List.{List, _++_}
-use lib.Dec.{eqb}
 use lib.ListN.{length, take, drop}
 use Rattle.answer.specs.declared.Answer.the-variants.{Good, Refused}
 use Rattle.input.specs.Bytes.{byteAt}
-use Rattle.terms.specs.declared.Sections.{Sections}
 use Rattle.terms.specs.Sections.{sectionsOf}
 use Rattle.terms.specs.Agree.{SameSchema}
 use Rattle.format.specs.Form.{Form}
@@ -16,21 +14,7 @@ use Rattle.format.specs.LookOver.{lookOver}
 use Rattle.format.specs.Decode.{stepsOfRecord, recordedSteps, movedBy}
 use Rattle.jobs.specs.Planning.{schemaOf}
 use Rattle.jobs.specs.Add.{added, add, addBytes}
-
--- the bytes of the record count and of the end
-unfoldable pub renewed : ℕ → Bool
-renewed i = eqb i 6 || eqb i 7 || eqb i 14 || eqb i 15
-
--- a header with one record more and another end
-unfoldable pub oneMore : Sections → ℕ → Sections
-oneMore h end =
-    record {
-      kinds = h .kinds;
-      relations = h .relations;
-      moves = h .moves;
-      records = record { count = h .records .count + 1; at = h .records .at };
-      end = end;
-    }
+use Rattle.adding.specs.NewHeader.{renewed, oneMore}
 
 -- `s` the old book, `r` the bytes of the record, n the place of the success
 pub record ReadBack (form : Form) (s r : List ℕ) (n : ℕ) : Type 0 where

@@ -18,12 +18,12 @@ use Rattle.format.proofs.Reading.{Copied}
 use Rattle.format.proofs.Copies.{head-kept}
 use Rattle.format.proofs.LookOver.{LookedOver, look-over-good}
 use Rattle.jobs.specs.Add.{added, add}
 use Rattle.adding.specs.OneRecord.{lookRecord}
-use Rattle.adding.specs.Stepless.{SteplessIsRefused}
+use Rattle.added.specs.Stepless.{SteplessIsRefused}
 use Rattle.adding.proofs.Formed.{length-added}
 use Rattle.adding.proofs.NewBook.{byte-added}
 use Rattle.adding.proofs.Kept.{long, steps-added}
 use Rattle.adding.proofs.OneRecord.{only-the-record}
 
 module _ (form : Form) (s r : List ℕ) (n : ℕ) (was : LookedOver form s n) (most : length s + length r ≤ maxLength) (right : headBad r 0 ≡ false) (none : stepsIn r 0 ≡ 0) where
   -- its head in the new book

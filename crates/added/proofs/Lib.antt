@@ -1,0 +1,3 @@
+-- The proofs of specs/.
+pub mod ReadBack
+pub mod Stepless
