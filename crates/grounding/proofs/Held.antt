@@ -1,5 +1,5 @@
 -- The bound facts (lifted atoms) of a set that hold in a state for a step's objects: the sixteen of a relation as a word, and one relation after the
--- other. Uses atoms' words stored in a mask, and rows' words of bits.
+-- other. Uses atoms' words stored in a mask, and factgroups' words of bits.
 use Prim.Native.Nat.{ℕ, _+_, _*_, _/_, _%_, _≤_, _<_}
 use native.Mathlib.Nat.{zero-add}
 use native.Mathlib.Omega.{arith}
@@ -16,9 +16,9 @@ use Rattle.terms.specs.Schema.{Schema}
 use Rattle.terms.specs.Steps.{ground, atomRelation}
 use Rattle.atoms.specs.Atoms.{atomsEnd, storedWord}
 use Rattle.atoms.proofs.Words.{number-same, maskBelow, word-next}
-use Rattle.rows.specs.declared.Placement.{Placement}
-use Rattle.rows.specs.Rows.{StartsRelation, inPlace, placementOf, facts}
-use Rattle.rows.proofs.Words.{number-and, number-none, number-at}
+use Rattle.factgroups.specs.declared.Placement.{Placement}
+use Rattle.factgroups.specs.Groups.{StartsRelation, inPlace, placementOf, facts}
+use Rattle.factgroups.proofs.Words.{number-and, number-none, number-at}
 use Rattle.grounding.specs.Grounding.{ForBindings, heldAtoms}
 use Rattle.grounding.proofs.Objects.{fact-ground}
 

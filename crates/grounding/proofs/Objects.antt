@@ -1,4 +1,4 @@
--- The rows and columns of a step's objects, and the fact that a relation's bound fact is by them.
+-- The groups and columns of a step's objects, and the fact that a relation's bound fact is by them.
 use Prim.Native.Nat.{ℕ, zero, suc, _+_, _-_, _/_, _%_, _≤_, _<_}
 use native.Mathlib.Decide.{decLt}
 use native.Mathlib.Omega.{arith}
@@ -13,10 +13,10 @@ use Rattle.terms.specs.declared.Relation.{Relation}
 use Rattle.terms.specs.declared.Binding.{Binding}
 use Rattle.terms.specs.Schema.{Schema}
 use Rattle.terms.specs.Steps.{objectOf, placed, ground, atomRelation, atomFirst, atomSecond}
-use Rattle.rows.specs.declared.Placement.{Placement}
-use Rattle.rows.specs.Rows.{StartsRelation, Indices, unused, inPlace, placementOf, Within, facts}
+use Rattle.factgroups.specs.declared.Placement.{Placement}
+use Rattle.factgroups.specs.Groups.{StartsRelation, Indices, unused, inPlace, placementOf, Within, facts}
 use Rattle.grounding.specs.Grounding.{Bounded, indices, Placed}
-use Rattle.rows.proofs.Rows.{unused-at, place-small, row-at, table-place}
+use Rattle.factgroups.proofs.Groups.{unused-at, place-small, group-at, table-place}
 
 -- ---- the objects of a binding
 module _ (b : Binding) where
@@ -62,7 +62,7 @@ module _ (b : Binding) where
         go true = index-at p h
         go false = unused-at p
 
-  -- A relation's bound fact is the fact in the row and the column of its two parameters.
+  -- A relation's bound fact is the fact in the group and the column of its two parameters.
   pub fact-ground : (sch : Schema) (n j places : ℕ) → StartsRelation n → j < 16 → places ≡ sch .places (atomRelation n)
       → facts (placementOf places (indices b) n) (inPlace places 2 (indices b)) j ≡ ground sch b (n + j)
   unfolding facts placementOf ground atomRelation atomFirst atomSecond
@@ -71,7 +71,7 @@ module _ (b : Binding) where
       let r : (n + j) / 16 ≡ n / 16 = omega arith in
       let f : (n + j) / 4 % 4 ≡ j / 4 = omega arith in
       let s : (n + j) % 4 ≡ j % 4 = omega arith in
-      rw (row-at n (inPlace places 1 (indices b)) (j / 4) (omega arith), r, f, s, e, placed-at sch (record { 0 = n / 16 + 1 }) 1 (j / 4) (omega arith), placed-at sch (record { 0 = n / 16 + 1 }) 2 (j % 4) (omega arith))
+      rw (group-at n (inPlace places 1 (indices b)) (j / 4) (omega arith), r, f, s, e, placed-at sch (record { 0 = n / 16 + 1 }) 1 (j / 4) (omega arith), placed-at sch (record { 0 = n / 16 + 1 }) 2 (j % 4) (omega arith))
       (omega arith)
 
   pub ground-relation : (sch : Schema) → Bounded b → (n : ℕ) → ground sch b n / 256 ≡ n / 16

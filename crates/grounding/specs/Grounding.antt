@@ -10,16 +10,16 @@ use Rattle.terms.specs.declared.Param.{Param}
 use Rattle.terms.specs.declared.Binding.{Binding}
 use Rattle.terms.specs.Schema.{Schema}
 use Rattle.terms.specs.Steps.{objectOf, ground}
-use Rattle.rows.specs.declared.Placement.{Placement}
-use Rattle.rows.specs.Rows.{Indices, Tabled, Tables, Within, facts}
+use Rattle.factgroups.specs.declared.Placement.{Placement}
+use Rattle.factgroups.specs.Groups.{Indices, Tabled, Tables, Within, facts}
 
 -- ---- the objects of a step
 
--- a state has a row and a column for every object of the binding
+-- a state has a group and a column for every object of the binding
 abbrev pub Bounded : Binding → Type 0
 Bounded b = (p : Param) → 1 ≤ p .0 → p .0 ≤ maxParams → objectOf b p .0 ≤ maxObjects
 
--- the numbers of a step's objects from 0, one for each parameter: their rows or columns in a state
+-- the numbers of a step's objects from 0, one for each parameter: their groups or columns in a state
 unfoldable pub indices : Binding → List ℕ
 indices b =
     (objectOf b (record { 0 = 1 }) .0 - 1)

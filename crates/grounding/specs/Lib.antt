@@ -1,2 +1,2 @@
--- What the contracts cite besides the definitions of terms and rows.
+-- What the contracts cite besides the definitions of terms and factgroups.
 pub mod Grounding

@@ -1,6 +1,6 @@
 // The bound facts (lifted atoms) of a move in a state of facts as a mask of 512 bytes: where a relation's stand for the objects of a step, and which of
 // a set hold, sixteen of a relation at once.
-// Uses limits, terms, rows, the end of the bound facts from atoms, and the definitions of mask; each contract names its definition.
+// Uses limits, terms, factgroups, the end of the bound facts from atoms, and the definitions of mask; each contract names its definition.
 ghost use mathlib.Core.Path.{_≡_};
 ghost use mathlib.Core.Bool.{false, _&&_};
 ghost use Prim.Native.Nat.{ℕ, _≤_};
@@ -11,16 +11,16 @@ ghost use Rattle.mask.specs.Sets.{number};
 ghost use Rattle.terms.specs.Schema.{schema};
 ghost use Rattle.terms.specs.Steps.{ground};
 ghost use Rattle.atoms.specs.Atoms.{atomsEnd};
-ghost use Rattle.rows.specs.Rows.{StartsRelation, Indices};
+ghost use Rattle.factgroups.specs.Groups.{StartsRelation, Indices};
 ghost use Rattle.grounding.specs.Grounding.{Bounded, indices, Placed, ForBindings, heldAtoms};
-use rows::Placement;
+use factgroups::Placement;
 use terms::Binding;
 use terms::Param;
 use terms::Sections;
 
 // ---- objects
 
-// What the object of each parameter adds in a used place: its row in the first, its column in the second.
+// What the object of each parameter adds in a used place: its group in the first, its column in the second.
 pub fn indices(b: Binding) -> [usize; 4]
     requires { ⌜ Bounded b ⌝ }
     ensures { λ xs. ⌜ (xs ≡ indices b) × Indices xs ⌝ }
@@ -42,7 +42,7 @@ pub fn placement(book: &[u8], h: Sections, xs: [usize; 4], n: usize) -> Placemen
     requires { ⌜ Indices xs × StartsRelation n ⌝ }
     ensures { λ p. ⌜ Placed (schema h (now (book .entry))) xs n p ⌝ }
 {
-    rows::placement_of(h.places(book, terms::atom_relation(n)), xs, n)
+    factgroups::placement_of(h.places(book, terms::atom_relation(n)), xs, n)
 }
 
 // ---- the bound facts that hold
@@ -53,19 +53,19 @@ fn held_word(book: &[u8], h: Sections, xs: [usize; 4], state: &[u8], n: usize) -
     ensures { λ w. ⌜ ForBindings xs (λ b. w ≡ number (λ j. testBit (now (state .entry)) (ground (schema h (now (book .entry))) b j)) n atomsPerRelation) ⌝ }
 {
     let places = h.places(book, terms::atom_relation(n));
-    rows::values_at(
-        rows::placement_of(places, xs, n),
-        rows::columns_of(places, xs),
+    factgroups::values_at(
+        factgroups::placement_of(places, xs, n),
+        factgroups::columns_of(places, xs),
         state,
     )
 }
 
-// Those of them that are asked for. Where none is, no row is read.
+// Those of them that are asked for. Where none is, no group is read.
 fn asked_word(book: &[u8], h: Sections, xs: [usize; 4], atoms: &[u8], state: &[u8], n: usize) -> u16
     requires { ⌜ Indices xs × (length (now atoms) ≡ setSize) × (length (now state) ≡ stateSize) × StartsRelation n ⌝ }
     ensures { λ w. ⌜ ForBindings xs (λ b. w ≡ number (λ j. testBit (now (atoms .entry)) j && testBit (now (state .entry)) (ground (schema h (now (book .entry))) b j)) n atomsPerRelation) ⌝ }
 {
-    let asked = rows::word_at(atoms, n / 8);
+    let asked = factgroups::word_at(atoms, n / 8);
     if asked == 0 {
         return 0;
     }

@@ -15,10 +15,10 @@ use Rattle.terms.specs.declared.Step.{Step}
 use Rattle.terms.specs.Schema.{Schema}
 use Rattle.terms.specs.Steps.{ground}
 use Rattle.statemask.specs.Statemask.{MoveRules, unmet, inapplicableIn, stepInapplicable}
-use Rattle.rows.specs.Rows.{wordUnmet}
+use Rattle.factgroups.specs.Groups.{wordUnmet}
 use Rattle.stepping.specs.Stepping.{relationUnmet}
-use Rattle.rows.proofs.Needs.{none-unmet}
-use Rattle.rows.proofs.Tests.{below-join}
+use Rattle.factgroups.proofs.Needs.{none-unmet}
+use Rattle.factgroups.proofs.Tests.{below-join}
 
 module _ (sch : Schema) (R : ℕ → MoveRules) (st : Step) (m : List ℕ) (n : ℕ) (needed neededNot : ℕ)
     (is-needed : needed ≡ number (testBit (R (st .action .0) .needed)) n 16)

@@ -20,12 +20,12 @@ use Rattle.terms.specs.Schema.{Schema}
 use Rattle.terms.specs.Steps.{ground}
 use Rattle.statemask.specs.Statemask.{MoveRules, effects, nextIn, stepNext}
 use Rattle.statemask.proofs.Masks as masks
-use Rattle.rows.specs.Rows.{StartsRelation, putAt, inWord}
+use Rattle.factgroups.specs.Groups.{StartsRelation, putAt, inWord}
 use Rattle.grounding.specs.Grounding.{Bounded}
 use Rattle.stepping.specs.Stepping.{touched, nextBelow}
-use Rattle.rows.proofs.Tests.{below-join}
+use Rattle.factgroups.proofs.Tests.{below-join}
 use Rattle.grounding.proofs.Objects.{ground-relation}
-use Rattle.rows.proofs.Effects.{put-none, put-mask, put-length}
+use Rattle.factgroups.proofs.Effects.{put-none, put-mask, put-length}
 
 next-mask : (sch : Schema) (R : ℕ → MoveRules) (st : Step) (m : List ℕ) (n : ℕ) → nextBelow sch R st m n ≡ maskOf 512 (testBit (nextBelow sch R st m n))
 unfolding nextBelow

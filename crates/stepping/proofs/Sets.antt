@@ -9,7 +9,7 @@ use Rattle.mask.specs.Bits.{testBit}
 use Rattle.mask.specs.Sets.{number}
 use Rattle.atoms.proofs.Words.{number-same}
 use Rattle.jobs.specs.SheetBits.{sheetSet}
-use Rattle.rows.specs.Rows.{StartsRelation}
+use Rattle.factgroups.specs.Groups.{StartsRelation}
 
 pub set-word-by : (l : List ℕ) (a k n at w : ℕ) → StartsRelation n → at ≡ 128 * (a - 1) + 32 * k → w ≡ number (testBit l) (8 * (at + n / 8)) 16
     → w ≡ number (testBit (sheetSet l k a)) n 16

@@ -11,7 +11,7 @@ use Rattle.terms.specs.declared.Step.{Step}
 use Rattle.terms.specs.Schema.{Schema}
 use Rattle.terms.specs.Steps.{ground}
 use Rattle.quantify.specs.Quantify.{below}
-use Rattle.rows.specs.Rows.{putAt}
+use Rattle.factgroups.specs.Groups.{putAt}
 use Rattle.grounding.specs.Grounding.{Bounded}
 use Rattle.statemask.specs.Statemask.{MoveRules, unmet, stepInapplicable, stepNext}
 

@@ -1,6 +1,6 @@
 // One step over a state of facts as a mask of 512 bytes: whether it is inapplicable, and the state after it, by the rules that are lent, 128 bytes
-// a move as a rule sheet has them. Sets of bound facts are read where they stand, sixteen of a relation at once, and tested or put by rows of the state.
-// Uses limits, terms, rows, grounding, the numbers of a move's sets from jobs, and the definitions of mask and statemask; each contract names its definition.
+// a move as a rule sheet has them. Sets of bound facts are read where they stand, sixteen of a relation at once, and tested or put by groups of the state.
+// Uses limits, terms, factgroups, grounding, the numbers of a move's sets from jobs, and the definitions of mask and statemask; each contract names its definition.
 ghost use mathlib.Core.Path.{_≡_};
 ghost use Prim.Native.Nat.{_<_};
 ghost use lib.ListN.{length};
@@ -8,7 +8,7 @@ ghost use Rattle.limits.specs.Limits.{stateSize, atomsPerRelation};
 ghost use Rattle.mask.specs.Bits.{testBit};
 ghost use Rattle.mask.specs.Sets.{number};
 ghost use Rattle.terms.specs.Schema.{schema};
-ghost use Rattle.rows.specs.Rows.{StartsRelation, Tables};
+ghost use Rattle.factgroups.specs.Groups.{StartsRelation, Tables};
 ghost use Rattle.grounding.specs.Grounding.{indices};
 ghost use Rattle.jobs.specs.SheetBits.{sheetSet};
 ghost use Rattle.statemask.specs.Statemask.{rulesIn, stepInapplicable, stepNext};
@@ -23,13 +23,13 @@ fn set_word(rules: &[u8], step: Step, k: usize, n: usize) -> u16
     requires { ⌜ Steppable (now rules) step × (k < 4) × StartsRelation n ⌝ }
     ensures { λ r. ⌜ r ≡ number (testBit (sheetSet (now (rules .entry)) k (step .action .0))) n atomsPerRelation ⌝ }
 {
-    let row = limits::RULE_SIZE * (step.action.0 as usize - 1);
-    rows::word_at(rules, row + limits::SET_SIZE * k + n / 8)
+    let group = limits::RULE_SIZE * (step.action.0 as usize - 1);
+    factgroups::word_at(rules, group + limits::SET_SIZE * k + n / 8)
 }
 
 // ---- needs
 
-// A need of one of a relation's bound facts is unmet. Where none is needed, no row is read.
+// A need of one of a relation's bound facts is unmet. Where none is needed, no group is read.
 fn relation_unmet(
     book: &[u8],
     h: Sections,
@@ -48,7 +48,7 @@ fn relation_unmet(
     if (needed | needed_not) == 0 {
         return false;
     }
-    rows::needs_unmet(
+    factgroups::needs_unmet(
         t,
         grounding::placement(book, h, xs, n),
         state,
@@ -82,7 +82,7 @@ fn is_inapplicable(
 
 // ---- effects
 
-// The effects of a relation's bound facts: the removed facts go first. Where there are none, no row is read.
+// The effects of a relation's bound facts: the removed facts go first. Where there are none, no group is read.
 fn put_relation(
     book: &[u8],
     h: Sections,
@@ -102,8 +102,8 @@ fn put_relation(
         return;
     }
     let p = grounding::placement(book, h, xs, n);
-    rows::put_rows(t, p, removed, false, state);
-    rows::put_rows(t, p, added, true, state);
+    factgroups::put_groups(t, p, removed, false, state);
+    factgroups::put_groups(t, p, added, true, state);
 }
 
 // Those of all bound facts of a step's move, relation by relation.
@@ -138,7 +138,7 @@ pub fn execute_step(
     ensures { λ r. ⌜ StepExecuted (schema h (now (book .entry))) (rulesIn (now (rules .entry))) step (now (state .entry)) r (now (state .exit)) ⌝ }
 {
     let xs = grounding::indices(step.binding);
-    let t = rows::column_table(xs);
+    let t = factgroups::column_table(xs);
     if is_inapplicable(book, h, step, rules, xs, &t, state) {
         return true;
     }

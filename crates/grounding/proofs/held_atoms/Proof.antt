@@ -4,7 +4,7 @@ use native.Mathlib.Omega.{arith}
 use mathlib.Core.Path.{_≡_, refl}
 use borrow.Author.Needs.{needs}
 use Rattle.terms.specs.Schema.{schema}
-use Rattle.rows.proofs.Rows.{starts}
+use Rattle.factgroups.proofs.Groups.{starts}
 use Rattle.grounding.specs.Grounding.{ForBindings}
 use Rattle.grounding.proofs.Held.{heldBelow, held-first, held-next, held-last}
 use Rattle.grounding.proofs.held_atoms.Statement.{statement}

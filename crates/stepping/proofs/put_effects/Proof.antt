@@ -5,7 +5,7 @@ use mathlib.Core.Path.{_≡_, sym, _∙_}
 use Rattle.terms.specs.Schema.{schema}
 use Rattle.stepping.specs.Stepping.{nextBelow}
 use Rattle.statemask.specs.Statemask.{rulesIn}
-use Rattle.rows.proofs.Rows.{starts}
+use Rattle.factgroups.proofs.Groups.{starts}
 use Rattle.stepping.proofs.Next.{next-length, next-first, next-last}
 use Rattle.stepping.proofs.put_effects.Statement.{statement}
 use Rattle.stepping.proofs.put_effects.Tie as tie

@@ -1,4 +1,4 @@
--- `stepping::put_relation` meets its contract: no effect of the relation's bound facts, or the removed ones and then the added ones in its rows.
+-- `stepping::put_relation` meets its contract: no effect of the relation's bound facts, or the removed ones and then the added ones in its groups.
 use borrow.Author.Needs.{needs}
 use mathlib.Core.Path.{refl}
 use Rattle.statemask.specs.Statemask.{rulesIn}
@@ -29,7 +29,7 @@ returns-2 c m e =
     let q = w1 .before .before .before .before .pre in
     let (ys, g) = p .placement .ensures .grounds _ (q .1 .bounded) (q .3) in
     next-more _ _ _ m _ (q .2) (q .1 .bounded) _ (g .is) _ _ _ _ _ (w1 .set-word .ensures) (w2 .set-word2 .ensures) e
-    (d .put-rows .ensures ys (g .small) (g .right _ (q .4))) (a .put-rows2 .ensures ys (g .small) (g .right _ (q .4)))
+    (d .put-groups .ensures ys (g .small) (g .right _ (q .4))) (a .put-groups2 .ensures ys (g .small) (g .right _ (q .4)))
 
 pub put-relation-spec : {M : Type 1} → statement M
 put-relation-spec = tie.close (tie.spec (λ c κs. search needs) (λ c κs. search needs) returns placement-requires (λ c κs. search needs) (λ c κs. search needs) (λ c. search needs) returns-2)

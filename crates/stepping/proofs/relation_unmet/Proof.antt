@@ -1,4 +1,4 @@
--- `stepping::relation_unmet` meets its contract: no need of the relation's bound facts, or the needs against its rows.
+-- `stepping::relation_unmet` meets its contract: no need of the relation's bound facts, or the needs against its groups.
 use borrow.Author.Needs.{needs}
 use mathlib.Core.Path.{_∙_}
 use Rattle.statemask.specs.Statemask.{rulesIn}

@@ -1,8 +1,0 @@
--- `rows::column` meets its contract: the shift loses no bit.
-use borrow.Author.Needs.{needs}
-use Rattle.rows.proofs.Rows.{one-shl}
-use Rattle.rows.proofs.column.Statement.{statement}
-use Rattle.rows.proofs.column.Tie as tie
-
-pub column-spec : {M : Type 1} → statement M
-column-spec = tie.close (tie.spec (λ c. search needs) (λ c. search needs) (λ c. one-shl _ (c .pre)))

@@ -1,2 +1,0 @@
--- What the contracts cite besides the definitions of mask.
-pub mod Rows
