@@ -15,7 +15,7 @@ use Rattle.format.specs.Form.{full, stateAfter}
 use Rattle.format.specs.Decode.{recordedStep}
 use Rattle.observed.specs.Observed.{bound, setAt, observedSet, noted, observeBy, observe, firstNamed}
 use Rattle.grounding.specs.Grounding.{heldAtoms}
-use Rattle.marks.specs.Marks.{StepMarked, StepTurned}
+use Rattle.stepmasks.specs.Marks.{StepMarked, StepTurned}
 use Rattle.notes.specs.Notes.{observedStep, IsObserved, observedTurned, TurnObserved}
 
 -- the part that is lent to `mark_step` is the set of the move's bound facts

@@ -14,7 +14,7 @@ ghost use Rattle.observed.specs.Observed.{noted, nothingSeen, firstNamed};
 ghost use Rattle.answer.specs.declared.Answer.the-variants.{Good};
 ghost use Rattle.states.specs.Looked.{ListLooked};
 ghost use Rattle.lifting.specs.Pairs.{noDigits};
-ghost use Rattle.marks.specs.Marks.{Suited, RightForFew};
+ghost use Rattle.stepmasks.specs.Marks.{Suited, RightForFew};
 ghost use Rattle.notes.specs.Notes.{narrowed, widened, observedStep, IsObserved, firstSets, StepTurnable, TurnObserved};
 use answer::Answer;
 use terms::Move;
@@ -118,7 +118,7 @@ pub fn observe(
     let end = bound + limits::SET_SIZE;
     let mut before = mask::empty32();
     let mut after = mask::empty32();
-    let sight = marks::mark_step(
+    let sight = stepmasks::mark_step(
         s,
         table,
         t,
@@ -161,7 +161,7 @@ pub fn observe_turned(
     let end = bound + limits::SET_SIZE;
     let before = grounding::held_atoms(s, h, step.binding, &observed[bound..end], state);
     let mut after = before;
-    let turned = marks::mark_turned(
+    let turned = stepmasks::mark_turned(
         s,
         table,
         t,

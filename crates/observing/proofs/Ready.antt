@@ -44,7 +44,7 @@ use Rattle.states.proofs.Looking.{whole-parts, good-whole}
 use Rattle.records.specs.declared.Scope.{Scope}
 use Rattle.records.specs.Readable.{schemaIn, typedIn, stepAlone, stepListed}
 use Rattle.records.proofs.Parts.{alone-behind}
-use Rattle.marks.specs.Marks.{Suited, RightForFew}
+use Rattle.stepmasks.specs.Marks.{Suited, RightForFew}
 use Rattle.notes.specs.declared.Noted.{Noted}
 use Rattle.notes.specs.Notes.{observedStep, IsObserved, StepTurnable, observedTurned, TurnObserved}
 use Rattle.observing.specs.Observing.{Observable, Ready, Whole, Done}

@@ -1,11 +1,11 @@
--- `marks::mark_next` meets its contract: each of its four ways on is a law of Steps. A place in the proof has the name of the value that it makes known.
+-- `stepmasks::mark_next` meets its contract: each of its four ways on is a law of Steps. A place in the proof has the name of the value that it makes known.
 use native.Mathlib.Omega.{arith}
 use borrow.Author.Needs.{needs}
 use Rattle.truth.specs.Bools.{clash}
-use Rattle.marks.proofs.Looks.{plain-next, item-ahead, comes-plain, same-told, looks-stay, looks-next, looks-wrong}
-use Rattle.marks.proofs.Steps.{marked-both, marked-before, marked-first, marked-after}
-use Rattle.marks.proofs.mark_next.Statement.{statement}
-use Rattle.marks.proofs.mark_next.Tie as tie
+use Rattle.stepmasks.proofs.Looks.{plain-next, item-ahead, comes-plain, same-told, looks-stay, looks-next, looks-wrong}
+use Rattle.stepmasks.proofs.Steps.{marked-both, marked-before, marked-first, marked-after}
+use Rattle.stepmasks.proofs.mark_next.Statement.{statement}
+use Rattle.stepmasks.proofs.mark_next.Tie as tie
 
 fact-requires-2 : tie.Need-fact-requires-2
 fact-requires-2 c κs =

@@ -1,9 +1,9 @@
--- `marks::mark_rest` meets its contract: a loop of `Marked` facts.
+-- `stepmasks::mark_rest` meets its contract: a loop of `Marked` facts.
 use native.Mathlib.Omega.{arith}
 use Rattle.lifting.specs.Pairs.{Inverts}
-use Rattle.marks.proofs.Facts.{passed-by, Marked, marked-none, marked-next, marked-all}
-use Rattle.marks.proofs.mark_rest.Statement.{statement}
-use Rattle.marks.proofs.mark_rest.Tie as tie
+use Rattle.stepmasks.proofs.Facts.{passed-by, Marked, marked-none, marked-next, marked-all}
+use Rattle.stepmasks.proofs.mark_rest.Statement.{statement}
+use Rattle.stepmasks.proofs.mark_rest.Tie as tie
 
 abbrev Inv-loop : tie.InvT-loop
 Inv-loop m₀ s t atoms b c₀ changed₀ m c changed = Marked s atoms b m₀ c₀ m c changed × Inverts b t

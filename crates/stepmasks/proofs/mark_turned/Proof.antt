@@ -1,4 +1,4 @@
--- `marks::mark_turned` meets its contract: a loop of facts that are looked over and turn, with the table of the step.
+-- `stepmasks::mark_turned` meets its contract: a loop of facts that are looked over and turn, with the table of the step.
 use mathlib.Core.Path.{_≡_, sym, ap, _∙_}
 use native.Mathlib.Omega.{arith}
 use lib.ListN.{length}
@@ -6,13 +6,13 @@ use Rattle.mask.specs.Sets.{cardinality}
 use Rattle.answer.proofs.Laws.{good-refused}
 use Rattle.states.proofs.Looking.{looked-next, looked-bad, looked-all}
 use Rattle.lifting.specs.Pairs.{Inverts}
-use Rattle.marks.specs.Marks.{plain}
+use Rattle.stepmasks.specs.Marks.{plain}
 use Rattle.lifting.proofs.Pairs.{digits-long}
-use Rattle.marks.proofs.Looks.{plain-next, item-ahead, comes-plain, Looking, looking-known, number-known}
-use Rattle.marks.proofs.Turning.{Turns, turns-none, turns-next, turns-all}
+use Rattle.stepmasks.proofs.Looks.{plain-next, item-ahead, comes-plain, Looking, looking-known, number-known}
+use Rattle.stepmasks.proofs.Turning.{Turns, turns-none, turns-next, turns-all}
 use borrow.Author.Needs.{needs}
-use Rattle.marks.proofs.mark_turned.Statement.{statement}
-use Rattle.marks.proofs.mark_turned.Tie as tie
+use Rattle.stepmasks.proofs.mark_turned.Statement.{statement}
+use Rattle.stepmasks.proofs.mark_turned.Tie as tie
 
 abbrev Inv-loop : tie.InvT-loop
 Inv-loop s table t atoms b at state₀ held after₀ c₀ unbound₀ count₀ state after c unbound count =

@@ -1,7 +1,7 @@
--- `marks::pass` meets its contract: the mark of `mark`, and the cursor of `on`.
+-- `stepmasks::pass` meets its contract: the mark of `mark`, and the cursor of `on`.
 use borrow.Author.Needs.{needs}
-use Rattle.marks.proofs.pass.Statement.{statement}
-use Rattle.marks.proofs.pass.Tie as tie
+use Rattle.stepmasks.proofs.pass.Statement.{statement}
+use Rattle.stepmasks.proofs.pass.Tie as tie
 
 returns : tie.Need-returns
 returns c = (c .before .before .before .mark .ensures, c .on .ensures)

@@ -26,7 +26,7 @@ use Rattle.states.proofs.Cursors.{misplaced-by}
 use Rattle.states.proofs.Looking.{looked-first, looked-next, looked-bad}
 use Rattle.factlist.specs.declared.ListCursor.{ListCursor}
 use Rattle.factlist.specs.Rest.{rest, next, Ahead, Comes}
-use Rattle.marks.specs.Marks.{plain, RightForFew, Suited, ListAhead, Looks}
+use Rattle.stepmasks.specs.Marks.{plain, RightForFew, Suited, ListAhead, Looks}
 use Rattle.factlist.proofs.Rest.{of-list-by, comes-by}
 
 -- the cursor c′ is past the fact at c

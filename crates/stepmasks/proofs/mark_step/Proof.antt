@@ -1,4 +1,4 @@
--- `marks::mark_step` meets its contract: a loop of turns, then what is left of either state.
+-- `stepmasks::mark_step` meets its contract: a loop of turns, then what is left of either state.
 use mathlib.Core.Path.{_≡_, refl, sym, ap, _∙_}
 use lib.ListN.{length}
 use borrow.Author.Needs.{needs}
@@ -6,12 +6,12 @@ use Rattle.answer.proofs.Laws.{good-refused}
 use Rattle.format.specs.Lists.{listAt}
 use Rattle.lifting.specs.Pairs.{Inverts}
 use Rattle.factlist.specs.Rest.{rest}
-use Rattle.marks.specs.Marks.{Suited, toCome}
+use Rattle.stepmasks.specs.Marks.{Suited, toCome}
 use Rattle.lifting.proofs.Pairs.{digits-long}
-use Rattle.marks.proofs.Looks.{Looking, looking-known}
-use Rattle.marks.proofs.Steps.{both-left, Stands, stands-first, stands-next, stands-end}
-use Rattle.marks.proofs.mark_step.Statement.{statement}
-use Rattle.marks.proofs.mark_step.Tie as tie
+use Rattle.stepmasks.proofs.Looks.{Looking, looking-known}
+use Rattle.stepmasks.proofs.Steps.{both-left, Stands, stands-first, stands-next, stands-end}
+use Rattle.stepmasks.proofs.mark_step.Statement.{statement}
+use Rattle.stepmasks.proofs.mark_step.Tie as tie
 
 abbrev Inv-loop : tie.InvT-loop
 Inv-loop s table t atoms b pre post before₀ after₀ w₀ before after w =

@@ -1,8 +1,8 @@
--- `marks::same_fact` meets its contract.
+-- `stepmasks::same_fact` meets its contract.
 use borrow.Author.Needs.{needs}
 use Rattle.observed.specs.Inverse.{sameFact}
-use Rattle.marks.proofs.same_fact.Statement.{statement}
-use Rattle.marks.proofs.same_fact.Tie as tie
+use Rattle.stepmasks.proofs.same_fact.Statement.{statement}
+use Rattle.stepmasks.proofs.same_fact.Tie as tie
 
 pub same-fact-spec : {M : Type 1} → statement M
 unfolding sameFact

@@ -17,15 +17,15 @@ use Rattle.observed.specs.Inverse.{marks, atomsIn, sameFact, unbound, inOneAlon
 use Rattle.observed.proofs.Facts.{same-fact, fact-same}
 use Rattle.states.specs.declared.FactCursor.{FactCursor}
 use Rattle.factlist.specs.declared.ListCursor.{ListCursor}
-use Rattle.marks.specs.declared.Walk.{Walk}
+use Rattle.stepmasks.specs.declared.Walk.{Walk}
 use Rattle.lifting.specs.Pairs.{pairOf}
 use Rattle.factlist.specs.Rest.{rest, Ahead, Comes}
-use Rattle.marks.specs.Marks.{plain, goingOn, says, NextMarked, ListAhead, StepMarked}
+use Rattle.stepmasks.specs.Marks.{plain, goingOn, says, NextMarked, ListAhead, StepMarked}
 use Rattle.lifting.proofs.Pairs.{place-bound, place-unbound, pair-test}
-use Rattle.marks.proofs.Unbound.{none-after, both-more, before-more, first-more, second-more}
+use Rattle.stepmasks.proofs.Unbound.{none-after, both-more, before-more, first-more, second-more}
 use Rattle.factlist.proofs.Rest.{rest-none}
-use Rattle.marks.proofs.Facts.{Passes, passed-by}
-use Rattle.marks.proofs.Looks.{suited-next}
+use Rattle.stepmasks.proofs.Facts.{Passes, passed-by}
+use Rattle.stepmasks.proofs.Looks.{suited-next}
 
 -- neither of two counts is 0
 pub both-left : (m n : ℕ) → (ltb 0 m && ltb 0 n) ≡ true → (0 < m) × (0 < n)

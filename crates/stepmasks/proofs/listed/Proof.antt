@@ -1,9 +1,9 @@
--- `marks::listed` meets its contract: the cursor is at the first fact of the list.
+-- `stepmasks::listed` meets its contract: the cursor is at the first fact of the list.
 use native.Mathlib.Omega.{arith}
 use borrow.Author.Needs.{needs}
-use Rattle.marks.proofs.Looks.{listed-by}
-use Rattle.marks.proofs.listed.Statement.{statement}
-use Rattle.marks.proofs.listed.Tie as tie
+use Rattle.stepmasks.proofs.Looks.{listed-by}
+use Rattle.stepmasks.proofs.listed.Statement.{statement}
+use Rattle.stepmasks.proofs.listed.Tie as tie
 
 returns : tie.Need-returns
 returns c =

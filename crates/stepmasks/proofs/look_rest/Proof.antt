@@ -1,4 +1,4 @@
--- `marks::look_rest` meets its contract: a loop of facts that are looked over and `Marked`.
+-- `stepmasks::look_rest` meets its contract: a loop of facts that are looked over and `Marked`.
 use Prim.Native.Nat.{ℕ}
 use mathlib.Core.Path.{_≡_, sym, _∙_}
 use native.Mathlib.Omega.{arith}
@@ -8,12 +8,12 @@ use Rattle.answer.proofs.Laws.{good-refused}
 use Rattle.states.specs.Looked.{Looked}
 use Rattle.states.proofs.Looking.{looked-next, looked-bad, looked-all}
 use Rattle.lifting.specs.Pairs.{Inverts}
-use Rattle.marks.specs.Marks.{plain}
-use Rattle.marks.proofs.Facts.{Marked, marked-none, marked-next, marked-all}
-use Rattle.marks.proofs.Looks.{plain-next, item-ahead, comes-plain}
+use Rattle.stepmasks.specs.Marks.{plain}
+use Rattle.stepmasks.proofs.Facts.{Marked, marked-none, marked-next, marked-all}
+use Rattle.stepmasks.proofs.Looks.{plain-next, item-ahead, comes-plain}
 use borrow.Author.Needs.{needs}
-use Rattle.marks.proofs.look_rest.Statement.{statement}
-use Rattle.marks.proofs.look_rest.Tie as tie
+use Rattle.stepmasks.proofs.look_rest.Statement.{statement}
+use Rattle.stepmasks.proofs.look_rest.Tie as tie
 
 abbrev Inv-loop : tie.InvT-loop
 Inv-loop m₀ s table t atoms b c₀ changed₀ m c changed =

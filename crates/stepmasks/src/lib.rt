@@ -16,7 +16,7 @@ ghost use Rattle.states.specs.Looked.{ListLooked};
 ghost use Rattle.observed.specs.Inverse.{marks, sameFact, unboundChanged};
 ghost use Rattle.lifting.specs.Pairs.{noDigits, Inverts, markedAs};
 ghost use Rattle.factlist.specs.Rest.{rest, next, Ahead};
-ghost use Rattle.marks.specs.Marks.{plain, RightForFew, Suited, ListAhead, Looks, RestMarked, goingOn, NextMarked, StepMarked, StepTurned};
+ghost use Rattle.stepmasks.specs.Marks.{plain, RightForFew, Suited, ListAhead, Looks, RestMarked, goingOn, NextMarked, StepMarked, StepTurned};
 use answer::Answer;
 use factlist::ListCursor;
 use states::FactCursor;

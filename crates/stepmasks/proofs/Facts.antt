@@ -14,7 +14,7 @@ use Rattle.lifting.specs.Pairs.{pairOf, markedAs}
 use Rattle.factlist.specs.Rest.{rest, Ahead, next, Comes}
 use Rattle.factlist.proofs.Rest.{rest-none}
 use Rattle.lifting.proofs.Pairs.{pair-test, marked-as}
-use Rattle.marks.proofs.Unbound.{none-more}
+use Rattle.stepmasks.proofs.Unbound.{none-more}
 
 -- the cursor c with the set m, past the fact f that is marked by its pair x
 abbrev pub Passes : Fact → ℕ → ListCursor → List ℕ → ListCursor → List ℕ → Type 0

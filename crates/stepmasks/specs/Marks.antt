@@ -24,8 +24,8 @@ use Rattle.states.specs.declared.FactCursor.{FactCursor}
 use Rattle.states.specs.Looked.{Looked}
 use Rattle.observed.specs.Inverse.{marks, atomsIn, unboundChanged, turnMarks, someUnbound}
 use Rattle.turning.specs.Turning.{flipped}
-use Rattle.marks.specs.declared.Walk.{Walk}
-use Rattle.marks.specs.declared.MarkedList.{MarkedList}
+use Rattle.stepmasks.specs.declared.Walk.{Walk}
+use Rattle.stepmasks.specs.declared.MarkedList.{MarkedList}
 
 -- ---- the facts of a state that are looked over on the way
 
