@@ -23,7 +23,7 @@ use Rattle.observed.specs.Observed.{nothingSeen, heldAfter, observedOf}
 use Rattle.observed.specs.Rules.{unboundAnswer, conflictAmong, sheetObserved}
 use Rattle.observedright.proofs.Sections.{nothing-alone}
 use Rattle.observedright.proofs.OneWalk.{observed-taught}
-use Rattle.notes.specs.Notes.{IsObserved}
+use Rattle.observestep.specs.Notes.{IsObserved}
 use Rattle.observing.specs.declared.Walked.{Walked}
 use Rattle.observing.specs.Observing.{RecordsObserved}
 use Rattle.learner.specs.Learner.{FormObserved, BookObserved, LearnOutcome}

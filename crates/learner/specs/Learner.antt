@@ -8,7 +8,7 @@ use Rattle.answer.specs.declared.Answer.the-variants.{Good}
 use Rattle.format.specs.Form.{Form}
 use Rattle.format.specs.LookOver.{lookOver}
 use Rattle.observed.specs.Observed.{observedOf}
-use Rattle.notes.specs.Notes.{IsObserved}
+use Rattle.observestep.specs.Notes.{IsObserved}
 use Rattle.jobs.specs.Learn.{learnable, learn, learnBytes}
 use Rattle.observing.specs.declared.Walked.{Walked}
 

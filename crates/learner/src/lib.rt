@@ -22,7 +22,7 @@ fn observe_form(s: &[u8], short: bool, h: Sections, observed: &mut [u8]) -> Walk
             named: 0,
         };
     }
-    notes::nothing_seen(s, h, observed);
+    observestep::nothing_seen(s, h, observed);
     observing::walk::records(
         s,
         short,

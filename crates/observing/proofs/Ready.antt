@@ -45,8 +45,8 @@ use Rattle.records.specs.declared.Scope.{Scope}
 use Rattle.records.specs.Readable.{schemaIn, typedIn, stepAlone, stepListed}
 use Rattle.records.proofs.Parts.{alone-behind}
 use Rattle.stepmasks.specs.Marks.{Suited, RightForFew}
-use Rattle.notes.specs.declared.Noted.{Noted}
-use Rattle.notes.specs.Notes.{observedStep, IsObserved, StepTurnable, observedTurned, TurnObserved}
+use Rattle.observestep.specs.declared.Noted.{Noted}
+use Rattle.observestep.specs.Notes.{observedStep, IsObserved, StepTurnable, observedTurned, TurnObserved}
 use Rattle.observing.specs.Observing.{Observable, Ready, Whole, Done}
 
 -- the bound facts of a move are of relations that the book has

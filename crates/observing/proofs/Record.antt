@@ -27,7 +27,7 @@ use Rattle.records.specs.Head.{headOf}
 use Rattle.records.specs.Readable.{schemaIn, scopeOf, Readable}
 use Rattle.observed.specs.Observed.{Observed, observeAll}
 use Rattle.observed.proofs.Records.{observed-record}
-use Rattle.notes.specs.Notes.{IsObserved}
+use Rattle.observestep.specs.Notes.{IsObserved}
 use Rattle.observing.specs.declared.Walked.{Walked}
 use Rattle.observing.specs.Observing.{Begun, Observable, Observes, RecordObserved}
 

@@ -13,7 +13,7 @@ use Rattle.format.specs.Parts.{recordPart, recordsAt}
 use Rattle.format.specs.Records.{recordAt}
 use Rattle.observed.specs.Observed.{Observed, observedAfter, observedAfterAll}
 use Rattle.observed.proofs.Records.{held-none, held-more}
-use Rattle.notes.specs.Notes.{IsObserved}
+use Rattle.observestep.specs.Notes.{IsObserved}
 use Rattle.observing.specs.Observing.{RecordsObserved}
 use Rattle.observing.proofs.Steps.{observedAs, observed-path}
 

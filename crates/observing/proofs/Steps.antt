@@ -26,8 +26,8 @@ use Rattle.records.specs.Readable.{schemaIn, typedIn, Readable, stepListed}
 use Rattle.records.specs.Rows.{stepAfter}
 use Rattle.records.proofs.Parts.{listed-good}
 use Rattle.records.proofs.Going.{Going, going-first, going-on}
-use Rattle.notes.specs.declared.Noted.{Noted}
-use Rattle.notes.specs.Notes.{IsObserved, observedStep}
+use Rattle.observestep.specs.declared.Noted.{Noted}
+use Rattle.observestep.specs.Notes.{IsObserved, observedStep}
 use Rattle.observing.proofs.Ready.{after-full, listed-whole, step-move}
 use Rattle.observing.specs.Observing.{Begun, Observable, Ready, Done}
 

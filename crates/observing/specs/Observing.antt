@@ -23,8 +23,8 @@ use Rattle.atoms.specs.Atoms.{atomSet}
 use Rattle.factsets.specs.Right.{RightState}
 use Rattle.turning.specs.Turning.{Carried, Carries}
 use Rattle.observed.specs.Observed.{bound, Observed, observedSet, observedAfter, observedAfterAll}
-use Rattle.notes.specs.declared.Noted.{Noted}
-use Rattle.notes.specs.Notes.{observedStep, IsObserved}
+use Rattle.observestep.specs.declared.Noted.{Noted}
+use Rattle.observestep.specs.Notes.{observedStep, IsObserved}
 use Rattle.observing.specs.declared.Walked.{Walked}
 
 -- ---- one step

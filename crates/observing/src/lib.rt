@@ -5,7 +5,7 @@
 pub mod walk; // the records of a book, one after the other
 
 use answer::Answer;
-use notes::Noted;
+use observestep::Noted;
 use records::Head;
 use records::Scope;
 use terms::Sections;
@@ -70,9 +70,9 @@ fn observe_list(
     ensures { λ r. ⌜ ((k : ℕ) → r .answer ≡ Good k → (now (t .exit) ≡ noDigits) × DoneReady (now (book .entry)) c pre at (now (state .entry)) held (now (observed .entry)) named (now (state .exit)) (now (observed .exit)) r) ⌝ }
 {
     if c.short {
-        return notes::observe_turned(book, c.h, table, at, t, state, held, observed, named);
+        return observestep::observe_turned(book, c.h, table, at, t, state, held, observed, named);
     }
-    notes::observe(book, table, pre, at, t, observed, named)
+    observestep::observe(book, table, pre, at, t, observed, named)
 }
 
 // A step and the list behind it, which is observed as it is looked over, where it is whole.

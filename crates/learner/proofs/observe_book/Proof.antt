@@ -1,7 +1,7 @@
 -- `observe_book` meets its contract: each return by the rows before it.
 use mathlib.Core.Path.{_∙_}
 use Rattle.wellformed.proofs.Headers.{moves-few}
-use Rattle.notes.proofs.Start.{nothing-sized}
+use Rattle.observestep.proofs.Start.{nothing-sized}
 use Rattle.learner.proofs.Book.{moves-own, at-form, formed, at-unbound, at-conflict, at-end}
 use borrow.Author.Needs.{needs}
 use Rattle.learner.proofs.observe_book.Statement.{statement}

@@ -16,7 +16,7 @@ use Rattle.format.specs.Decode.{recordedStep}
 use Rattle.observed.specs.Observed.{bound, setAt, observedSet, noted, observeBy, observe, firstNamed}
 use Rattle.grounding.specs.Grounding.{heldAtoms}
 use Rattle.stepmasks.specs.Marks.{StepMarked, StepTurned}
-use Rattle.notes.specs.Notes.{observedStep, IsObserved, observedTurned, TurnObserved}
+use Rattle.observestep.specs.Notes.{observedStep, IsObserved, observedTurned, TurnObserved}
 
 -- the part that is lent to `mark_step` is the set of the move's bound facts
 pub bound-part : (l : List ℕ) (a at : ℕ) → at ≡ setAt a bound → midOf at (at + 32 - at) l ≡ observedSet l a bound

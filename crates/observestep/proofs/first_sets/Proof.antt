@@ -1,8 +1,8 @@
--- `notes::first_sets` meets its contract: three sets, one after the other.
-use Rattle.notes.proofs.Sets.{first-by}
+-- `observestep::first_sets` meets its contract: three sets, one after the other.
+use Rattle.observestep.proofs.Sets.{first-by}
 use borrow.Author.Needs.{needs}
-use Rattle.notes.proofs.first_sets.Statement.{statement}
-use Rattle.notes.proofs.first_sets.Tie as tie
+use Rattle.observestep.proofs.first_sets.Statement.{statement}
+use Rattle.observestep.proofs.first_sets.Tie as tie
 
 returns : tie.Need-returns
 returns c =

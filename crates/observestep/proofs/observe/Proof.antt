@@ -1,12 +1,12 @@
--- `notes::observe` meets its contract: the answer and the bound facts from `mark_step`, the sets from `note`, the offset from `first_named`.
+-- `observestep::observe` meets its contract: the answer and the bound facts from `mark_step`, the sets from `note`, the offset from `first_named`.
 use mathlib.Core.Path.{refl, ap}
 use native.Mathlib.Omega.{arith}
 use borrow.Author.Needs.{needs}
 use Rattle.terms.specs.declared.Step.{Step}
 use Rattle.format.specs.Lists.{listEnd}
-use Rattle.notes.proofs.Steps.{bound-part, observed-by}
-use Rattle.notes.proofs.observe.Statement.{statement}
-use Rattle.notes.proofs.observe.Tie as tie
+use Rattle.observestep.proofs.Steps.{bound-part, observed-by}
+use Rattle.observestep.proofs.observe.Statement.{statement}
+use Rattle.observestep.proofs.observe.Tie as tie
 
 set-at-requires : tie.Need-set-at-requires
 set-at-requires c κs =

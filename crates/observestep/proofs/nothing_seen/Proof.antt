@@ -1,4 +1,4 @@
--- `notes::nothing_seen` meets its contract: the moves up to i have their first sets.
+-- `observestep::nothing_seen` meets its contract: the moves up to i have their first sets.
 use Prim.Native.Nat.{_-_, _≤_}
 use native.Mathlib.Omega.{arith}
 use mathlib.Core.Path.{_≡_, sym, _∙_}
@@ -6,9 +6,9 @@ use borrow.Author.Needs.{needs}
 use lib.ListN.{length}
 use Rattle.limits.specs.Limits.{observedSize}
 use Rattle.terms.specs.Schema.{schema}
-use Rattle.notes.proofs.Start.{Holds, first, nothing-sized, started-none, started-next, started-all}
-use Rattle.notes.proofs.nothing_seen.Statement.{statement}
-use Rattle.notes.proofs.nothing_seen.Tie as tie
+use Rattle.observestep.proofs.Start.{Holds, first, nothing-sized, started-none, started-next, started-all}
+use Rattle.observestep.proofs.nothing_seen.Statement.{statement}
+use Rattle.observestep.proofs.nothing_seen.Tie as tie
 
 abbrev Inv-loop : tie.InvT-loop
 Inv-loop book h observed₀ count i₀ observed i = (i ≤ count) × Holds (first (schema h book) i) observed × (length observed₀ ≡ observedSize)

@@ -1,8 +1,8 @@
--- `notes::narrow` meets its contract: the part that was lent, put back.
-use Rattle.notes.proofs.Sets.{narrowed-back}
+-- `observestep::narrow` meets its contract: the part that was lent, put back.
+use Rattle.observestep.proofs.Sets.{narrowed-back}
 use borrow.Author.Needs.{needs}
-use Rattle.notes.proofs.narrow.Statement.{statement}
-use Rattle.notes.proofs.narrow.Tie as tie
+use Rattle.observestep.proofs.narrow.Statement.{statement}
+use Rattle.observestep.proofs.narrow.Tie as tie
 
 pub narrow-spec : {M : Type 1} → statement M
 narrow-spec =

@@ -12,7 +12,7 @@ use Rattle.mask.specs.Sets.{intersection, union, difference}
 use Rattle.observed.specs.Observed.{alwaysBefore, everBefore, alwaysAfter, everAfter, added, deleted, bound, setAt, noted}
 use Rattle.observed.specs.OnSet.{onSet}
 use Rattle.observed.proofs.Noted.{change, changes, noted-changes}
-use Rattle.notes.specs.Notes.{narrowed, widened, firstSets}
+use Rattle.observestep.specs.Notes.{narrowed, widened, firstSets}
 
 set-back : (f : List ℕ → List ℕ) (at k : ℕ) (l m : List ℕ) → k ≡ 32 → m ≡ f (midOf at k l) → putMid at k l m ≡ onSet at f l
 unfolding onSet

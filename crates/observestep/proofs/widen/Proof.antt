@@ -1,8 +1,8 @@
--- `notes::widen` meets its contract: the part that was lent, put back.
-use Rattle.notes.proofs.Sets.{widened-back}
+-- `observestep::widen` meets its contract: the part that was lent, put back.
+use Rattle.observestep.proofs.Sets.{widened-back}
 use borrow.Author.Needs.{needs}
-use Rattle.notes.proofs.widen.Statement.{statement}
-use Rattle.notes.proofs.widen.Tie as tie
+use Rattle.observestep.proofs.widen.Statement.{statement}
+use Rattle.observestep.proofs.widen.Tie as tie
 
 pub widen-spec : {M : Type 1} → statement M
 widen-spec =

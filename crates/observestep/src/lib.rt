@@ -15,7 +15,7 @@ ghost use Rattle.answer.specs.declared.Answer.the-variants.{Good};
 ghost use Rattle.states.specs.Looked.{ListLooked};
 ghost use Rattle.lifting.specs.Pairs.{noDigits};
 ghost use Rattle.stepmasks.specs.Marks.{Suited, RightForFew};
-ghost use Rattle.notes.specs.Notes.{narrowed, widened, observedStep, IsObserved, firstSets, StepTurnable, TurnObserved};
+ghost use Rattle.observestep.specs.Notes.{narrowed, widened, observedStep, IsObserved, firstSets, StepTurnable, TurnObserved};
 use answer::Answer;
 use terms::Move;
 use terms::Sections;

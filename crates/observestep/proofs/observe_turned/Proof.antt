@@ -1,13 +1,13 @@
--- `notes::observe_turned` meets its contract: the bound facts before the step from the state, those after it and row 11 from `mark_turned`.
+-- `observestep::observe_turned` meets its contract: the bound facts before the step from the state, those after it and row 11 from `mark_turned`.
 use mathlib.Core.Path.{ap}
 use native.Mathlib.Omega.{arith}
 use borrow.Author.Needs.{needs}
 use Rattle.terms.specs.declared.Step.{Step}
 use Rattle.format.specs.Lists.{listEnd}
 use Rattle.observed.proofs.Noted.{length-observedSet}
-use Rattle.notes.proofs.Steps.{bound-part, turned-by}
-use Rattle.notes.proofs.observe_turned.Statement.{statement}
-use Rattle.notes.proofs.observe_turned.Tie as tie
+use Rattle.observestep.proofs.Steps.{bound-part, turned-by}
+use Rattle.observestep.proofs.observe_turned.Statement.{statement}
+use Rattle.observestep.proofs.observe_turned.Tie as tie
 
 read-step-requires : tie.Need-read-step-requires
 unfolding listEnd

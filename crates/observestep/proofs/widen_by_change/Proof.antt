@@ -1,8 +1,8 @@
--- `notes::widen_by_change` meets its contract: the part that was lent, put back.
-use Rattle.notes.proofs.Sets.{widened-back}
+-- `observestep::widen_by_change` meets its contract: the part that was lent, put back.
+use Rattle.observestep.proofs.Sets.{widened-back}
 use borrow.Author.Needs.{needs}
-use Rattle.notes.proofs.widen_by_change.Statement.{statement}
-use Rattle.notes.proofs.widen_by_change.Tie as tie
+use Rattle.observestep.proofs.widen_by_change.Statement.{statement}
+use Rattle.observestep.proofs.widen_by_change.Tie as tie
 
 pub widen-by-change-spec : {M : Type 1} → statement M
 widen-by-change-spec =

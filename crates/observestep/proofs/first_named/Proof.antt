@@ -1,7 +1,7 @@
--- `notes::first_named` meets its contract: the two tests are those of `firstNamed`.
+-- `observestep::first_named` meets its contract: the two tests are those of `firstNamed`.
 use borrow.Author.Tests.{eq-eqb, ne-eqb}
-use Rattle.notes.proofs.first_named.Statement.{statement}
-use Rattle.notes.proofs.first_named.Tie as tie
+use Rattle.observestep.proofs.first_named.Statement.{statement}
+use Rattle.observestep.proofs.first_named.Tie as tie
 use Rattle.observed.specs.Observed.{firstNamed}
 
 pub first-named-spec : {M : Type 1} → statement M

@@ -1,9 +1,9 @@
--- `notes::note` meets its contract: six sets, one after the other.
+-- `observestep::note` meets its contract: six sets, one after the other.
 use native.Mathlib.Omega.{arith}
-use Rattle.notes.proofs.Sets.{noted-by}
+use Rattle.observestep.proofs.Sets.{noted-by}
 use borrow.Author.Needs.{needs}
-use Rattle.notes.proofs.note.Statement.{statement}
-use Rattle.notes.proofs.note.Tie as tie
+use Rattle.observestep.proofs.note.Statement.{statement}
+use Rattle.observestep.proofs.note.Tie as tie
 
 widen-by-change-requires-2 : tie.Need-widen-by-change-requires-2
 widen-by-change-requires-2 c κs =

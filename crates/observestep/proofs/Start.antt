@@ -24,7 +24,7 @@ use Rattle.observed.specs.OnSet.{onSet}
 use Rattle.observed.proofs.Parts.{part-bytes, length-onSet, bytes-onSet, onSet-in, onSet-out}
 use Rattle.observed.proofs.Noted.{set-fits, sets-apart, length-observedSet}
 use Rattle.observed.proofs.Observe.{test-observedSet}
-use Rattle.notes.specs.Notes.{widened, firstSets}
+use Rattle.observestep.specs.Notes.{widened, firstSets}
 
 -- the set has every bound fact at first
 abbrev pub full : ℕ → Bool
