@@ -24,8 +24,8 @@ use Rattle.observed.specs.Rules.{unboundAnswer, conflictAmong, sheetObserved}
 use Rattle.observedright.proofs.Sections.{nothing-alone}
 use Rattle.observedright.proofs.OneWalk.{observed-taught}
 use Rattle.observestep.specs.Notes.{IsObserved}
-use Rattle.observing.specs.declared.Walked.{Walked}
-use Rattle.observing.specs.Observing.{RecordsObserved}
+use Rattle.observerecords.specs.declared.Walked.{Walked}
+use Rattle.observerecords.specs.Observing.{RecordsObserved}
 use Rattle.learner.specs.Learner.{FormObserved, BookObserved, LearnOutcome}
 
 refused-not-good {ℓ} : {A : Type ℓ} (a : Answer) (m : ℕ) → isRefused a ≡ true → a ≡ Good m → A

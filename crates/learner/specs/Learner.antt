@@ -10,7 +10,7 @@ use Rattle.format.specs.LookOver.{lookOver}
 use Rattle.observed.specs.Observed.{observedOf}
 use Rattle.observestep.specs.Notes.{IsObserved}
 use Rattle.jobs.specs.Learn.{learnable, learn, learnBytes}
-use Rattle.observing.specs.declared.Walked.{Walked}
+use Rattle.observerecords.specs.declared.Walked.{Walked}
 
 -- rows 1 to 10, and what is observed where they are good
 pub record FormObserved (form : Form) (s bytes : List ℕ) (w : Walked) : Type 0 where

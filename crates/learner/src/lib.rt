@@ -2,7 +2,7 @@
 // Uses sections and observing for the rows of the form, notes for what is observed before any record, rulesheet and conflicts for what comes of what is
 // observed, answer, limits and terms, and the definitions of jobs and observed.
 use answer::Answer;
-use observing::Walked;
+use observerecords::Walked;
 use terms::Sections;
 ghost use mathlib.Core.Path.{_≡_};
 ghost use Rattle.limits.specs.Limits.{observedSize};
@@ -23,7 +23,7 @@ fn observe_form(s: &[u8], short: bool, h: Sections, observed: &mut [u8]) -> Walk
         };
     }
     observestep::nothing_seen(s, h, observed);
-    observing::walk::records(
+    observerecords::walk::records(
         s,
         short,
         h,

@@ -1,0 +1,267 @@
+// One record of a book looked over and observed at once, rows 6 to 10: each list of facts is read once for both, and the state of a short book's record is
+// carried on once.
+// Uses records for the parts of a record that are no lists, states for the first state, notes for a list behind a step, lifting for the table that it is
+// lent, turning for a short book's state, tables, mask, answer, limits, terms, and the definitions of format and observed.
+pub mod walk; // the records of a book, one after the other
+
+use answer::Answer;
+use observestep::Noted;
+use records::Head;
+use records::Scope;
+use terms::Sections;
+ghost use mathlib.Core.Path.{_≡_};
+ghost use Prim.Native.Nat.{ℕ, _+_, _≤_};
+ghost use lib.ListN.{length};
+ghost use Rattle.limits.specs.Limits.{maxLength, maxObjects, maxRelations, maxMoves, stepSize, nearCeiling};
+ghost use Rattle.answer.specs.declared.Answer.the-variants.{Good};
+ghost use Rattle.terms.specs.Schema.{schema};
+ghost use Rattle.terms.specs.Typing.{Falling};
+ghost use Rattle.format.specs.Filed.{filedFact};
+ghost use Rattle.format.specs.Lists.{listAt, listEnd};
+ghost use Rattle.format.specs.States.{state};
+ghost use Rattle.format.specs.Records.{steps, trajectory, body};
+ghost use Rattle.format.specs.Decode.{recordedStepsAt, stepsOfRecord};
+ghost use Rattle.states.specs.Looked.{ListLooked};
+ghost use Rattle.observed.specs.Observed.{observeAll};
+ghost use Rattle.records.specs.Head.{headOf};
+ghost use Rattle.records.specs.Readable.{schemaIn, typedIn, stepListed};
+ghost use Rattle.lifting.specs.Pairs.{noDigits};
+ghost use Rattle.observerecords.specs.Observing.{Begun, CanObserve, Observable, ObservableBy, Ready, Whole, DoneReady, Observes, RecordObserved};
+
+// What a walk over records comes to: its answer, and the offset of the first step that row 11 names, 0 where none is.
+pub struct Walked {
+    pub answer: Answer,
+    pub named: usize,
+}
+
+// A walk that came to a refusal, by which no step is named.
+pub fn stopped(answer: Answer) -> Walked
+    ensures { λ r. ⌜ r ≡ record { answer = answer; named = 0 } ⌝ }
+{
+    Walked { answer, named: 0 }
+}
+
+// A walk that came to its end.
+pub fn ended(value: usize, named: usize) -> Walked
+    ensures { λ r. ⌜ r ≡ record { answer = Good value; named = named } ⌝ }
+{
+    Walked {
+        answer: Answer::Good(value),
+        named,
+    }
+}
+
+// The whole list behind the step at an offset, by what stands for the facts before it: in a full book the list at `pre`, in a short one the state, in
+// which its own turns.
+fn observe_list(
+    book: &[u8],
+    c: Scope,
+    table: &[u32; 512],
+    pre: usize,
+    at: usize,
+    t: &mut [u8],
+    state: &mut [u8],
+    held: usize,
+    observed: &mut [u8],
+    named: usize,
+) -> Noted
+    requires { ⌜ ObservableBy (now book) c (now table) × Ready (now book) c pre (now state) held (now observed) × Whole (now book) c at × (now t ≡ noDigits) ⌝ }
+    ensures { λ r. ⌜ ListLooked (now (book .entry)) (now (table .entry)) (at + stepSize) (r .answer) ⌝ }
+    ensures { λ r. ⌜ ((k : ℕ) → r .answer ≡ Good k → (now (t .exit) ≡ noDigits) × DoneReady (now (book .entry)) c pre at (now (state .entry)) held (now (observed .entry)) named (now (state .exit)) (now (observed .exit)) r) ⌝ }
+{
+    if c.short {
+        return observestep::observe_turned(book, c.h, table, at, t, state, held, observed, named);
+    }
+    observestep::observe(book, table, pre, at, t, observed, named)
+}
+
+// A step and the list behind it, which is observed as it is looked over, where it is whole.
+fn observe_step(
+    book: &[u8],
+    c: Scope,
+    kinds: &[u32; 256],
+    table: &[u32; 512],
+    pre: usize,
+    at: usize,
+    t: &mut [u8],
+    state: &mut [u8],
+    held: usize,
+    observed: &mut [u8],
+    named: usize,
+) -> Noted
+    requires { ⌜ Observable (now book) c (now kinds) (now table) × Ready (now book) c pre (now state) held (now observed) × (at ≤ maxLength) × (now t ≡ noDigits) ⌝ }
+    ensures { λ r. ⌜ r .answer ≡ stepListed (c .short) (schemaIn (now (book .entry)) c) (typedIn (now (book .entry)) c) (now (book .entry)) (c .end) at ⌝ }
+    ensures { λ r. ⌜ ((k : ℕ) → r .answer ≡ Good k → (now (t .exit) ≡ noDigits) × DoneReady (now (book .entry)) c pre at (now (state .entry)) held (now (observed .entry)) named (now (state .exit)) (now (observed .exit)) r) ⌝ }
+{
+    let alone = records::step_alone(book, c.h, kinds, c.end, at);
+    if answer::is_refused(alone) {
+        return Noted {
+            answer: alone,
+            named,
+            count: 0,
+        };
+    }
+    let listed = at + limits::STEP_SIZE;
+    let most = records::most_listed(c.short);
+    if !states::is_whole(book, most, c.end, listed) {
+        return Noted {
+            answer: states::list(8, most, book, table, c.end, listed),
+            named,
+            count: 0,
+        };
+    }
+    observe_list(book, c, table, pre, at, t, state, held, observed, named)
+}
+
+// The steps behind a record's first state, each observed, as `records::steps` looks them over.
+fn observe_steps(
+    s: &[u8],
+    c: Scope,
+    kinds: &[u32; 256],
+    table: &[u32; 512],
+    first: usize,
+    from: usize,
+    observed: &mut [u8],
+    named: usize,
+) -> Walked
+    requires { ⌜ Observable (now s) c (now kinds) (now table) × Begun (schemaIn (now s) c) (now observed) ⌝ }
+    requires { ⌜ (first ≤ nearCeiling) × (from ≤ maxLength) × (state (filedFact (c .short)) 8 (schemaIn (now s) c) (typedIn (now s) c) (now s) (c .end) first ≡ Good from) ⌝ }
+    ensures { λ r. ⌜ Observes (schemaIn (now (s .entry)) c) (steps (c .short) (schemaIn (now (s .entry)) c) (typedIn (now (s .entry)) c) (now (s .entry)) (c .end) (c .steps) (listAt (now (s .entry)) first) from) (observeAll (recordedStepsAt (c .short) (now (s .entry)) (c .steps) (listAt (now (s .entry)) first) from) (record { masks = now (observed .entry); named = named })) (now (observed .exit)) r ⌝ }
+{
+    let mut t = lifting::no_digits();
+    let mut state = mask::empty512();
+    let mut held = turning::carry(s, c.short, first, &mut state, 0);
+    let mut left = c.steps;
+    let mut pre = first;
+    let mut at = from;
+    let mut name = named;
+    while 0 < left {
+        let r = observe_step(
+            s,
+            c,
+            kinds,
+            table,
+            pre,
+            at,
+            &mut t,
+            &mut state,
+            held,
+            observed,
+            name,
+        );
+        let answer = r.answer;
+        match answer {
+            Answer::Refused(k, p) => {
+                return stopped(Answer::Refused(k, p));
+            }
+            Answer::Good(next) => {
+                let after = records::step_after(at, r.count, next);
+                if answer::is_refused(after) {
+                    return stopped(after);
+                }
+                pre = at + limits::STEP_SIZE;
+                held = r.count;
+                name = r.named;
+                at = next;
+            }
+        }
+        left -= 1;
+    }
+    ended(at, name)
+}
+
+// A state, then steps each with the state after it, as `records::trajectory`.
+fn observe_trajectory(
+    book: &[u8],
+    c: Scope,
+    kinds: &[u32; 256],
+    table: &[u32; 512],
+    at: usize,
+    observed: &mut [u8],
+    named: usize,
+) -> Walked
+    requires { ⌜ Observable (now book) c (now kinds) (now table) × Begun (schemaIn (now book) c) (now observed) × (at ≤ nearCeiling) ⌝ }
+    ensures { λ r. ⌜ Observes (schemaIn (now (book .entry)) c) (trajectory (c .short) (schemaIn (now (book .entry)) c) (typedIn (now (book .entry)) c) (now (book .entry)) (c .end) (c .steps) at) (observeAll (recordedStepsAt (c .short) (now (book .entry)) (c .steps) (listAt (now (book .entry)) at) (listEnd (now (book .entry)) at)) (record { masks = now (observed .entry); named = named })) (now (observed .exit)) r ⌝ }
+{
+    let first = states::state(8, book, table, c.end, at);
+    if answer::is_refused(first) {
+        return stopped(first);
+    }
+    observe_steps(
+        book,
+        c,
+        kinds,
+        table,
+        at,
+        answer::value_of(first),
+        observed,
+        named,
+    )
+}
+
+// A record whose head is right, as `records::body`.
+fn observe_body(
+    s: &[u8],
+    short: bool,
+    h: Sections,
+    head: Head,
+    at: usize,
+    end: usize,
+    observed: &mut [u8],
+    named: usize,
+) -> Walked
+    requires { ⌜ (h .relations .count ≤ maxRelations) × (h .moves .count ≤ maxMoves) × Falling (schema h (now s)) × Begun (schema h (now s)) (now observed) ⌝ }
+    requires { ⌜ (at ≤ maxLength) × (end ≤ maxLength) × (end ≤ length (now s)) × (head ≡ headOf (now s) at) × (head .objects ≤ maxObjects) ⌝ }
+    ensures { λ r. ⌜ Observes (schema h (now (s .entry))) (body short h (now (s .entry)) at end) (observeAll (stepsOfRecord short (now (s .entry)) at) (record { masks = now (observed .entry); named = named })) (now (observed .exit)) r ⌝ }
+{
+    let c = records::scope_of(short, h, head, at, end);
+    let first = records::objects(s, h.kinds, end, head.objects as usize, c.objects.at);
+    if answer::is_refused(first) {
+        return stopped(first);
+    }
+    let kinds = tables::kinds_of(s, h, s, c.objects);
+    let table = tables::table_of(s, h, &kinds);
+    let w = observe_trajectory(
+        s,
+        c,
+        &kinds,
+        &table,
+        answer::value_of(first),
+        observed,
+        named,
+    );
+    let answer = w.answer;
+    Walked {
+        answer: records::closed(answer, at, end),
+        named: w.named,
+    }
+}
+
+// The record at an offset, as `records::record_at`: where the next one starts, and what is held after it.
+pub fn observe_record(
+    s: &[u8],
+    short: bool,
+    h: Sections,
+    at: usize,
+    observed: &mut [u8],
+    named: usize,
+) -> Walked
+    requires { ⌜ CanObserve h (now s) at (now observed) ⌝ }
+    ensures { λ r. ⌜ RecordObserved short h (now (s .entry)) at (record { masks = now (observed .entry); named = named }) (now (observed .exit)) r ⌝ }
+{
+    let head = Head::read(s, at);
+    let end = records::record_head(s, head, at);
+    if answer::is_refused(end) {
+        return stopped(end);
+    }
+    observe_body(
+        s,
+        short,
+        h,
+        head,
+        at,
+        answer::value_of(end),
+        observed,
+        named,
+    )
+}

@@ -1,7 +1,0 @@
--- `stopped` meets its contract.
-use borrow.Author.Needs.{needs}
-use Rattle.observing.proofs.stopped.Statement.{statement}
-use Rattle.observing.proofs.stopped.Tie as tie
-
-pub stopped-spec : {M : Type 1} → statement M
-stopped-spec = tie.close (tie.spec (λ c. search needs))
