@@ -21,8 +21,8 @@ use Rattle.jobs.specs.Planning.{schemaOf, stepsOfBook, transitionsOf}
 use Rattle.jobs.specs.Learn.{unboundEffects, conflictingMove, inconsistency, learnable, learn, learnBytes, ruleSheet, rulesFrom}
 use Rattle.observed.specs.Observed.{nothingSeen, heldAfter, observedOf}
 use Rattle.observed.specs.Rules.{unboundAnswer, conflictAmong, sheetObserved}
-use Rattle.observedright.proofs.Sections.{nothing-alone}
-use Rattle.observedright.proofs.OneWalk.{observed-taught}
+use Rattle.onewalk.proofs.Sections.{nothing-alone}
+use Rattle.onewalk.proofs.OneWalk.{observed-taught}
 use Rattle.observestep.specs.Notes.{IsObserved}
 use Rattle.observerecords.specs.declared.Walked.{Walked}
 use Rattle.observerecords.specs.Observing.{RecordsObserved}

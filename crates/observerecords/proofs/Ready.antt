@@ -39,7 +39,7 @@ use Rattle.factsets.proofs.Numbers.{fact-parts}
 use Rattle.terms.proofs.Atoms.{range-out}
 use Rattle.observed.specs.Inverse.{atomsIn}
 use Rattle.observed.specs.Observed.{bound, Observed, observedSet, observe, observeBy}
-use Rattle.observedright.proofs.Turned.{held-found, turn-marks, some-unbound}
+use Rattle.onewalk.proofs.Turned.{held-found, turn-marks, some-unbound}
 use Rattle.states.proofs.Looking.{whole-parts, good-whole}
 use Rattle.records.specs.declared.Scope.{Scope}
 use Rattle.records.specs.Readable.{schemaIn, typedIn, stepAlone, stepListed}

@@ -41,9 +41,9 @@ use Rattle.observed.proofs.Observe.{seen-observed}
 use Rattle.observed.proofs.Records.{held-none, held-steps, held-first, held-next}
 use Rattle.wellformed.proofs.Headers.{moves-few}
 use Rattle.wellformed.proofs.Records.{recorded-somewhere}
-use Rattle.observedright.specs.OneWalk.{heldBytes, Small, heldRows, heldSheet, recordOffset, LearnsInOneWalk, SameRecordSameHeld}
-use Rattle.observedright.proofs.ObservedRight.{recorded-faithful, observed-right}
-use Rattle.observedright.proofs.Sections.{moves-alone, nothing-alone}
+use Rattle.onewalk.specs.OneWalk.{heldBytes, Small, heldRows, heldSheet, recordOffset, LearnsInOneWalk, SameRecordSameHeld}
+use Rattle.onewalk.proofs.ObservedRight.{recorded-faithful, observed-right}
+use Rattle.onewalk.proofs.Sections.{moves-alone, nothing-alone}
 
 -- ---- what is held, as bytes
 

@@ -27,9 +27,9 @@ use Rattle.observed.specs.Inverse.{factBound, unboundChanged}
 use Rattle.wellformed.specs.Right.{Right}
 use Rattle.factsets.proofs.Numbers.{number-below, number-injective}
 use Rattle.factsets.proofs.Holding.{holding-in, holding-out}
-use Rattle.observedright.proofs.Atoms.{atomsOf, found-in, found-out}
+use Rattle.onewalk.proofs.Atoms.{atomsOf, found-in, found-out}
 use Rattle.factsets.proofs.Toggled.{OneOf}
-use Rattle.observedright.proofs.Unbound.{changed-in, changed-out}
+use Rattle.onewalk.proofs.Unbound.{changed-in, changed-out}
 use Rattle.factsets.specs.Holding.{holding}
 use Rattle.factsets.specs.Right.{RightStep}
 

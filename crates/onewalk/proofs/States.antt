@@ -21,7 +21,7 @@ use Rattle.observed.specs.Inverse.{factBound, atomOf, mark, marks, atomsIn}
 use Rattle.observed.specs.Faithful.{Found}
 use Rattle.observed.proofs.Observe.{length-mark}
 use Rattle.factsets.specs.Right.{RightStep}
-use Rattle.observedright.proofs.Atoms.{atomsOf, found}
+use Rattle.onewalk.proofs.Atoms.{atomsOf, found}
 
 -- a bit put in if a test holds
 test-mark : (c : Bool) (m : List ℕ) (k n : ℕ) → n < 256 → length m ≡ 32 → testBit (cond c (setBit m k) m) n ≡ (testBit m n || c && eqb k n)

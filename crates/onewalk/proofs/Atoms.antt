@@ -28,7 +28,7 @@ use Rattle.wellformed.specs.Grounding.{objectIn, factOf}
 use Rattle.factsets.proofs.Suits.{used-out, argument-used}
 use Rattle.factsets.proofs.Numbers.{fact-parts}
 use Rattle.wellformed.proofs.Inverse.{fact-of-atom, fact-of-places}
-use Rattle.observedright.proofs.Params.{param-none, bound-out, bound-in}
+use Rattle.onewalk.proofs.Params.{param-none, bound-out, bound-in}
 
 -- what is in the set of a move's bound facts is one of them
 atom-in-set : (sch : Schema) (a n : ℕ) → testBit (atomSet sch a) n ≡ true → isAtom sch a n ≡ true

@@ -19,8 +19,8 @@ use Rattle.observed.proofs.Taught.{taught}
 use Rattle.wellformed.proofs.Records.{recorded-somewhere, recorded-right}
 use Rattle.factsets.proofs.Suits.{move-known}
 use Rattle.wellformed.proofs.Headers.{relations-few, moves-few}
-use Rattle.observedright.proofs.States.{state-found}
-use Rattle.observedright.proofs.UnboundEffects.{unbound-changed-right}
+use Rattle.onewalk.proofs.States.{state-found}
+use Rattle.onewalk.proofs.UnboundEffects.{unbound-changed-right}
 
 -- ---- a step stands after a state, so not at 0
 steps-placed : (form : Form) (s : List ℕ) (n : ℕ) (before : List Fact) (at : ℕ) {f : RecordedStep} → 1 ≤ at → Mem f (recordedStepsAt form s n before at) → 1 ≤ f .place

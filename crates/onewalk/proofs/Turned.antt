@@ -33,9 +33,9 @@ use Rattle.wellformed.proofs.Atoms.{ground-below}
 use Rattle.factsets.proofs.Sorted.{mem-decide}
 use Rattle.factsets.proofs.Toggled.{increasing-after, toggle-increasing, toggle-from, toggled-increasing, OneOf, toggled-mem}
 use Rattle.factsets.proofs.Turned.{holding-toggle}
-use Rattle.observedright.proofs.Atoms.{found, found-out}
-use Rattle.observedright.proofs.States.{atoms-found}
-use Rattle.observedright.proofs.Unbound.{changed-in, changed-out}
+use Rattle.onewalk.proofs.Atoms.{found, found-out}
+use Rattle.onewalk.proofs.States.{atoms-found}
+use Rattle.onewalk.proofs.Unbound.{changed-in, changed-out}
 
 module _ (sch : Schema) (known : sch .relations ≤ maxRelations) (ob : TypedObjects) (few : ob .count ≤ maxObjects) (st : Step) (right : RightStep sch ob st) where
   abbrev own : List ℕ
