@@ -14,7 +14,7 @@ use Rattle.limits.specs.Limits.{countSize, factSize, maxFacts}
 use Rattle.format.specs.Lists.{factsAt, listAt, listEnd}
 use Rattle.format.proofs.Reading.{Copied, list-copied}
 use Rattle.factsets.proofs.States.{length-facts}
-use Rattle.rendering.specs.Held.{heldSize, Holds}
+use Rattle.rendering.specs.Held.{stateListSize, Holds}
 
 -- ---- how long a list is
 
@@ -31,7 +31,7 @@ holds-end {state} h = omega (arith, list-size state 0)
 
 -- ---- another list in its place
 
-module _ (state s : List ℕ) (at end : ℕ) (long : length state ≡ heldSize) (is : end ≡ listEnd s at) (within : listEnd s at ≤ length s) (few : length (listAt s at) ≤ maxFacts) where
+module _ (state s : List ℕ) (at end : ℕ) (long : length state ≡ stateListSize) (is : end ≡ listEnd s at) (within : listEnd s at ≤ length s) (few : length (listAt s at) ≤ maxFacts) where
   part-length : length (take (end - at) (drop at s)) ≡ end - at
   part-length = simp (length-take, length-drop) (omega (arith, list-size s at))
 
@@ -60,9 +60,9 @@ module _ (state s : List ℕ) (at end : ℕ) (long : length state ≡ heldSize) 
 
 -- ---- no facts
 
-pub held-none : (state state′ : List ℕ) → length state ≡ heldSize → state′ ≡ written state 0 (twoBytes 0) → listAt state′ 0 ≡ []
+pub held-none : (state state′ : List ℕ) → length state ≡ stateListSize → state′ ≡ written state 0 (twoBytes 0) → listAt state′ 0 ≡ []
 unfolding listAt factsAt
 held-none state state′ long e = rw (ap (λ (t : List ℕ). two t 0) e ∙ two-there state 0 0 (omega arith) (omega arith))
 
-pub holds-none : (state : List ℕ) → length state ≡ heldSize → listAt state 0 ≡ [] → Holds state
+pub holds-none : (state : List ℕ) → length state ≡ stateListSize → listAt state 0 ≡ [] → Holds state
 holds-none state long e = record { long = long; few = rw e (omega arith) }

@@ -9,11 +9,11 @@ use Rattle.format.specs.Lists.{listAt}
 use Rattle.appending.specs.Appended.{Appended}
 
 -- a count and 256 facts
-abbrev pub heldSize : ℕ
-heldSize = countSize + factSize * maxFacts
+abbrev pub stateListSize : ℕ
+stateListSize = countSize + factSize * maxFacts
 
 pub record Holds (state : List ℕ) : Type 0 where
-  pub long : length state ≡ heldSize
+  pub long : length state ≡ stateListSize
   pub few : length (listAt state 0) ≤ maxFacts
 
 -- Bytes were appended; and, unless they would pass the end, the facts given hold in `state`.

@@ -21,7 +21,7 @@ ghost use Rattle.jobs.specs.Convert.{factsBytes, listBytes, filedStepBytes, ste
 ghost use Rattle.appending.specs.Appended.{pastEnd, Appended};
 ghost use Rattle.factlist.specs.Rest.{rest, Ahead};
 ghost use Rattle.rendering.specs.Merge.{Merging, NextMerged};
-ghost use Rattle.rendering.specs.Held.{heldSize, Holds, Carried};
+ghost use Rattle.rendering.specs.Held.{stateListSize, Holds, Carried};
 ghost use Rattle.rendering.specs.Good.{GoodBook, GoodList, GoodNext, GoodSteps, GoodTrajectory, GoodRecord, GoodRecords};
 ghost use Rattle.rendering.specs.Formed.{trajectoryBytes, Formed};
 
@@ -118,7 +118,7 @@ fn append_list(new: &mut [u8], w: usize, state: &[u8], book: &[u8], at: usize) -
 
 // The state becomes the list at an offset of a book.
 fn hold(state: &mut [u8], s: &[u8], at: usize)
-    requires { ⌜ (length (now state) ≡ heldSize) × (listEnd (now s) at ≤ length (now s)) × (length (now s) ≤ maxLength) × (length (listAt (now s) at) ≤ maxFacts) ⌝ }
+    requires { ⌜ (length (now state) ≡ stateListSize) × (listEnd (now s) at ≤ length (now s)) × (length (now s) ≤ maxLength) × (length (listAt (now s) at) ≤ maxFacts) ⌝ }
     ensures { λ _. ⌜ listAt (now (state .exit)) 0 ≡ listAt (now (s .entry)) at ⌝ }
 {
     let end = states::list_end(s, at);
@@ -204,7 +204,7 @@ fn append_trajectory(
     n: usize,
     short: bool,
 ) -> usize
-    requires { ⌜ (length (now new) ≡ maxLength) × (w ≤ pastEnd) × (length (now state) ≡ heldSize) × GoodTrajectory short (now book) n at ⌝ }
+    requires { ⌜ (length (now new) ≡ maxLength) × (w ≤ pastEnd) × (length (now state) ≡ stateListSize) × GoodTrajectory short (now book) n at ⌝ }
     ensures { λ r. ⌜ Appended (trajectoryBytes short (now (book .entry)) n at) w (now (new .entry)) (now (new .exit)) r ⌝ }
 {
     output::write_two(state, 0, 0);
@@ -224,7 +224,7 @@ fn append_record(
     at: usize,
     short: bool,
 ) -> usize
-    requires { ⌜ (length (now new) ≡ maxLength) × (w ≤ pastEnd) × (length (now state) ≡ heldSize) × GoodRecord short (now book) at ⌝ }
+    requires { ⌜ (length (now new) ≡ maxLength) × (w ≤ pastEnd) × (length (now state) ≡ stateListSize) × GoodRecord short (now book) at ⌝ }
     ensures { λ r. ⌜ Appended (recordBytes (not short) (now (book .entry)) at) w (now (new .entry)) (now (new .exit)) r ⌝ }
 {
     let objects = input::byte_at(book, at) as usize;
@@ -248,7 +248,7 @@ fn append_records(
     n: usize,
     short: bool,
 ) -> usize
-    requires { ⌜ (length (now new) ≡ maxLength) × (w ≤ pastEnd) × (length (now state) ≡ heldSize) × GoodRecords short (now book) n from ⌝ }
+    requires { ⌜ (length (now new) ≡ maxLength) × (w ≤ pastEnd) × (length (now state) ≡ stateListSize) × GoodRecords short (now book) n from ⌝ }
     ensures { λ r. ⌜ Appended (recordsBytes (not short) (now (book .entry)) n from) w (now (new .entry)) (now (new .exit)) r ⌝ }
 {
     let mut left = n;

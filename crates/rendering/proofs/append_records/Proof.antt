@@ -5,14 +5,14 @@ use mathlib.Core.Bool.{not}
 use lib.ListN.{length}
 use Rattle.limits.specs.Limits.{maxLength}
 use Rattle.jobs.specs.Convert.{recordsBytes}
-use Rattle.rendering.specs.Held.{heldSize}
+use Rattle.rendering.specs.Held.{stateListSize}
 use Rattle.rendering.proofs.Records.{records-next, Filing, filing-first, filing-end, filing-next}
 use Rattle.rendering.proofs.append_records.Statement.{statement}
 use Rattle.rendering.proofs.append_records.Tie as tie
 
 abbrev Inv-loop : tie.InvT-loop
 Inv-loop new₀ w state₀ book from n short left₀ at₀ end₀ new state left at end =
-    Filing short book (recordsBytes (not short) book n from) w new₀ left at new end × (length new ≡ maxLength) × (length state ≡ heldSize)
+    Filing short book (recordsBytes (not short) book n from) w new₀ left at new end × (length new ≡ maxLength) × (length state ≡ stateListSize)
 
 abbrev μ-loop : tie.MeasureT-loop
 μ-loop new₀ w state₀ book from n short left₀ at₀ end₀ new state left at end = left
