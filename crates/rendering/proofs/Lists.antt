@@ -14,7 +14,7 @@ use Rattle.format.specs.Toggled.{toggled}
 use Rattle.format.specs.Form.{Form, stateAfter}
 use Rattle.jobs.specs.Convert.{factsBytes, listBytes}
 use Rattle.appending.specs.Appended.{Appended}
-use Rattle.rendering.specs.Held.{stateListSize, Carried}
+use Rattle.rendering.specs.Held.{stateListSize, AppendedHeld}
 use Rattle.rendering.specs.Good.{GoodNext}
 use Rattle.appending.proofs.Appended.{append-then, append-same, append-renewed}
 use Rattle.rendering.proofs.Bytes.{facts-length, list-bytes-length, list-read}
@@ -60,7 +60,7 @@ module _ (fs : List Fact) {w r : ℕ} {old new : List ℕ} (p : Appended (listBy
 
 -- ---- the state after it
 
-pub carried-over : {bytes : List ℕ} {after : List Fact} {w r : ℕ} {old new state : List ℕ} → Appended bytes w old new r → maxLength < r → Carried bytes after w old new state r
+pub carried-over : {bytes : List ℕ} {after : List Fact} {w r : ℕ} {old new state : List ℕ} → Appended bytes w old new r → maxLength < r → AppendedHeld bytes after w old new state r
 carried-over p h = record { appended = p; holds = λ l. absurd (omega arith) }
 
 module _ (form : Form) (s : List ℕ) (before : List Fact) (at : ℕ) where
@@ -79,7 +79,7 @@ module _ (form : Form) (s : List ℕ) (before : List Fact) (at : ℕ) where
   few-full good e = rw (after-full e) at (good .few)
 
   pub carried-by : GoodNext form s before at → {bytes : List ℕ} (after : List Fact) {w r : ℕ} {old new state : List ℕ} → stateAfter form s before at ≡ after
-      → Appended bytes w old new r → length state ≡ stateListSize → listAt state 0 ≡ after → Carried bytes (stateAfter form s before at) w old new state r
+      → Appended bytes w old new r → length state ≡ stateListSize → listAt state 0 ≡ after → AppendedHeld bytes (stateAfter form s before at) w old new state r
   carried-by good after {state = state} e p l d =
       let f : listAt state 0 ≡ stateAfter form s before at = d ∙ sym e in
       record { appended = p; holds = λ _. (record { long = l; few = rw f (good .few) }, f) }

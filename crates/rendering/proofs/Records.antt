@@ -28,7 +28,7 @@ use Rattle.factsets.specs.Right.{Increasing}
 use Rattle.factsets.proofs.States.{list-increasing, list-few}
 use Rattle.factsets.proofs.Toggled.{toggled-none}
 use Rattle.appending.specs.Appended.{pastEnd, Appended, AllBut}
-use Rattle.rendering.specs.Held.{Holds, Carried}
+use Rattle.rendering.specs.Held.{Holds, AppendedHeld}
 use Rattle.rendering.specs.Good.{GoodNext, GoodTrajectory, GoodRecord, GoodRecords}
 use Rattle.rendering.specs.Formed.{trajectoryBytes}
 use Rattle.appending.proofs.Appended.{append-then, append-stays, append-same, append-renewed, part-none, part-one, part-then, part-all}
@@ -51,7 +51,7 @@ module _ (form : Form) (s : List ℕ) (n at : ℕ) (good : GoodTrajectory form s
   first-bytes : toggled before (listAt s at) ≡ listAt s at
   first-bytes = rw none (toggled-none noFact (listAt s at) (good .list .order))
 
-  module _ {w next : ℕ} {old mid state : List ℕ} (p : Carried (listBytes (toggled before (listAt s at))) (stateAfter form s before at) w old mid state next) where
+  module _ {w next : ℕ} {old mid state : List ℕ} (p : AppendedHeld (listBytes (toggled before (listAt s at))) (stateAfter form s before at) w old mid state next) where
     first-appended : Appended (listBytes (listAt s at)) w old mid next
     first-appended = rw first-bytes at (p .appended)
 

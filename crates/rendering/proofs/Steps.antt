@@ -17,7 +17,7 @@ use Rattle.format.proofs.Records.{step-good, step-ends, steps-parted}
 use Rattle.jobs.specs.Convert.{listBytes, filedStepBytes, listed, stepsBytes}
 use Rattle.factsets.proofs.States.{list-increasing}
 use Rattle.appending.specs.Appended.{pastEnd, Appended, AllBut}
-use Rattle.rendering.specs.Held.{Holds, Carried}
+use Rattle.rendering.specs.Held.{Holds, AppendedHeld}
 use Rattle.rendering.specs.Good.{GoodNext, GoodSteps}
 use Rattle.appending.proofs.Appended.{append-then, part-none, part-one, part-then, part-over, part-all}
 
@@ -93,7 +93,7 @@ module _ (form : Form) (s : List ℕ) where
     stepping-end e = part-all (i .appended) (steps-none n (listAt state 0) at e)
 
     module _ (more : 0 < n) {state′ new : List ℕ} {r : ℕ}
-        (c : Carried (firstStep (listAt state 0) at) (stateAfter form s (listAt state 0) (at + stepSize)) v mid new state′ r) where
+        (c : AppendedHeld (firstStep (listAt state 0) at) (stateAfter form s (listAt state 0) (at + stepSize)) v mid new state′ r) where
       others : AllBut (stepsToCome (n - 1) (stateAfter form s (listAt state 0) (at + stepSize)) (listEnd s (at + stepSize))) whole w old new r
       others = part-then (i .appended) (part-one _ (steps-first n (listAt state 0) at more) (c .appended))
 
@@ -107,5 +107,5 @@ module _ (form : Form) (s : List ℕ) where
 
 -- bytes, then a state
 pub carried-then : (a : List ℕ) {b : List ℕ} {after : List Fact} {w v r : ℕ} {old mid new state : List ℕ}
-    → Appended a w old mid v → Carried b after v mid new state r → Carried (a ++ b) after w old new state r
+    → Appended a w old mid v → AppendedHeld b after v mid new state r → AppendedHeld (a ++ b) after w old new state r
 carried-then a {b} p q = record { appended = append-then a b p (q .appended); holds = q .holds }

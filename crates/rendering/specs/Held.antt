@@ -17,6 +17,6 @@ pub record Holds (state : List ℕ) : Type 0 where
   pub few : length (listAt state 0) ≤ maxFacts
 
 -- Bytes were appended; and, unless they would pass the end, the facts given hold in `state`.
-pub record Carried (bytes : List ℕ) (after : List Fact) (w : ℕ) (old new state : List ℕ) (r : ℕ) : Type 0 where
+pub record AppendedHeld (bytes : List ℕ) (after : List Fact) (w : ℕ) (old new state : List ℕ) (r : ℕ) : Type 0 where
   pub appended : Appended bytes w old new r
   pub holds : r ≤ maxLength → Holds state × (listAt state 0 ≡ after)

@@ -21,7 +21,7 @@ ghost use Rattle.jobs.specs.Convert.{factsBytes, listBytes, filedStepBytes, ste
 ghost use Rattle.appending.specs.Appended.{pastEnd, Appended};
 ghost use Rattle.factlist.specs.Rest.{rest, Ahead};
 ghost use Rattle.rendering.specs.Merge.{Merging, NextMerged};
-ghost use Rattle.rendering.specs.Held.{stateListSize, Holds, Carried};
+ghost use Rattle.rendering.specs.Held.{stateListSize, Holds, AppendedHeld};
 ghost use Rattle.rendering.specs.Good.{GoodBook, GoodList, GoodNext, GoodSteps, GoodTrajectory, GoodRecord, GoodRecords};
 ghost use Rattle.rendering.specs.Formed.{trajectoryBytes, Formed};
 
@@ -135,7 +135,7 @@ fn append_state(
     short: bool,
 ) -> usize
     requires { ⌜ (length (now new) ≡ maxLength) × (w ≤ pastEnd) × Holds (now state) × GoodNext short (now book) (listAt (now state) 0) at ⌝ }
-    ensures { λ r. ⌜ Carried (listBytes (toggled (listAt (now (state .entry)) 0) (listAt (now (book .entry)) at))) (stateAfter short (now (book .entry)) (listAt (now (state .entry)) 0) at) w (now (new .entry)) (now (new .exit)) (now (state .exit)) r ⌝ }
+    ensures { λ r. ⌜ AppendedHeld (listBytes (toggled (listAt (now (state .entry)) 0) (listAt (now (book .entry)) at))) (stateAfter short (now (book .entry)) (listAt (now (state .entry)) 0) at) w (now (new .entry)) (now (new .exit)) (now (state .exit)) r ⌝ }
 {
     let end = append_list(new, w, state, book, at);
     if limits::MAX_LENGTH < end {
@@ -161,7 +161,7 @@ fn append_step(
     short: bool,
 ) -> usize
     requires { ⌜ (length (now new) ≡ maxLength) × (w ≤ pastEnd) × Holds (now state) × GoodNext short (now book) (listAt (now state) 0) (at + stepSize) ⌝ }
-    ensures { λ r. ⌜ Carried (filedStepBytes (recordedStep short (now (book .entry)) (listAt (now (state .entry)) 0) at) ++ listBytes (toggled (listAt (now (state .entry)) 0) (listAt (now (book .entry)) (at + stepSize)))) (stateAfter short (now (book .entry)) (listAt (now (state .entry)) 0) (at + stepSize)) w (now (new .entry)) (now (new .exit)) (now (state .exit)) r ⌝ }
+    ensures { λ r. ⌜ AppendedHeld (filedStepBytes (recordedStep short (now (book .entry)) (listAt (now (state .entry)) 0) at) ++ listBytes (toggled (listAt (now (state .entry)) 0) (listAt (now (book .entry)) (at + stepSize)))) (stateAfter short (now (book .entry)) (listAt (now (state .entry)) 0) (at + stepSize)) w (now (new .entry)) (now (new .exit)) (now (state .exit)) r ⌝ }
 {
     let next = at + limits::STEP_SIZE;
     let from = appending::append(new, w, &book[at..next]);
