@@ -11,7 +11,7 @@ use Rattle.terms.specs.Facts.{factAt}
 use Rattle.limits.specs.Limits.{factSize, nearCeiling}
 use Rattle.format.specs.Lists.{factsAt, listAt, listEnd}
 use Rattle.factlist.specs.declared.ListCursor.{ListCursor}
-use Rattle.factlist.specs.Rest.{rest, Ahead, next, Comes}
+use Rattle.factlist.specs.Rest.{rest, FactsWithin, next, Comes}
 
 module _ (s : List ℕ) where
   pub rest-none : (c : ListCursor) → c .left ≡ 0 → rest s c ≡ []
@@ -24,11 +24,11 @@ module _ (s : List ℕ) where
   facts-first (suc n) at h = rw sub-one
 
   pub of-list-by : (at n : ℕ) → n ≡ two s at → n < 65536 → at ≤ nearCeiling → listEnd s at ≤ length s
-      → (rest s (record { at = at + 2; left = n }) ≡ listAt s at) × Ahead s (record { at = at + 2; left = n })
+      → (rest s (record { at = at + 2; left = n }) ≡ listAt s at) × FactsWithin s (record { at = at + 2; left = n })
   unfolding rest listAt listEnd
   of-list-by at n e h k l = (rw e, record { within = omega (arith, e, l); near = omega arith })
 
-  pub comes-by : (c : ListCursor) (f : Fact) → 0 < c .left → Ahead s c → f ≡ factAt s (c .at) → Comes s c f
+  pub comes-by : (c : ListCursor) (f : Fact) → 0 < c .left → FactsWithin s c → f ≡ factAt s (c .at) → Comes s c f
   unfolding rest next
   comes-by c f h w e =
       record {

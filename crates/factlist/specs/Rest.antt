@@ -13,7 +13,7 @@ unfoldable pub rest : List ℕ → ListCursor → List Fact
 rest s c = factsAt s (c .left) (c .at)
 
 -- they lie within the bytes
-pub record Ahead (s : List ℕ) (c : ListCursor) : Type 0 where
+pub record FactsWithin (s : List ℕ) (c : ListCursor) : Type 0 where
   pub within : c .at + factSize * c .left ≤ length s
   pub near : c .at + factSize * c .left ≤ farCeiling
 
@@ -24,5 +24,5 @@ next c = record { at = c .at + factSize; left = c .left - 1 }
 -- the fact f comes next
 pub record Comes (s : List ℕ) (c : ListCursor) (f : Fact) : Type 0 where
   pub first : rest s c ≡ f ∷ rest s (next c)
-  pub ahead : Ahead s (next c)
+  pub ahead : FactsWithin s (next c)
   pub less : next c .left < c .left

@@ -6,7 +6,7 @@ ghost use mathlib.Core.Path.{_≡_};
 ghost use lib.ListN.{length};
 ghost use Rattle.limits.specs.Limits.{nearCeiling, farCeiling};
 ghost use Rattle.format.specs.Lists.{listAt, listEnd};
-ghost use Rattle.factlist.specs.Rest.{rest, next, Ahead, Comes};
+ghost use Rattle.factlist.specs.Rest.{rest, next, FactsWithin, Comes};
 use terms::Fact;
 
 // The facts of a list that are yet to come: how many, from which offset.
@@ -18,7 +18,7 @@ pub struct ListCursor {
 impl ListCursor {
     pub fn of_list(s: &[u8], at: usize) -> ListCursor
         requires { ⌜ (at ≤ nearCeiling) × (listEnd (now s) at ≤ length (now s)) ⌝ }
-        ensures { λ r. ⌜ (rest (now (s .entry)) r ≡ listAt (now (s .entry)) at) × Ahead (now (s .entry)) r ⌝ }
+        ensures { λ r. ⌜ (rest (now (s .entry)) r ≡ listAt (now (s .entry)) at) × FactsWithin (now (s .entry)) r ⌝ }
     {
         ListCursor {
             at: at + limits::COUNT_SIZE,
@@ -27,7 +27,7 @@ impl ListCursor {
     }
 
     pub fn fact(self, s: &[u8]) -> Fact
-        requires { ⌜ (0 < self .left) × Ahead (now s) self ⌝ }
+        requires { ⌜ (0 < self .left) × FactsWithin (now s) self ⌝ }
         ensures { λ r. ⌜ Comes (now (s .entry)) self r ⌝ }
     {
         Fact::read(s, self.at)

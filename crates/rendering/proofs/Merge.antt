@@ -18,7 +18,7 @@ use Rattle.factsets.specs.Right.{Increasing}
 use Rattle.factsets.proofs.Sorted.{precedes-neither}
 use Rattle.factsets.proofs.Toggled.{merge-before, merge-after, merge-both, toggled-none, toggled-nothing}
 use Rattle.factlist.specs.declared.ListCursor.{ListCursor}
-use Rattle.factlist.specs.Rest.{rest, Ahead, next, Comes}
+use Rattle.factlist.specs.Rest.{rest, FactsWithin, next, Comes}
 use Rattle.factlist.proofs.Rest.{rest-none}
 use Rattle.rendering.specs.declared.Walk.{Walk}
 use Rattle.appending.specs.Appended.{pastEnd, Appended, AllBut}
@@ -112,7 +112,7 @@ unfolding factsBytes
 only-held fs ts e = rw (e, toggled-nothing fs) (append-nil (factsBytes fs))
 
 module _ (state s : List ℕ) (at w : ℕ) (old : List ℕ) where
-  pub merged-first : (p q : ListCursor) → (rest state p ≡ listAt state 0) × Ahead state p → (rest s q ≡ listAt s at) × Ahead s q → GoodList s at → w ≤ pastEnd
+  pub merged-first : (p q : ListCursor) → (rest state p ≡ listAt state 0) × FactsWithin state p → (rest s q ≡ listAt s at) × FactsWithin s q → GoodList s at → w ≤ pastEnd
       → Merged state s (factsBytes (toggled (listAt state 0) (listAt s at))) w old (record { held = p; turns = q; at = w }) old
   merged-first p q (e, a) (d, b) good h =
       record {

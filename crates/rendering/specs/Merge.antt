@@ -5,7 +5,7 @@ use Rattle.terms.specs.declared.Fact.{Fact}
 use Rattle.format.specs.Toggled.{toggled}
 use Rattle.jobs.specs.Convert.{factsBytes}
 use Rattle.factsets.specs.Right.{Increasing}
-use Rattle.factlist.specs.Rest.{rest, Ahead}
+use Rattle.factlist.specs.Rest.{rest, FactsWithin}
 use Rattle.rendering.specs.declared.Walk.{Walk}
 use Rattle.appending.specs.Appended.{AllBut}
 
@@ -18,8 +18,8 @@ left v = v .held .left + v .turns .left
 
 -- both lists lie within their bytes, and the facts that turn are in order
 pub record Merging (state s : List ℕ) (v : Walk) : Type 0 where
-  pub held : Ahead state (v .held)
-  pub turns : Ahead s (v .turns)
+  pub held : FactsWithin state (v .held)
+  pub turns : FactsWithin s (v .turns)
   pub last : Fact
   pub order : Increasing last (rest s (v .turns))
 

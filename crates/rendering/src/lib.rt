@@ -19,7 +19,7 @@ ghost use Rattle.format.specs.Form.{stateAfter};
 ghost use Rattle.format.specs.Decode.{recordedStep, recordedStepsAt};
 ghost use Rattle.jobs.specs.Convert.{factsBytes, listBytes, filedStepBytes, stepsBytes, recordBytes, recordsBytes};
 ghost use Rattle.appending.specs.Appended.{pastEnd, Appended};
-ghost use Rattle.factlist.specs.Rest.{rest, Ahead};
+ghost use Rattle.factlist.specs.Rest.{rest, FactsWithin};
 ghost use Rattle.rendering.specs.Merge.{Merging, NextMerged};
 ghost use Rattle.rendering.specs.Held.{stateListSize, Holds, AppendedHeld};
 ghost use Rattle.rendering.specs.Good.{GoodBook, GoodList, GoodNext, GoodSteps, GoodTrajectory, GoodRecord, GoodRecords};
@@ -32,7 +32,7 @@ const HELD_SIZE: usize = limits::COUNT_SIZE + limits::FACT_SIZE * limits::MAX_FA
 
 // The facts of a list that are yet to come, from the offset `w` on, which the new book has reached, here and below; where they end is returned.
 fn append_rest(new: &mut [u8], w: usize, s: &[u8], c: ListCursor) -> usize
-    requires { ⌜ (length (now new) ≡ maxLength) × (w ≤ pastEnd) × Ahead (now s) c ⌝ }
+    requires { ⌜ (length (now new) ≡ maxLength) × (w ≤ pastEnd) × FactsWithin (now s) c ⌝ }
     ensures { λ r. ⌜ Appended (factsBytes (rest (now (s .entry)) c)) w (now (new .entry)) (now (new .exit)) r ⌝ }
 {
     let at = c.at;

@@ -11,7 +11,7 @@ use Rattle.terms.specs.declared.Fact.{Fact}
 use Rattle.observed.specs.Inverse.{marks, unbound, inOneAlone, someFact, unboundChanged}
 use Rattle.factlist.specs.declared.ListCursor.{ListCursor}
 use Rattle.lifting.specs.Pairs.{pairOf, markedAs}
-use Rattle.factlist.specs.Rest.{rest, Ahead, next, Comes}
+use Rattle.factlist.specs.Rest.{rest, FactsWithin, next, Comes}
 use Rattle.factlist.proofs.Rest.{rest-none}
 use Rattle.lifting.proofs.Pairs.{pair-test, marked-as}
 use Rattle.stepmasks.proofs.Unbound.{none-more}
@@ -24,7 +24,7 @@ module _ (s atoms : List ℕ) (b : Binding) where
   -- what that leaves to come
   pub record Passed (f : Fact) (c : ListCursor) (m : List ℕ) (c′ : ListCursor) (m′ : List ℕ) : Type 0 where
     pub first : rest s c ≡ f ∷ rest s c′
-    pub ahead : Ahead s c′
+    pub ahead : FactsWithin s c′
     pub less : c′ .left < c .left
     pub marked : marks atoms b m′ (rest s c′) ≡ marks atoms b m (rest s c)
 
@@ -40,12 +40,12 @@ module _ (s atoms : List ℕ) (b : Binding) where
 
   -- Where the loop stands: from c₀ on, marked up to c.
   pub record Marked (m₀ : List ℕ) (c₀ : ListCursor) (m : List ℕ) (c : ListCursor) (changed : Bool) : Type 0 where
-    pub ahead : Ahead s c
+    pub ahead : FactsWithin s c
     pub long : length m ≡ length m₀
     pub marked : marks atoms b m (rest s c) ≡ marks atoms b m₀ (rest s c₀)
     pub met : (changed || unboundChanged atoms b [] (rest s c)) ≡ unboundChanged atoms b [] (rest s c₀)
 
-  pub marked-none : (m : List ℕ) (c : ListCursor) → Ahead s c → Marked m c m c false
+  pub marked-none : (m : List ℕ) (c : ListCursor) → FactsWithin s c → Marked m c m c false
   marked-none m c w = record { ahead = w; long = refl; marked = refl; met = refl }
 
   module _ {m₀ : List ℕ} {c₀ : ListCursor} {m : List ℕ} {c : ListCursor} {changed : Bool} (w : Marked m₀ c₀ m c changed) where

@@ -25,7 +25,7 @@ use Rattle.states.specs.Looked.{Looked}
 use Rattle.states.proofs.Cursors.{misplaced-by}
 use Rattle.states.proofs.Looking.{looked-first, looked-next, looked-bad}
 use Rattle.factlist.specs.declared.ListCursor.{ListCursor}
-use Rattle.factlist.specs.Rest.{rest, next, Ahead, Comes}
+use Rattle.factlist.specs.Rest.{rest, next, FactsWithin, Comes}
 use Rattle.stepmasks.specs.Marks.{plain, RightForFew, Suited, ListAhead, Looks}
 use Rattle.factlist.proofs.Rest.{of-list-by, comes-by}
 
@@ -43,7 +43,7 @@ module _ (s : List ℕ) (c : FactCursor) (size : c .size ≡ factSize) where
       let p : c′ .at ≡ c .at + factSize = omega (arith, g .0, size) in
       λ i. record { at = p i; left = g .1 i }
 
-  module _ (ahead : Ahead s (plain c)) (some : 0 < c .left) where
+  module _ (ahead : FactsWithin s (plain c)) (some : 0 < c .left) where
     pub item-ahead : c .key ≡ factKey (c .last) → states.Ahead s c
     unfolding plain
     item-ahead key = record { whole = omega arith; within = omega (arith, ahead .within); near = omega (arith, ahead .near); key = key }

@@ -19,7 +19,7 @@ use Rattle.states.specs.declared.FactCursor.{FactCursor}
 use Rattle.factlist.specs.declared.ListCursor.{ListCursor}
 use Rattle.stepmasks.specs.declared.Walk.{Walk}
 use Rattle.lifting.specs.Pairs.{pairOf}
-use Rattle.factlist.specs.Rest.{rest, Ahead, Comes}
+use Rattle.factlist.specs.Rest.{rest, FactsWithin, Comes}
 use Rattle.stepmasks.specs.Marks.{plain, goingOn, says, NextMarked, ListAhead, StepMarked}
 use Rattle.lifting.proofs.Pairs.{place-bound, place-unbound, pair-test}
 use Rattle.stepmasks.proofs.Unbound.{none-after, both-more, before-more, first-more, second-more}
@@ -37,7 +37,7 @@ module _ (s atoms : List ℕ) (b : Binding) where
   -- ---- one fact more: f comes next before
   module _ (w : Walk) (f : Fact) (m n : List ℕ) (now-f : Comes s (w .pre) f) where
     -- a bound fact that does not come next after
-    pub marked-before : Ahead s (plain (w .post)) → (x : ℕ) → x ≡ pairOf atoms b f → x < 16 → (p : ListCursor) (m′ : List ℕ) → Passes f x (w .pre) m p m′
+    pub marked-before : FactsWithin s (plain (w .post)) → (x : ℕ) → x ≡ pairOf atoms b f → x < 16 → (p : ListCursor) (m′ : List ℕ) → Passes f x (w .pre) m p m′
         → NextMarked s atoms b w m n (goingOn p (w .post) (w .changed)) m′ n
     unfolding says
     marked-before a x is u p m′ d =
@@ -77,7 +77,7 @@ module _ (s atoms : List ℕ) (b : Binding) where
       -- f is no bound fact and differs; r says whether it precedes g
       module _ (u : t ≡ false) (x y : ℕ) (is : x ≡ pairOf atoms b f) (v : 16 ≤ x) (is′ : y ≡ pairOf atoms b g) (r : Bool) (order : r ≡ precedes f g) where
         -- nor is g a bound fact, and f comes first
-        pub marked-first : Ahead s (plain (w .post)) → (leb 16 y && r) ≡ true
+        pub marked-first : FactsWithin s (plain (w .post)) → (leb 16 y && r) ≡ true
             → (p : ListCursor) (m′ : List ℕ)
             → Passes f x (w .pre) m p m′
             → NextMarked s atoms b w m n (goingOn p (w .post) true) m′ n
@@ -98,7 +98,7 @@ module _ (s atoms : List ℕ) (b : Binding) where
             }
 
         -- g is a bound fact, or comes first
-        pub marked-after : Ahead s (w .pre) → (leb 16 y && r) ≡ false
+        pub marked-after : FactsWithin s (w .pre) → (leb 16 y && r) ≡ false
             → (q : FactCursor) (n′ : List ℕ)
             → Passes g y (plain (w .post)) n (plain q) n′
             → NextMarked s atoms b w m n (goingOn (w .pre) q (w .changed || leb 16 y)) m n′
@@ -140,14 +140,14 @@ module _ (s atoms : List ℕ) (b : Binding) where
 
   -- Where the walk stands: what is yet to come leads to the sets and the answer of the two states.
   pub record Stands (pre post : List Fact) (w : Walk) (m n : List ℕ) : Type 0 where
-    pub ahead : Ahead s (w .pre)
-    pub aheadAfter : Ahead s (plain (w .post))
+    pub ahead : FactsWithin s (w .pre)
+    pub aheadAfter : FactsWithin s (plain (w .post))
     pub before : marks atoms b m (rest s (w .pre)) ≡ atomsIn atoms b pre
     pub after : marks atoms b n (rest s (plain (w .post))) ≡ atomsIn atoms b post
     pub same : says s atoms b w ≡ unboundChanged atoms b pre post
 
   pub stands-first : (pre : List Fact) (post : ℕ) (p : ListCursor) (q : FactCursor) (m n : List ℕ)
-      → (rest s p ≡ pre) × Ahead s p
+      → (rest s p ≡ pre) × FactsWithin s p
       → ListAhead s post q
       → m ≡ empty 32
       → n ≡ empty 32

@@ -14,20 +14,20 @@ use Rattle.observed.specs.Inverse.{turnMarks, someUnbound}
 use Rattle.turning.specs.Turning.{flipped}
 use Rattle.factlist.specs.declared.ListCursor.{ListCursor}
 use Rattle.lifting.specs.Pairs.{pairOf, turnedAs}
-use Rattle.factlist.specs.Rest.{rest, Ahead, next, Comes}
+use Rattle.factlist.specs.Rest.{rest, FactsWithin, next, Comes}
 use Rattle.lifting.proofs.Pairs.{pair-test, turned-as}
 use Rattle.factlist.proofs.Rest.{rest-none}
 
 module _ (s atoms : List ℕ) (b : Binding) where
   -- Where the loop stands: the facts from c₀ on have turned up to c.
   pub record Turns (m₀ n₀ : List ℕ) (c₀ : ListCursor) (m n : List ℕ) (c : ListCursor) (unbound : Bool) : Type 0 where
-    pub ahead : Ahead s c
+    pub ahead : FactsWithin s c
     pub long : (length m ≡ length m₀) × (length n ≡ length n₀)
     pub state : flipped (rest s c) m ≡ flipped (rest s c₀) m₀
     pub after : turnMarks atoms b n (rest s c) ≡ turnMarks atoms b n₀ (rest s c₀)
     pub met : (unbound || someUnbound atoms b (rest s c)) ≡ someUnbound atoms b (rest s c₀)
 
-  pub turns-none : (m n : List ℕ) (c : ListCursor) → Ahead s c → Turns m n c m n c false
+  pub turns-none : (m n : List ℕ) (c : ListCursor) → FactsWithin s c → Turns m n c m n c false
   turns-none m n c w = record { ahead = w; long = (refl, refl); state = refl; after = refl; met = refl }
 
   module _ {m₀ n₀ : List ℕ} {c₀ : ListCursor} {m n : List ℕ} {c : ListCursor} {unbound : Bool} (w : Turns m₀ n₀ c₀ m n c unbound) where

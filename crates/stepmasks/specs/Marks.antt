@@ -19,7 +19,7 @@ use Rattle.format.specs.States.{facts}
 use Rattle.quantify.specs.Quantify.{Mem}
 use Rattle.tables.specs.Tables.{RightByPlace, ForRightByPlace}
 use Rattle.factlist.specs.declared.ListCursor.{ListCursor}
-use Rattle.factlist.specs.Rest.{rest, Ahead}
+use Rattle.factlist.specs.Rest.{rest, FactsWithin}
 use Rattle.states.specs.declared.FactCursor.{FactCursor}
 use Rattle.states.specs.Looked.{Looked}
 use Rattle.observed.specs.Inverse.{marks, atomsIn, unboundChanged, turnMarks, someUnbound}
@@ -48,7 +48,7 @@ Suited table fs = (f : Fact) → Mem f fs → suits table f ≡ true
 -- at the first fact of the list at an offset, none of its facts looked over yet
 pub record ListAhead (s : List ℕ) (at : ℕ) (c : FactCursor) : Type 0 where
   pub facts : rest s (plain c) ≡ listAt s at
-  pub ahead : Ahead s (plain c)
+  pub ahead : FactsWithin s (plain c)
   pub looked : (table : List ℕ) (end : ℕ) → listEnd s at ≤ end → Looked 8 s table end (two s at) (at + countSize) c
 
 -- From the cursor c to c′, which is past a fact or the same: a fact that is passed is right and in order, or else the list is refused at it.
@@ -76,8 +76,8 @@ says s atoms b w = w .changed || unboundChanged atoms b (rest s (w .pre)) (rest 
 
 -- From v with the sets m and n to w with m′ and n′: nearer to the end, and what is yet to come leads to the same.
 pub record NextMarked (s atoms : List ℕ) (b : Binding) (v : Walk) (m n : List ℕ) (w : Walk) (m′ n′ : List ℕ) : Type 0 where
-  pub ahead : Ahead s (w .pre)
-  pub aheadAfter : Ahead s (plain (w .post))
+  pub ahead : FactsWithin s (w .pre)
+  pub aheadAfter : FactsWithin s (plain (w .post))
   pub suited : (table : List ℕ) → Suited table (rest s (v .pre)) → Suited table (rest s (w .pre))
   pub before : marks atoms b m′ (rest s (w .pre)) ≡ marks atoms b m (rest s (v .pre))
   pub after : marks atoms b n′ (rest s (plain (w .post))) ≡ marks atoms b n (rest s (plain (v .post)))

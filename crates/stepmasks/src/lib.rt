@@ -15,7 +15,7 @@ ghost use Rattle.answer.specs.declared.Answer.the-variants.{Good};
 ghost use Rattle.states.specs.Looked.{ListLooked};
 ghost use Rattle.observed.specs.Inverse.{marks, sameFact, unboundChanged};
 ghost use Rattle.lifting.specs.Pairs.{noDigits, Inverts, markedAs};
-ghost use Rattle.factlist.specs.Rest.{rest, next, Ahead};
+ghost use Rattle.factlist.specs.Rest.{rest, next, FactsWithin};
 ghost use Rattle.stepmasks.specs.Marks.{plain, RightForFew, Suited, ListAhead, Looks, RestMarked, goingOn, NextMarked, StepMarked, StepTurned};
 use answer::Answer;
 use factlist::ListCursor;
@@ -36,7 +36,7 @@ fn pass(c: ListCursor, m: &mut [u8], f: Fact, pair: usize) -> ListCursor
 
 // Marks the facts to come, and says whether any is no bound fact: row 11 of them and no facts.
 fn mark_rest(m: &mut [u8], s: &[u8], t: &[u8], atoms: &[u8], b: Binding, from: ListCursor) -> bool
-    requires { ⌜ Inverts b (now t) × Ahead (now s) from ⌝ }
+    requires { ⌜ Inverts b (now t) × FactsWithin (now s) from ⌝ }
     ensures { λ r. ⌜ (now (m .exit) ≡ marks (now (atoms .entry)) b (now (m .entry)) (rest (now (s .entry)) from)) × (r ≡ unboundChanged (now (atoms .entry)) b [] (rest (now (s .entry)) from)) ⌝ }
 {
     let mut c = from;
@@ -66,7 +66,7 @@ fn look_rest(
     b: Binding,
     from: FactCursor,
 ) -> MarkedList
-    requires { ⌜ Inverts b (now t) × Ahead (now s) (plain from) × (from .size ≡ factSize) × (from .key ≡ factKey (from .last)) ⌝ }
+    requires { ⌜ Inverts b (now t) × FactsWithin (now s) (plain from) × (from .size ≡ factSize) × (from .key ≡ factKey (from .last)) ⌝ }
     ensures { λ r. ⌜ RestMarked (now (s .entry)) (now (table .entry)) (now (atoms .entry)) b from (now (m .entry)) (now (m .exit)) r ⌝ }
 {
     let mut c = from;
@@ -146,7 +146,7 @@ fn mark_next(
     b: Binding,
     w: Walk,
 ) -> Walk
-    requires { ⌜ Inverts b (now t) × Ahead (now s) (w .pre) × Ahead (now s) (plain (w .post)) × (0 < w .pre .left) × (0 < w .post .left) ⌝ }
+    requires { ⌜ Inverts b (now t) × FactsWithin (now s) (w .pre) × FactsWithin (now s) (plain (w .post)) × (0 < w .pre .left) × (0 < w .post .left) ⌝ }
     requires { ⌜ Suited (now table) (rest (now s) (w .pre)) × (w .post .size ≡ factSize) × (w .post .key ≡ factKey (w .post .last)) ⌝ }
     ensures { λ r. ⌜ (r .bad ≡ false → NextMarked (now (s .entry)) (now (atoms .entry)) b w (now (before .entry)) (now (after .entry)) r (now (before .exit)) (now (after .exit))) ⌝ }
     ensures { λ r. ⌜ Looks (now (s .entry)) (now (table .entry)) (w .post) (r .post) (r .bad) ⌝ }
