@@ -12,7 +12,7 @@ use Rattle.limits.specs.Limits.{factSize, farCeiling}
 use Rattle.states.specs.declared.FactCursor.{FactCursor}
 
 -- the item at the cursor has a fact, and lies within the bytes, at an offset that can be added to; the key is that of the fact before
-pub record Ahead (s : List ℕ) (c : FactCursor) : Type 0 where
+pub record ItemWithin (s : List ℕ) (c : FactCursor) : Type 0 where
   pub whole : factSize ≤ c .size
   pub within : c .at + c .size ≤ length s
   pub near : c .at + c .size ≤ farCeiling

@@ -14,7 +14,7 @@ ghost use Rattle.format.specs.Filed.{asWritten};
 ghost use Rattle.format.specs.States.{countBad, facts, list, state};
 ghost use Rattle.format.specs.Lists.{listEnd};
 ghost use Rattle.tables.specs.Tables.{ForRightByPlace};
-ghost use Rattle.states.specs.Cursor.{Ahead, factOf, misplaced};
+ghost use Rattle.states.specs.Cursor.{ItemWithin, factOf, misplaced};
 ghost use Rattle.states.specs.Looked.{wholeList};
 
 // Facts still to be looked at, each at the end of an item of a size: from where, how many, and the fact before them with its key. The items
@@ -42,7 +42,7 @@ impl FactCursor {
     }
 
     pub fn fact(self, t: &[u8]) -> Fact
-        requires { ⌜ Ahead (now t) self ⌝ }
+        requires { ⌜ ItemWithin (now t) self ⌝ }
         ensures { λ r. ⌜ r ≡ factOf (now (t .entry)) self ⌝ }
     {
         Fact::read(t, self.at + (self.size - limits::FACT_SIZE))
@@ -50,7 +50,7 @@ impl FactCursor {
 
     // The fact at the cursor is wrong, or not after the one before it.
     pub fn bad(self, t: &[u8], table: &[u32; 512]) -> bool
-        requires { ⌜ Ahead (now t) self ⌝ }
+        requires { ⌜ ItemWithin (now t) self ⌝ }
         ensures { λ r. ⌜ ForRightByPlace (now (table .entry)) (λ sch ob. r ≡ misplaced sch ob (now (t .entry)) self) ⌝ }
     {
         let f = self.fact(t);
@@ -58,7 +58,7 @@ impl FactCursor {
     }
 
     pub fn next(self, t: &[u8]) -> FactCursor
-        requires { ⌜ Ahead (now t) self × (0 < self .left) ⌝ }
+        requires { ⌜ ItemWithin (now t) self × (0 < self .left) ⌝ }
         ensures { λ r. ⌜ (r .at ≡ self .at + self .size) × (r .left ≡ self .left - 1) × (r .last ≡ factOf (now (t .entry)) self) × (r .size ≡ self .size) × (r .key ≡ factKey (r .last)) ⌝ }
     {
         let f = self.fact(t);
