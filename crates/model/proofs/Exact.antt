@@ -17,7 +17,7 @@ use Rattle.model.specs.Exact.{Exact}
 use Rattle.model.specs.Stricter.{Stricter}
 use Rattle.quantify.proofs.Quantify.{First, first-law}
 use Rattle.model.proofs.Stricter.{explains, stricter}
-use Rattle.model.proofs.Lockstep.{Ahead, lockstep}
+use Rattle.model.proofs.Lockstep.{NoLater, lockstep}
 use Rattle.model.proofs.Impossible.{learned-consistent, impossible-iff}
 use Rattle.model.proofs.Judge.{not-both, one-end, unique}
 
@@ -27,7 +27,7 @@ module _ (D : Domain) (P : Model → Type 0) (valid : (M : Model) → P M → Va
   unfolding judgedRun reached
   exact-run plan grounded st goal = go (run D L plan st 1) refl (λ M m. lockstep D L M (strict M m) (valid L own) (valid M m) plan grounded st 1)
     where
-      go : (r : Run) → run D L plan st 1 ≡ r → ((M : Model) → P M → Ahead r (run D M plan st 1)) → Judged D P plan st goal (judgedRun goal r)
+      go : (r : Run) → run D L plan st 1 ≡ r → ((M : Model) → P M → NoLater r (run D M plan st 1)) → Judged D P plan st goal (judgedRun goal r)
       go (stopped k) e ahead = ((L, own, e), ahead)
       go (ended end) e ahead = reach (first (wrong end) goal) (first-law (wrong end) goal)
         where

@@ -38,9 +38,9 @@ run-within D M (s ∷ plan) st k j e = go (decide (inapplicable D M s st)) (run-
     go (inr h) rest = let (low, high) = rest (sym (run-go D M s plan st k h) ∙ e) in (omega arith, omega arith)
 
 -- what the run under a stricter model says of another
-abbrev pub Ahead : Run → Run → Type 0
-Ahead (stopped k) r = (j : ℕ) → r ≡ stopped j → k ≤ j
-Ahead (ended end) r = r ≡ ended end
+abbrev pub NoLater : Run → Run → Type 0
+NoLater (stopped k) r = (j : ℕ) → r ≡ stopped j → k ≤ j
+NoLater (ended end) r = r ≡ ended end
 
 module _ (D : Domain) (L M : Model) (strict : Stricter D L M) where
   -- A step that is applicable under the stricter model is applicable under the other.
@@ -65,13 +65,13 @@ module _ (D : Domain) (L M : Model) (strict : Stricter D L M) where
         off f e = next-off D s M valid′ st f e ∙ sym (next-off D s L valid st f e)
 
     -- Where the stricter run ends, the other ends in the same state; where it stops, the other does not stop earlier.
-    pub lockstep : (plan : List GroundAction) → Grounded D plan → (st : State) (k : ℕ) → Ahead (run D L plan st k) (run D M plan st k)
+    pub lockstep : (plan : List GroundAction) → Grounded D plan → (st : State) (k : ℕ) → NoLater (run D L plan st k) (run D M plan st k)
     unfolding run
     lockstep [] grounded st k = refl
     lockstep (s ∷ plan) grounded st k = go (decide (inapplicable D L s st)) (lockstep plan (λ r m. grounded r (there m)) (next D L s st) (suc k))
       where
-        go : (inapplicable D L s st ≡ true) ⊎ (inapplicable D L s st ≡ false) → Ahead (run D L plan (next D L s st) (suc k)) (run D M plan (next D L s st) (suc k))
-            → Ahead (run D L (s ∷ plan) st k) (run D M (s ∷ plan) st k)
+        go : (inapplicable D L s st ≡ true) ⊎ (inapplicable D L s st ≡ false) → NoLater (run D L plan (next D L s st) (suc k)) (run D M plan (next D L s st) (suc k))
+            → NoLater (run D L (s ∷ plan) st k) (run D M (s ∷ plan) st k)
         go (inl e) rest = rw (run-stop D L s plan st k e) (λ j h. run-within D M (s ∷ plan) st k j h .0)
         go (inr e) rest =
             rw (run-go D L s plan st k e, run-go D M s plan st k (goes-too s st e), same-next s st (grounded s here) e) rest
