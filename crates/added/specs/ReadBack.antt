@@ -43,13 +43,13 @@ abbrev pub AddedIsReadBack : Type 0
 AddedIsReadBack = (form : Form) (s r : List ℕ) (size n : ℕ) → add form s r size ≡ Good n → ReadBack form s r n
 
 -- what a call's lent output holds afterwards: the new book and then its own bytes, or what it held
-pub record Stored (form : Form) (s r out : List ℕ) (n : ℕ) : Type 0 where
+pub record NewBookStored (form : Form) (s r out : List ℕ) (n : ℕ) : Type 0 where
   pub book : take n (addBytes form s r out) ≡ added s r
   pub beyond : drop n (addBytes form s r out) ≡ drop n out
   pub size : length (addBytes form s r out) ≡ length out
 
 abbrev pub AddedIsStored : Type 0
-AddedIsStored = (form : Form) (s r out : List ℕ) (n : ℕ) → add form s r (length out) ≡ Good n → Stored form s r out n
+AddedIsStored = (form : Form) (s r out : List ℕ) (n : ℕ) → add form s r (length out) ≡ Good n → NewBookStored form s r out n
 
 abbrev pub RefusedIsUntouched : Type 0
 RefusedIsUntouched = (form : Form) (s r out : List ℕ) (k p : ℕ) → add form s r (length out) ≡ Refused k p → addBytes form s r out ≡ out
