@@ -20,7 +20,7 @@ use Rattle.jobs.specs.Add.{added, add, addBytes}
 use Rattle.answer.proofs.Turns.{is-good, part-stays}
 use Rattle.format.proofs.LookOver.{look-over-good}
 use Rattle.output.specs.Written.{written}
-use Rattle.adding.specs.Outcome.{Outcome}
+use Rattle.adding.specs.Outcome.{AddOutcome}
 use Rattle.output.proofs.Written.{front-written}
 use Rattle.adding.proofs.Formed.{length-added}
 use Rattle.adding.specs.NewHeader.{oneMore}
@@ -36,11 +36,11 @@ pub short-enough : (form : Form) (s : List ℕ) (a : Answer) (b : Bool) → a �
 short-enough form s a b e f g = look-over-good form s _ (sym e ∙ is-good a (sym f ∙ g)) .sections .size .most
 
 module _ (form : Form) (s r old : List ℕ) where
-  kept-old : (a : Answer) → a ≡ add form s r (length old) → isRefused a ≡ true → Outcome form s r old old a
+  kept-old : (a : Answer) → a ≡ add form s r (length old) → isRefused a ≡ true → AddOutcome form s r old old a
   unfolding addBytes
   kept-old a e f = record { says = e; bytes = refused-kept _ a _ old e f }
 
-  pub first-refused : (a : Answer) (b : Bool) → a ≡ lookOver form s → b ≡ isRefused a → b ≡ true → Outcome form s r old old a
+  pub first-refused : (a : Answer) (b : Bool) → a ≡ lookOver form s → b ≡ isRefused a → b ≡ true → AddOutcome form s r old old a
   unfolding add
   first-refused a b e f g = kept-old a (part-stays _ _ a b e f g) (sym f ∙ g)
 
@@ -51,12 +51,12 @@ module _ (form : Form) (s r old : List ℕ) where
     long : headerSize ≤ length s
     long = long-enough form s a b e f g
 
-    pub too-long : maxLength < length s + length r → Outcome form s r old old (Refused 1 0)
+    pub too-long : maxLength < length s + length r → AddOutcome form s r old old (Refused 1 0)
     unfolding add _>>=_ refuse isRefused
     too-long h = kept-old _ (rw (first-good, lt-ltb maxLength (length s + length r) h)) refl
 
     module _ (h : Sections) (is : h ≡ sectionsOf s) (m : length s + length r ≤ maxLength) where
-      pub book-is-full : maxRecords ≤ h .records .count → Outcome form s r old old (Refused 2 0)
+      pub book-is-full : maxRecords ≤ h .records .count → AddOutcome form s r old old (Refused 2 0)
       unfolding add _>>=_ refuse isRefused
       book-is-full i = kept-old _ (rw (first-good, le-ltb maxLength (length s + length r) m, book-full form s r _ first-good m (rw is at i))) refl
 
@@ -80,21 +80,21 @@ module _ (form : Form) (s r old : List ℕ) where
           unfolding add _>>=_ refuse
           behind = rw (first-good, le-ltb maxLength (length s + length r) m, is₂) (sym (bind-assoc a₂ _ _))
 
-          pub new-refused : b₂ ≡ true → Outcome form s r old old a₂
+          pub new-refused : b₂ ≡ true → AddOutcome form s r old old a₂
           new-refused g₂ = kept-old a₂ (stays a₂ _ (sym f₂ ∙ g₂) ∙ behind) (sym f₂ ∙ g₂)
 
           module _ (g₂ : b₂ ≡ false) where
             room : (refuse (ltb (length old) (length s + length r)) 13 0 >>= λ _. Good (length s + length r)) ≡ add form s r (length old)
             room = follows a₂ (λ _. refuse (ltb (length old) (length s + length r)) 13 0 >>= λ _. Good (length s + length r)) (sym f₂ ∙ g₂) ∙ behind
 
-            pub no-room : length old < length s + length r → Outcome form s r old old (Refused 13 0)
+            pub no-room : length old < length s + length r → AddOutcome form s r old old (Refused 13 0)
             unfolding isRefused
             no-room l = kept-old _ (sym (refuse-met _ _ _ _ (lt-ltb _ _ l)) ∙ room) refl
 
             pub stored : (out : List ℕ)
                 → length s + length r ≤ length old
                 → out ≡ written old 0 (take (length s + length r) new)
-                → Outcome form s r old out (Good (length s + length r))
+                → AddOutcome form s r old out (Good (length s + length r))
             unfolding addBytes kept
             stored out l v =
                 let says : Good (length s + length r) ≡ add form s r (length old) = sym (refuse-unmet _ _ _ _ (le-ltb _ _ l)) ∙ room in

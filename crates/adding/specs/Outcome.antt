@@ -7,6 +7,6 @@ use Rattle.answer.specs.declared.Answer.{Answer}
 use Rattle.jobs.specs.Add.{add, addBytes}
 use Rattle.format.specs.Form.{Form}
 
-pub record Outcome (form : Form) (s r old new : List ℕ) (a : Answer) : Type 0 where
+pub record AddOutcome (form : Form) (s r old new : List ℕ) (a : Answer) : Type 0 where
   pub says : a ≡ add form s r (length old)
   pub bytes : new ≡ addBytes form s r old

@@ -8,7 +8,7 @@ ghost use lib.ListN.{length};
 ghost use Rattle.limits.specs.Limits.{headerSize, maxLength};
 ghost use Rattle.jobs.specs.Add.{added};
 ghost use Rattle.output.specs.Written.{written};
-ghost use Rattle.adding.specs.Outcome.{Outcome};
+ghost use Rattle.adding.specs.Outcome.{AddOutcome};
 
 const COUNT_AT: usize = 6;
 
@@ -41,7 +41,7 @@ fn room_behind(book: &[u8]) -> usize
 // record count and the record itself can be refused.
 fn add_by(new: &mut [u8], book: &[u8], short: bool, bytes: &[u8], out: &mut [u8]) -> Answer
     requires { ⌜ (length (now book) + length (now bytes)) - ((length (now book) + length (now bytes)) - maxLength) ≤ length (now new) ⌝ }
-    ensures { λ r. ⌜ Outcome short (now (book .entry)) (now (bytes .entry)) (now (out .entry)) (now (out .exit)) r ⌝ }
+    ensures { λ r. ⌜ AddOutcome short (now (book .entry)) (now (bytes .entry)) (now (out .entry)) (now (out .exit)) r ⌝ }
 {
     let old = lookover::look_over(book, short);
     if answer::is_refused(old) {
@@ -69,7 +69,7 @@ fn add_by(new: &mut [u8], book: &[u8], short: bool, bytes: &[u8], out: &mut [u8]
 
 // The old book is looked over, then the new length, the new book and the room in `out`; each may refuse.
 pub fn add(book: &[u8], short: bool, bytes: &[u8], out: &mut [u8]) -> Answer
-    ensures { λ r. ⌜ Outcome short (now (book .entry)) (now (bytes .entry)) (now (out .entry)) (now (out .exit)) r ⌝ }
+    ensures { λ r. ⌜ AddOutcome short (now (book .entry)) (now (bytes .entry)) (now (out .entry)) (now (out .exit)) r ⌝ }
 {
     if book.len() <= SMALL {
         if bytes.len() <= SMALL {
