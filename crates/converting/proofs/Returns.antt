@@ -19,7 +19,7 @@ use Rattle.format.specs.Form.{Form}
 use Rattle.format.specs.LookOver.{lookOver}
 use Rattle.jobs.specs.Convert.{converted, convert, convertBytes}
 use Rattle.rendering.specs.Formed.{Formed}
-use Rattle.converting.specs.Outcome.{Outcome}
+use Rattle.converting.specs.Outcome.{ConvertOutcome}
 
 twice : (form : Form) → not (not form) ≡ form
 twice true = refl
@@ -30,7 +30,7 @@ module _ (form : Form) (s old : List ℕ) where
   new = converted (not form) s
 
   -- a refusal leaves the output as it was
-  kept-old : (a : Answer) → a ≡ convert (not form) s (length old) → isRefused a ≡ true → Outcome form s old old a
+  kept-old : (a : Answer) → a ≡ convert (not form) s (length old) → isRefused a ≡ true → ConvertOutcome form s old old a
   unfolding convertBytes
   kept-old a e r = record { says = e; bytes = refused-kept _ a _ old e r }
 
@@ -42,7 +42,7 @@ module _ (form : Form) (s old : List ℕ) where
     unfolding convert
     parts = ap (λ (a : Answer). a >>= λ _. refuse (ltb maxLength (length new)) 23 0 >>= λ _. room) (e ∙ ap (λ (f : Form). lookOver f s) (sym (twice form)))
 
-    pub first-refused : (b : Bool) → b ≡ isRefused looked → b ≡ true → Outcome form s old old looked
+    pub first-refused : (b : Bool) → b ≡ isRefused looked → b ≡ true → ConvertOutcome form s old old looked
     first-refused b q r = kept-old looked (stays looked _ (sym q ∙ r) ∙ parts) (sym q ∙ r)
 
     module _ (b : Bool) (told : b ≡ isRefused looked) (good : b ≡ false) where
@@ -56,7 +56,7 @@ module _ (form : Form) (s old : List ℕ) where
             ∙ bind-cong (refuse (ltb maxLength (length new)) 23 0) (λ _. Good (length new) >>= λ _. room) (λ _. room) (λ n. bind-good _ _ (length new) refl)
             ∙ follows looked (λ _. refuse (ltb maxLength (length new)) 23 0 >>= λ _. room) (sym told ∙ good) ∙ parts
 
-        pub new-refused : (c : Bool) → c ≡ isRefused a → c ≡ true → Outcome form s old old a
+        pub new-refused : (c : Bool) → c ≡ isRefused a → c ≡ true → ConvertOutcome form s old old a
         new-refused c q r = kept-old a (stays a _ (sym q ∙ r) ∙ rest) (sym q ∙ r)
 
         module _ (c : Bool) (told₂ : c ≡ isRefused a) (good₂ : c ≡ false) (v : ℕ) (value : v ≡ valueOf a) where
@@ -72,11 +72,11 @@ module _ (form : Form) (s old : List ℕ) where
           after : room ≡ convert (not form) s (length old)
           after = follows a (λ _. room) (sym told₂ ∙ good₂) ∙ rest
 
-          pub no-room : length old < v → Outcome form s old old (Refused 13 0)
+          pub no-room : length old < v → ConvertOutcome form s old old (Refused 13 0)
           unfolding isRefused
           no-room l = kept-old _ (sym (refuse-met _ _ _ _ (lt-ltb (length old) (length new) (omega (arith, size, l)))) ∙ after) refl
 
-          pub stored : (out : List ℕ) → v ≤ length old → out ≡ written old 0 (take v mem) → Outcome form s old out (Good v)
+          pub stored : (out : List ℕ) → v ≤ length old → out ≡ written old 0 (take v mem) → ConvertOutcome form s old out (Good v)
           unfolding convertBytes kept
           stored out l w =
               let says : Good v ≡ convert (not form) s (length old) = ap Good (sym size) ∙ sym (refuse-unmet _ _ _ _ (le-ltb (length old) (length new) (omega (arith, size, l)))) ∙ after in

@@ -8,6 +8,6 @@ use Rattle.answer.specs.declared.Answer.{Answer}
 use Rattle.format.specs.Form.{Form}
 use Rattle.jobs.specs.Convert.{convert, convertBytes}
 
-pub record Outcome (form : Form) (s old new : List ℕ) (a : Answer) : Type 0 where
+pub record ConvertOutcome (form : Form) (s old new : List ℕ) (a : Answer) : Type 0 where
   pub says : a ≡ convert (not form) s (length old)
   pub bytes : new ≡ convertBytes (not form) s old
