@@ -18,7 +18,7 @@ use Rattle.output.proofs.Written.{front-written}
 use Rattle.format.specs.Form.{Form}
 use Rattle.format.specs.LookOver.{lookOver}
 use Rattle.jobs.specs.Convert.{converted, convert, convertBytes}
-use Rattle.rendering.specs.Formed.{Formed}
+use Rattle.rendering.specs.Formed.{ConvertedFormed}
 use Rattle.converting.specs.Outcome.{ConvertOutcome}
 
 twice : (form : Form) → not (not form) ≡ form
@@ -49,7 +49,7 @@ module _ (form : Form) (s old : List ℕ) where
       pub looked-good : lookOver form s ≡ Good (valueOf looked)
       looked-good = sym e ∙ is-good looked (sym told ∙ good)
 
-      module _ (mem : List ℕ) (a : Answer) (formed : Formed form s mem a) where
+      module _ (mem : List ℕ) (a : Answer) (formed : ConvertedFormed form s mem a) where
         rest : (a >>= λ _. room) ≡ convert (not form) s (length old)
         rest =
             ap (λ (x : Answer). x >>= λ _. room) (formed .says) ∙ bind-assoc (refuse (ltb maxLength (length new)) 23 0) (λ _. Good (length new)) (λ _. room)

@@ -19,7 +19,7 @@ use Rattle.format.proofs.LookOver.{LookedOver, look-over-good}
 use Rattle.jobs.specs.Convert.{bytesAt, recordsBytes, allRecordsBytes, converted}
 use Rattle.appending.specs.Appended.{Appended}
 use Rattle.rendering.specs.Good.{GoodBook, GoodRecords}
-use Rattle.rendering.specs.Formed.{Formed}
+use Rattle.rendering.specs.Formed.{ConvertedFormed}
 use Rattle.appending.proofs.Appended.{append-then, append-same, append-renewed}
 
 module _ (form : Form) (s : List ℕ) (good : GoodBook form s) (h : Sections) (is : h ≡ sectionsOf s) where
@@ -75,7 +75,7 @@ module _ (form : Form) (s : List ℕ) (good : GoodBook form s) (h : Sections) (i
         let l = records-start in
         simp (length-take, length-drop) (omega arith)
 
-    pub formed-over : maxLength < end → Formed form s new (Refused 23 0)
+    pub formed-over : maxLength < end → ConvertedFormed form s new (Refused 23 0)
     formed-over l =
         let t = rw converted-is at (append-same (take 14 s ++ oldEnd ++ (sections ++ records)) (take 14 s ++ twoBytes (h .records .at + length records) ++ (sections ++ records)) (simp length-append (omega (arith, end-two))) drafted l) in
         record {
@@ -89,7 +89,7 @@ module _ (form : Form) (s : List ℕ) (good : GoodBook form s) (h : Sections) (i
           let k = records-start in
           omega (arith, drafted .fits l .0, length-append (take 14 s ++ oldEnd) (sections ++ records), length-append sections records, ap length front, length-append (take 14 s ++ oldEnd) sections, length-take-le (h .records .at) s (k .1))
 
-      pub formed-good : (new′ : List ℕ) → new′ ≡ written new 14 (twoBytes end) → Formed form s new′ (Good end)
+      pub formed-good : (new′ : List ℕ) → new′ ≡ written new 14 (twoBytes end) → ConvertedFormed form s new′ (Good end)
       formed-good new′ e =
           let k = records-start in
           let n : 14 ≡ 0 + length (take 14 s) = simp (length-take-le 14 s (omega arith)) (omega arith) in

@@ -19,7 +19,7 @@ use Rattle.jobs.specs.Convert.{listBytes, stepsBytes, converted}
 unfoldable pub trajectoryBytes : Form → List ℕ → ℕ → ℕ → List ℕ
 trajectoryBytes form s n at = listBytes (listAt s at) ++ stepsBytes (not form) (recordedStepsAt form s n (listAt s at) (listEnd s at))
 
-pub record Formed (form : Form) (s new : List ℕ) (r : Answer) : Type 0 where
+pub record ConvertedFormed (form : Form) (s new : List ℕ) (r : Answer) : Type 0 where
   -- row 23, then the length of the converted book
   pub says : r ≡ (refuse (ltb maxLength (length (converted (not form) s))) 23 0 >>= λ _. Good (length (converted (not form) s)))
   pub bytes : (m : ℕ) → r ≡ Good m → take m new ≡ converted (not form) s

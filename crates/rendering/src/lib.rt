@@ -23,7 +23,7 @@ ghost use Rattle.factlist.specs.Rest.{rest, FactsWithin};
 ghost use Rattle.rendering.specs.Merge.{Merging, NextMerged};
 ghost use Rattle.rendering.specs.Held.{stateListSize, Holds, AppendedHeld};
 ghost use Rattle.rendering.specs.Good.{GoodBook, GoodList, GoodNext, GoodSteps, GoodTrajectory, GoodRecord, GoodRecords};
-ghost use Rattle.rendering.specs.Formed.{trajectoryBytes, Formed};
+ghost use Rattle.rendering.specs.Formed.{trajectoryBytes, ConvertedFormed};
 
 // The longest state as a list.
 const HELD_SIZE: usize = limits::COUNT_SIZE + limits::FACT_SIZE * limits::MAX_FACTS as usize;
@@ -269,7 +269,7 @@ const END_AT: usize = 14;
 // The book in the other form; `short` says that the book is short. The bytes before the records stay, but for the end.
 pub fn form_converted(new: &mut [u8], book: &[u8], short: bool) -> Answer
     requires { ⌜ (length (now new) ≡ maxLength) × GoodBook short (now book) ⌝ }
-    ensures { λ r. ⌜ Formed short (now (book .entry)) (now (new .exit)) r ⌝ }
+    ensures { λ r. ⌜ ConvertedFormed short (now (book .entry)) (now (new .exit)) r ⌝ }
 {
     let mut state = [0u8; HELD_SIZE];
     let h = Sections::read(book);
