@@ -39,12 +39,12 @@ use Rattle.learner.specs.Learner.{BookObserved}
 use Rattle.learner.proofs.Book.{schema-own, moves-own, sheet-by, form-good}
 use Rattle.starts.specs.Starts.{executedFrom, answerFrom, StartsGood, answerEach, StartsOutcome}
 use Rattle.starts.proofs.Starts.{only-goes}
-use Rattle.checker.specs.Checker.{fromOrder, Ready, OrderOutcome, CheckOutcome}
+use Rattle.checker.specs.Checker.{fromOrder, ReadyForOrder, OrderOutcome, CheckOutcome}
 use Rattle.checker.proofs.Executed.{executable, starts-good, start-executed, start-sheet}
 use Rattle.factsets.specs.Holding.{holding}
 
 -- ---- rows 14 to 20
-module _ (form : Form) (s o old : List ℕ) (h : Sections) (observed : List ℕ) (ready : Ready form s h observed old) (a : Answer) (b : Bool) (ordered : a ≡ orderForm (schema h s) o) (told : b ≡ isRefused a) where
+module _ (form : Form) (s o old : List ℕ) (h : Sections) (observed : List ℕ) (ready : ReadyForOrder form s h observed old) (a : Answer) (b : Bool) (ordered : a ≡ orderForm (schema h s) o) (told : b ≡ isRefused a) where
   form-own : a ≡ orderForm (schemaOf s) o
   form-own = rw (schema-own s h (ready .own)) at ordered
 
@@ -132,7 +132,7 @@ module _ (form : Form) (s observed : List ℕ) (a : Answer) (b : Bool) (noted : 
   learns : b ≡ false → learnable form s ≡ Good (valueOf (learnable form s))
   learns passed = is-good _ (sym (ap isRefused (noted .says)) ∙ sym told ∙ passed)
 
-  pub ready-by : b ≡ false → (old : List ℕ) → length old ≡ endSheetSize → (h : Sections) → h ≡ sectionsOf s → length observed ≡ observedSize → Ready form s h observed old
+  pub ready-by : b ≡ false → (old : List ℕ) → length old ≡ endSheetSize → (h : Sections) → h ≡ sectionsOf s → length observed ≡ observedSize → ReadyForOrder form s h observed old
   ready-by passed old size h own room =
       record { own = own; learns = learns passed; observes = noted .observes _ (is-good a (sym told ∙ passed)); room = room; size = size }
 

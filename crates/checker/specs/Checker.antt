@@ -21,7 +21,7 @@ unfoldable pub fromOrder : Form → List ℕ → List ℕ → Positioned
 fromOrder form s o = thenAt (orderForm (schemaOf s) o) (startsAnswer form s o)
 
 -- rows 1 to 13 are not met: the header that was read, what is observed, and the lent end sheet
-pub record Ready (form : Form) (s : List ℕ) (h : Sections) (observed end : List ℕ) : Type 0 where
+pub record ReadyForOrder (form : Form) (s : List ℕ) (h : Sections) (observed end : List ℕ) : Type 0 where
   pub own : h ≡ sectionsOf s
   pub learns : learnable form s ≡ Good (valueOf (learnable form s))
   pub observes : observed ≡ observedOf form s .masks

@@ -5,7 +5,7 @@
 use answer::Answer;
 use answer::Positioned;
 use terms::Sections;
-ghost use Rattle.checker.specs.Checker.{Ready, OrderOutcome, CheckOutcome};
+ghost use Rattle.checker.specs.Checker.{ReadyForOrder, OrderOutcome, CheckOutcome};
 
 // Rows 14 to 20 for a book that learns, with an end sheet of its size.
 fn check_order(
@@ -16,7 +16,7 @@ fn check_order(
     o: &[u8],
     end: &mut [u8],
 ) -> Positioned
-    requires { ⌜ Ready short (now s) h (now observed) (now end) ⌝ }
+    requires { ⌜ ReadyForOrder short (now s) h (now observed) (now end) ⌝ }
     ensures { λ r. ⌜ OrderOutcome short (now (s .entry)) (now (o .entry)) (now (end .entry)) (now (end .exit)) r ⌝ }
 {
     let a = orders::order_form(s, h, o);
