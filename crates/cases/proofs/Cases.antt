@@ -25,7 +25,7 @@ use Rattle.model.specs.Model.{image, inapplicable, next, run}
 use Rattle.model.specs.Judge.{wrong}
 use Rattle.model.specs.Learned.{saw, before, after, turned, learnedRules, modelOf, learned, unboundEffect, conflicting}
 use Rattle.jobs.specs.Planning.{domain, groundAction, transition, goalEntry, schemaOf, stepsOfBook, transitionsOf, startStates, planOf, goalOf}
-use Rattle.jobs.specs.Learn.{unboundEffects, conflictAnswer, conflictingMove, learnable, ruleRow, ruleRows, learnedFrom, ruleSheet, learn, learnBytes, inconsistency, rulesFrom}
+use Rattle.jobs.specs.Learn.{unboundEffects, conflictAnswer, conflictingMove, learnable, ruleBlock, ruleBlocks, learnedFrom, ruleSheet, learn, learnBytes, inconsistency, rulesFrom}
 use Rattle.jobs.specs.Check.{planRun, orderRun, goalAnswer, runAnswer, startAnswer, firstFailing, startsAnswer, beforePlan, check, endSheet, endAfter, checkBytes}
 use Rattle.jobs.specs.Add.{added, add, addBytes}
 use Rattle.jobs.specs.Convert.{factsBytes, listBytes, stepBytes, listed, stepsBytes, bytesAt, bodyBytes, recordBytes, recordsBytes, allRecordsBytes, converted, convert, convertBytes, filedStepBytes}
@@ -46,7 +46,7 @@ use Rattle.factsets.specs.Holding.{holding}
 
 -- The definitions that are computed: `unfolding opened` opens them all. Its value is not used.
 unfoldable opened : ℕ
-unfolding _>>=_ refuse number place walk byteAt two sectionsOf outOfRange parentAt relationAt moveAt schema typedObjects suitsWithin kindSuits objectBad factAt factBad precedes noFact factNumber objectOf stepAt argumentBad stepBad samePair repeats atomRelation atomFirst atomSecond parameterFills isAtom placed ground lengthBad countsBad offsetsBad parentBad kindBad relationBad moveBad parent relation move sections cut countBad factRefused facts list nextState mostListed stateAfter toggle toggled objectsIn stepsIn lengthIn headBad recordHead object stepRefused step steps objectsOf trajectory closed body recordAt stepTotal allRecords lookOverBy lookOver factsAt listAt listEnd recordedStep recordedStepsAt stepsOfRecord stepsOfRecords recordedSteps objectCount startCount goalCount stepCount startAt goalAt stepsAt orderCountsBad orderOffsetsBad orderHeader orderObjects orderObject entryBad entries planStepBad planStep fromGoal startsForm fromStart orderForm startsFrom starts entryAt goalFrom goal planFrom plan maskOf same below any has later first least image inapplicable next run wrong saw before after turned learned unboundEffect conflicting domain holding groundAction transition goalEntry schemaOf stepsOfBook transitionsOf startStates planOf goalOf unboundEffects conflictAnswer conflictingMove learnable ruleRow ruleRows learnedFrom ruleSheet learn kept learnBytes planRun orderRun goalAnswer runAnswer startAnswer firstFailing startsAnswer beforePlan check endSheet endAfter checkBytes isRefused unpositioned thenAt twoBytes added add addBytes factsBytes listBytes stepBytes listed stepsBytes bytesAt bodyBytes recordBytes recordsBytes allRecordsBytes converted convert convertBytes digits decimal refusedLine needLetter effectLetter paramShown atomFront atomLine lineIfAtom atomLines moveLines countsLine rulesLines rulesPrinted planLine planPrinted firstRefused inconsistency filedStepAt filedStepBytes learnedRules modelOf rulesFrom written startSize goalAlone leftAlone aloneAt aloneFrom alone flatten filedFact
+unfolding _>>=_ refuse number place walk byteAt two sectionsOf outOfRange parentAt relationAt moveAt schema typedObjects suitsWithin kindSuits objectBad factAt factBad precedes noFact factNumber objectOf stepAt argumentBad stepBad samePair repeats atomRelation atomFirst atomSecond parameterFills isAtom placed ground lengthBad countsBad offsetsBad parentBad kindBad relationBad moveBad parent relation move sections cut countBad factRefused facts list nextState mostListed stateAfter toggle toggled objectsIn stepsIn lengthIn headBad recordHead object stepRefused step steps objectsOf trajectory closed body recordAt stepTotal allRecords lookOverBy lookOver factsAt listAt listEnd recordedStep recordedStepsAt stepsOfRecord stepsOfRecords recordedSteps objectCount startCount goalCount stepCount startAt goalAt stepsAt orderCountsBad orderOffsetsBad orderHeader orderObjects orderObject entryBad entries planStepBad planStep fromGoal startsForm fromStart orderForm startsFrom starts entryAt goalFrom goal planFrom plan maskOf same below any has later first least image inapplicable next run wrong saw before after turned learned unboundEffect conflicting domain holding groundAction transition goalEntry schemaOf stepsOfBook transitionsOf startStates planOf goalOf unboundEffects conflictAnswer conflictingMove learnable ruleBlock ruleBlocks learnedFrom ruleSheet learn kept learnBytes planRun orderRun goalAnswer runAnswer startAnswer firstFailing startsAnswer beforePlan check endSheet endAfter checkBytes isRefused unpositioned thenAt twoBytes added add addBytes factsBytes listBytes stepBytes listed stepsBytes bytesAt bodyBytes recordBytes recordsBytes allRecordsBytes converted convert convertBytes digits decimal refusedLine needLetter effectLetter paramShown atomFront atomLine lineIfAtom atomLines moveLines countsLine rulesLines rulesPrinted planLine planPrinted firstRefused inconsistency filedStepAt filedStepBytes learnedRules modelOf rulesFrom written startSize goalAlone leftAlone aloneAt aloneFrom alone flatten filedFact
 opened = 0
 
 -- One declaration for each list that `cases` joins: the checker computes at most 50,000,000 steps in one.

@@ -27,14 +27,14 @@ use Rattle.jobs.specs.Planning.{schemaOf, startStates}
 use Rattle.output.specs.Written.{written}
 use Rattle.output.proofs.Written.{front-written}
 use Rattle.jobs.specs.Learn.{learnable, rulesFrom, ruleSheet}
-use Rattle.jobs.proofs.Sheet.{length-rows}
+use Rattle.jobs.proofs.Sheet.{length-blocks}
 use Rattle.jobs.specs.Check.{orderRun, startAnswer, firstFailing, startsAnswer, beforePlan, check, endSheet, endAfter, checkBytes}
 use Rattle.jobs.proofs.Starts.{failing-same, failing-map, end-map}
 use Rattle.execution.specs.Execution.{Executable}
 use Rattle.wellformed.proofs.Headers.{moves-few}
 use Rattle.observed.specs.Rules.{sheetObserved}
 use Rattle.statemask.specs.Statemask.{rulesIn}
-use Rattle.rulesheet.proofs.Rows.{length-sheet}
+use Rattle.rulesheet.proofs.Blocks.{length-sheet}
 use Rattle.learner.specs.Learner.{BookObserved}
 use Rattle.learner.proofs.Book.{schema-own, moves-own, sheet-by, form-good}
 use Rattle.starts.specs.Starts.{executedFrom, answerFrom, StartsGood, answerEach, StartsOutcome}
@@ -81,7 +81,7 @@ module _ (form : Form) (s o old : List ℕ) (h : Sections) (observed : List ℕ)
       pub order-executable : Executable rules o (stepCount o) (stepsAt o)
       unfolding ruleSheet
       order-executable =
-          executable form s (formed .0) _ (formed .1) (ready .learns) o _ order rules (ap (λ (l : List ℕ). length l) is-sheet ∙ length-rows (rulesFrom form s) (schemaOf s .moves) 1)
+          executable form s (formed .0) _ (formed .1) (ready .learns) o _ order rules (ap (λ (l : List ℕ). length l) is-sheet ∙ length-blocks (rulesFrom form s) (schemaOf s .moves) 1)
 
       ran : (new : List ℕ) (r : Positioned) → StartsOutcome (schema h s) (rulesIn rules) o old new r → StartsOutcome (schemaOf s) (rulesIn (ruleSheet form s)) o old new r
       ran new r out = rw (schema-own s h (ready .own), is-sheet) at out

@@ -23,7 +23,7 @@ use Rattle.model.proofs.Bounds.{precondition-iff-some, effect-iff-every}
 use Rattle.jobs.specs.Planning.{domain, schemaOf, stepsOfBook, transitionsOf}
 use Rattle.jobs.specs.Learn.{learnable, rulesFrom, learnedFrom, ruleSheet, learn, learnBytes}
 use Rattle.jobs.specs.SheetBits.{neededSet, neededNotSet, addedSet, removedSet, sheetBit, rulesOn}
-use Rattle.jobs.proofs.Sheet.{length-rows, learned-bits}
+use Rattle.jobs.proofs.Sheet.{length-blocks, learned-bits}
 use Rattle.wellformed.proofs.Formed.{formed}
 use Rattle.demand.specs.Demand2.{valueIn, NeedBit, EffectBit, Bits, Demand2}
 use Rattle.wellformed.proofs.Learnable.{inconsistentIn, learnable-inconsistent}
@@ -154,7 +154,7 @@ module _ (form : Form) (s : List ℕ) (n : ℕ) (good : lookOver form s ≡ Good
 
   long : length (ruleSheet form s) ≡ ruleSize * schemaOf s .moves
   unfolding ruleSheet
-  long = length-rows (rulesFrom form s) (schemaOf s .moves) 1
+  long = length-blocks (rulesFrom form s) (schemaOf s .moves) 1
 
 -- Demand 2.
 pub demand2 : Demand2

@@ -20,7 +20,7 @@ use Rattle.format.specs.Form.{Form}
 use Rattle.format.specs.Decode.{RecordedStep}
 use Rattle.quantify.specs.Quantify.{Mem, here, there}
 use Rattle.jobs.specs.Planning.{domain, groundAction, transition, schemaOf, stepsOfBook}
-use Rattle.jobs.specs.Learn.{rulesFrom, ruleRows, ruleSheet}
+use Rattle.jobs.specs.Learn.{rulesFrom, ruleBlocks, ruleSheet}
 use Rattle.wellformed.proofs.Headers.{right-schema}
 use Rattle.wellformed.specs.Right.{RightSomewhere}
 use Rattle.wellformed.specs.Grounding.{objectIn, factOf}
@@ -28,8 +28,8 @@ use Rattle.wellformed.proofs.Records.{recorded-right}
 use Rattle.wellformed.proofs.Values.{holds-in, holds-out}
 use Rattle.demand.specs.TwoBooks.{Renumbering, renumbered, RenumberedFacts, RenumberedStep, RenumberedSteps, RenumberedSameSheet}
 use Rattle.demand.proofs.Agree.{fact-same}
-use Rattle.jobs.proofs.Sheet.{rows-same}
-use Rattle.demand.proofs.TwoBooks.{AlikeRecorded, same-row}
+use Rattle.jobs.proofs.Sheet.{blocks-same}
+use Rattle.demand.proofs.TwoBooks.{AlikeRecorded, same-block}
 use Rattle.factsets.specs.Holding.{holding}
 use Rattle.factsets.specs.Right.{RightStep, RightState}
 
@@ -103,9 +103,9 @@ renumbered-back (f ∷ fs) (g ∷ gs) h (there m) = let (x, k, e) = renumbered-b
 pub renumbered-same-sheet : RenumberedSameSheet
 unfolding ruleSheet
 renumbered-same-sheet F G s t m n good good′ agree steps =
-    rows-same (rulesFrom F s) (rulesFrom G t)
+    blocks-same (rulesFrom F s) (rulesFrom G t)
     (λ a.
-    same-row F G s t agree (right-schema F s m good) (right-schema G t n good′) a
+    same-block F G s t agree (right-schema F s m good) (right-schema G t n good′) a
     (record {
       forth = λ f k e.
           let (g, l, h) = renumbered-forth (stepsOfBook F s) (stepsOfBook G t) steps k in
@@ -115,4 +115,4 @@ renumbered-same-sheet F G s t m n good good′ agree steps =
           (f, l, alike-of-renumbered F G s t agree (right-schema F s m good) (right-schema G t n good′) f g (recorded-right F s m good f l) (recorded-right G t n good′ g k) h);
     }))
     (schemaOf s .moves) 1
-    ∙ ap (λ (k : ℕ). ruleRows (rulesFrom G t) k 1) (agree .moves)
+    ∙ ap (λ (k : ℕ). ruleBlocks (rulesFrom G t) k 1) (agree .moves)

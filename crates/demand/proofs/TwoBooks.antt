@@ -1,4 +1,4 @@
--- Two books that show the same of a move give it the same row: the same steps, or steps with their objects renumbered.
+-- Two books that show the same of a move give it the same block of the sheet: the same steps, or steps with their objects renumbered.
 use Prim.Native.Nat.{ℕ, _+_, _-_, _≤_}
 use mathlib.Core.Path.{_≡_, sym, ap, ap₂, _∙_, subst}
 use mathlib.Core.List.{List}
@@ -12,15 +12,15 @@ use Rattle.format.specs.Decode.{RecordedStep}
 use Rattle.quantify.specs.Quantify.{Mem}
 use Rattle.model.specs.Domain.{Domain, Transition}
 use Rattle.model.specs.Learned.{learnedRules}
-use Rattle.model.specs.Alike.{Alike, SameRow}
-use Rattle.model.proofs.Row.{alike-sym, rules-same}
+use Rattle.model.specs.Alike.{Alike, SameOfAction}
+use Rattle.model.proofs.OneAction.{alike-sym, rules-same}
 use Rattle.jobs.specs.Planning.{domain, groundAction, transition, schemaOf, stepsOfBook, transitionsOf}
-use Rattle.jobs.specs.Learn.{rulesFrom, ruleRow, ruleSheet}
+use Rattle.jobs.specs.Learn.{rulesFrom, ruleBlock, ruleSheet}
 use Rattle.wellformed.proofs.Headers.{right-schema}
 use Rattle.quantify.proofs.Mapped.{mem-map-out, mem-map-in}
-use Rattle.demand.specs.TwoBooks.{SameStep, SameSteps, rowOf, SameStepsSameRow}
+use Rattle.demand.specs.TwoBooks.{SameStep, SameSteps, blockOf, SameStepsSameBlock}
 use Rattle.demand.proofs.Agree.{domain-same}
-use Rattle.jobs.proofs.Sheet.{row-part, row-same}
+use Rattle.jobs.proofs.Sheet.{block-part, block-same}
 use Rattle.factsets.specs.Holding.{holding}
 
 module _ (F G : Form) (s t : List ℕ) (agree : SameSchema (schemaOf s) (schemaOf t)) (right-s : RightSchema (schemaOf s)) (right-t : RightSchema (schemaOf t)) where
@@ -33,9 +33,9 @@ module _ (F G : Form) (s t : List ℕ) (agree : SameSchema (schemaOf s) (schemaO
     pub forth : (f : RecordedStep) → Mem f (stepsOfBook F s) → f .step .action .0 ≡ a → (g : RecordedStep) × Mem g (stepsOfBook G t) × AlikeRecorded f g
     pub back : (g : RecordedStep) → Mem g (stepsOfBook G t) → g .step .action .0 ≡ a → (f : RecordedStep) × Mem f (stepsOfBook F s) × AlikeRecorded f g
 
-  row-of-alike : (a : ℕ) → AlikeSteps a → SameRow (domain (schemaOf s)) a (transitionsOf F s) (transitionsOf G t)
+  same-of-alike : (a : ℕ) → AlikeSteps a → SameOfAction (domain (schemaOf s)) a (transitionsOf F s) (transitionsOf G t)
   unfolding transitionsOf transition groundAction
-  row-of-alike a h =
+  same-of-alike a h =
       record {
         forth = λ u m e.
             let (f, k, q) = mem-map-out (transition (schemaOf s)) (stepsOfBook F s) m in
@@ -54,14 +54,14 @@ module _ (F G : Form) (s t : List ℕ) (agree : SameSchema (schemaOf s) (schemaO
             );
       }
 
-  -- Such books give the move the same row.
-  pub same-row : (a : ℕ) → AlikeSteps a → ruleRow (rulesFrom F s) a ≡ ruleRow (rulesFrom G t) a
+  -- Such books give the move the same block.
+  pub same-block : (a : ℕ) → AlikeSteps a → ruleBlock (rulesFrom F s) a ≡ ruleBlock (rulesFrom G t) a
   unfolding rulesFrom
-  same-row a h =
-      let row = row-of-alike a h in
+  same-block a h =
+      let same = same-of-alike a h in
       let D : Domain = domain (schemaOf s) in
-      row-same (learnedRules D (transitionsOf F s)) (learnedRules D (transitionsOf G t)) a (rules-same D a (transitionsOf F s) (transitionsOf G t) row)
-      ∙ ap (λ (E : Domain). ruleRow (learnedRules E (transitionsOf G t)) a) (domain-same (schemaOf s) (schemaOf t) agree right-s right-t)
+      block-same (learnedRules D (transitionsOf F s)) (learnedRules D (transitionsOf G t)) a (rules-same D a (transitionsOf F s) (transitionsOf G t) same)
+      ∙ ap (λ (E : Domain). ruleBlock (learnedRules E (transitionsOf G t)) a) (domain-same (schemaOf s) (schemaOf t) agree right-s right-t)
 
   -- ---- the same steps
   alike-of-same : (f g : RecordedStep) → SameStep f g → AlikeRecorded f g
@@ -82,15 +82,15 @@ module _ (F G : Form) (s t : List ℕ) (agree : SameSchema (schemaOf s) (schemaO
         back = λ g m e. let (f, k, same) = h .back g m e in (f, k, alike-of-same f g same);
       }
 
--- the row of a move in the sheet of a book
-row-of-sheet : (form : Form) (s : List ℕ) (a : ℕ) → 1 ≤ a → a ≤ schemaOf s .moves → rowOf form s a ≡ ruleRow (rulesFrom form s) a
+-- the block of a move in the sheet of a book
+block-of-sheet : (form : Form) (s : List ℕ) (a : ℕ) → 1 ≤ a → a ≤ schemaOf s .moves → blockOf form s a ≡ ruleBlock (rulesFrom form s) a
 unfolding ruleSheet
-row-of-sheet form s a low high =
+block-of-sheet form s a low high =
     let e : 1 + (a - 1) ≡ a = omega arith in
-    row-part (rulesFrom form s) (schemaOf s .moves) 1 (a - 1) (omega arith) ∙ ap (ruleRow (rulesFrom form s)) e
+    block-part (rulesFrom form s) (schemaOf s .moves) 1 (a - 1) (omega arith) ∙ ap (ruleBlock (rulesFrom form s)) e
 
 -- The same steps of one move, states included: the same 128 bytes.
-pub same-steps-same-row : SameStepsSameRow
-same-steps-same-row F G s t m n good good′ agree a low high steps =
+pub same-steps-same-block : SameStepsSameBlock
+same-steps-same-block F G s t m n good good′ agree a low high steps =
     let high′ : a ≤ schemaOf t .moves = omega (arith, agree .moves) in
-    row-of-sheet F s a low high ∙ same-row F G s t agree (right-schema F s m good) (right-schema G t n good′) a (alike-of-steps F G s t agree (right-schema F s m good) (right-schema G t n good′) a steps) ∙ sym (row-of-sheet G t a low high′)
+    block-of-sheet F s a low high ∙ same-block F G s t agree (right-schema F s m good) (right-schema G t n good′) a (alike-of-steps F G s t agree (right-schema F s m good) (right-schema G t n good′) a steps) ∙ sym (block-of-sheet G t a low high′)

@@ -46,14 +46,14 @@ pub record SameSteps (f g : Form) (s t : List ℕ) (a : ℕ) : Type 0 where
   pub back : (y : RecordedStep) → Mem y (stepsOfBook g t) → y .step .action .0 ≡ a → (x : RecordedStep) × Mem x (stepsOfBook f s) × SameStep x y
 
 -- the 128 bytes of move a
-abbrev pub rowOf : Form → List ℕ → ℕ → List ℕ
-rowOf f s a = take ruleSize (drop (ruleSize * (a - 1)) (ruleSheet f s))
+abbrev pub blockOf : Form → List ℕ → ℕ → List ℕ
+blockOf f s a = take ruleSize (drop (ruleSize * (a - 1)) (ruleSheet f s))
 
 -- Two books with equal relations and moves that hold the same steps of one move, states included, give that move the same 128 bytes.
 -- Asked is good form alone: accepted books, which learning does not refuse, are among these.
-abbrev pub SameStepsSameRow : Type 0
-SameStepsSameRow = (f g : Form) (s t : List ℕ) (m n : ℕ) → lookOver f s ≡ Good m → lookOver g t ≡ Good n → SameSchema (schemaOf s) (schemaOf t)
-    → (a : ℕ) → 1 ≤ a → a ≤ schemaOf s .moves → SameSteps f g s t a → rowOf f s a ≡ rowOf g t a
+abbrev pub SameStepsSameBlock : Type 0
+SameStepsSameBlock = (f g : Form) (s t : List ℕ) (m n : ℕ) → lookOver f s ≡ Good m → lookOver g t ≡ Good n → SameSchema (schemaOf s) (schemaOf t)
+    → (a : ℕ) → 1 ≤ a → a ≤ schemaOf s .moves → SameSteps f g s t a → blockOf f s a ≡ blockOf g t a
 
 -- ---- objects renumbered
 

@@ -44,14 +44,14 @@ learnable form s = do
   _ ← inconsistency form s
   Good total
 
--- the four sets of one move
-unfoldable pub ruleRow : Rules → ℕ → List ℕ
-ruleRow R a = maskOf setSize (R .needed a) ++ maskOf setSize (R .neededNot a) ++ maskOf setSize (R .added a) ++ maskOf setSize (R .removed a)
+-- the four sets of one move, its block of 128 bytes on the sheet
+unfoldable pub ruleBlock : Rules → ℕ → List ℕ
+ruleBlock R a = maskOf setSize (R .needed a) ++ maskOf setSize (R .neededNot a) ++ maskOf setSize (R .added a) ++ maskOf setSize (R .removed a)
 
--- the rows of a number of moves from one on
-unfoldable pub ruleRows : Rules → ℕ → ℕ → List ℕ
-ruleRows R zero a = []
-ruleRows R (suc n) a = ruleRow R a ++ ruleRows R n (suc a)
+-- the blocks of a number of moves from one on
+unfoldable pub ruleBlocks : Rules → ℕ → ℕ → List ℕ
+ruleBlocks R zero a = []
+ruleBlocks R (suc n) a = ruleBlock R a ++ ruleBlocks R n (suc a)
 
 -- the rules that are learned from a book, and the model that they are
 unfoldable pub rulesFrom : Form → List ℕ → Rules
@@ -61,7 +61,7 @@ unfoldable pub learnedFrom : Form → List ℕ → Model
 learnedFrom form s = learned (domain (schemaOf s)) (transitionsOf form s)
 
 unfoldable pub ruleSheet : Form → List ℕ → List ℕ
-ruleSheet form s = ruleRows (rulesFrom form s) (schemaOf s .moves) 1
+ruleSheet form s = ruleBlocks (rulesFrom form s) (schemaOf s .moves) 1
 
 -- what a call learns into a sheet of so many bytes
 unfoldable pub learn : Form → List ℕ → ℕ → Answer

@@ -8,13 +8,13 @@ use Rattle.model.specs.Domain.{Domain, Transition}
 use Rattle.model.specs.Model.{Model, Consistent}
 use Rattle.model.specs.Learned.{learnedRules, modelOf, learned, unboundEffect, conflicting}
 use Rattle.model.specs.Check.{inconsistent, checked}
-use Rattle.model.specs.Alike.{SameRow, SameMembers}
+use Rattle.model.specs.Alike.{SameOfAction, SameMembers}
 use Rattle.quantify.proofs.Quantify.{any-alike, below-same}
-use Rattle.model.proofs.Row.{rules-equal, row-of-members, rules-same, conflicting-same}
+use Rattle.model.proofs.OneAction.{rules-equal, same-of-members, rules-same, conflicting-same}
 
 module _ (D : Domain) (ts us : List Transition) (same : SameMembers ts us) where
-  row : (a : ℕ) → SameRow D a ts us
-  row a = row-of-members D a ts us (λ t e. same t)
+  shown : (a : ℕ) → SameOfAction D a ts us
+  shown a = same-of-members D a ts us (λ t e. same t)
 
   -- Lists with the same members have the same consistent models,
   pub consistent-alike : (M : Model) → Consistent D ts M ↔ Consistent D us M
@@ -23,17 +23,17 @@ module _ (D : Domain) (ts us : List Transition) (same : SameMembers ts us) where
 
   -- teach the same rules, so the same model,
   pub rules-alike : learnedRules D ts ≡ learnedRules D us
-  rules-alike = rules-equal _ _ (λ a n. rules-same D a ts us (row a) n)
+  rules-alike = rules-equal _ _ (λ a n. rules-same D a ts us (shown a) n)
 
   learned-alike : learned D ts ≡ learned D us
   unfolding learned
   learned-alike = ap modelOf rules-alike
 
-  -- meet row 12 for the same actions,
+  -- meet shown 12 for the same actions,
   pub conflicting-alike : (a : ℕ) → conflicting D ts a ≡ conflicting D us a
-  conflicting-alike a = conflicting-same D a ts us (row a)
+  conflicting-alike a = conflicting-same D a ts us (shown a)
 
-  -- meet row 11 together,
+  -- meet shown 11 together,
   pub unbound-alike : any (unboundEffect D) ts ≡ any (unboundEffect D) us
   unbound-alike = any-alike (unboundEffect D) ts us same
 

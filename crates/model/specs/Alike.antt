@@ -19,7 +19,7 @@ pub record Alike (D : Domain) (t u : Transition) : Type 0 where
 abbrev pub EachAlike : Domain → ℕ → List Transition → List Transition → Type 0
 EachAlike D a ts us = (t : Transition) → Mem t ts → t .step .action ≡ a → (u : Transition) × Mem u us × Alike D t u
 
-pub record SameRow (D : Domain) (a : ℕ) (ts us : List Transition) : Type 0 where
+pub record SameOfAction (D : Domain) (a : ℕ) (ts us : List Transition) : Type 0 where
   pub forth : EachAlike D a ts us
   pub back : EachAlike D a us ts
 

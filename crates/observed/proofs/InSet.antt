@@ -9,7 +9,7 @@ use Rattle.quantify.specs.Quantify.{same, any}
 use Rattle.model.specs.Domain.{Transition}
 use Rattle.model.specs.Learned.{saw, before, after, turned}
 use Rattle.quantify.proofs.Truth.{same-true, same-false}
-use Rattle.model.proofs.Row.{saw-append}
+use Rattle.model.proofs.OneAction.{saw-append}
 use Rattle.observed.specs.Seen.{inSet}
 use Rattle.observed.proofs.Noted.{changed}
 

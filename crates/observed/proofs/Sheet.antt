@@ -12,7 +12,7 @@ use Rattle.terms.specs.Steps.{isAtom}
 use Rattle.model.specs.Domain.{Transition}
 use Rattle.model.specs.Learned.{learnedRules}
 use Rattle.jobs.specs.Planning.{domain}
-use Rattle.jobs.specs.Learn.{ruleRow, ruleRows}
+use Rattle.jobs.specs.Learn.{ruleBlock, ruleBlocks}
 use Rattle.atoms.specs.Atoms.{atomSet}
 use Rattle.observed.specs.Observed.{alwaysBefore, everBefore, added, deleted, bound, setAt, observedSet}
 use Rattle.observed.specs.Rules.{ruleSet, rulesObserved, sheetObserved}
@@ -41,9 +41,9 @@ module _ (sch : Schema) (ts : List Transition) (l : List ℕ) (seen : Seen sch t
       without-within false x = refl
 
   -- The four sets of a move are its learned ones.
-  pub rules-row : rulesObserved l a ≡ ruleRow (learnedRules (domain sch) ts) a
-  unfolding rulesObserved ruleSet ruleRow learnedRules domain inSet
-  rules-row =
+  pub rules-block : rulesObserved l a ≡ ruleBlock (learnedRules (domain sch) ts) a
+  unfolding rulesObserved ruleSet ruleBlock learnedRules domain inSet
+  rules-block =
       rw (
         seen-in alwaysBefore (omega arith),
         seen-out everBefore (omega arith),
@@ -52,9 +52,9 @@ module _ (sch : Schema) (ts : List Transition) (l : List ℕ) (seen : Seen sch t
       )
 
 -- And so is the whole sheet.
-pub sheet-rows : (sch : Schema) (ts : List Transition) (l : List ℕ) → Seen sch ts l → (n a : ℕ) → 1 ≤ a → a + n ≤ 33
-    → sheetObserved l n a ≡ ruleRows (learnedRules (domain sch) ts) n a
-unfolding sheetObserved ruleRows
-sheet-rows sch ts l seen zero a h h′ = refl
-sheet-rows sch ts l seen (suc n) a h h′ =
-    ap₂ (λ (r s : List ℕ). r ++ s) (rules-row sch ts l seen a h (omega arith)) (sheet-rows sch ts l seen n (suc a) (omega arith) (omega arith))
+pub sheet-blocks : (sch : Schema) (ts : List Transition) (l : List ℕ) → Seen sch ts l → (n a : ℕ) → 1 ≤ a → a + n ≤ 33
+    → sheetObserved l n a ≡ ruleBlocks (learnedRules (domain sch) ts) n a
+unfolding sheetObserved ruleBlocks
+sheet-blocks sch ts l seen zero a h h′ = refl
+sheet-blocks sch ts l seen (suc n) a h h′ =
+    ap₂ (λ (r s : List ℕ). r ++ s) (rules-block sch ts l seen a h (omega arith)) (sheet-blocks sch ts l seen n (suc a) (omega arith) (omega arith))

@@ -11,7 +11,7 @@ use Rattle.observed.specs.Observed.{observeAll, nothingSeen}
 use Rattle.observed.specs.Faithful.{Faithful}
 use Rattle.observed.specs.Taught.{Taught}
 use Rattle.observed.proofs.Observe.{seen-nothing, seen-observed}
-use Rattle.observed.proofs.Sheet.{sheet-rows}
+use Rattle.observed.proofs.Sheet.{sheet-blocks}
 use Rattle.observed.proofs.Conflicts.{conflicting-same}
 use Rattle.observed.proofs.Unbound.{unbound-observed}
 
@@ -28,5 +28,5 @@ taught sch relations moves fs all =
       bytes = seen .bytes;
       row11 = unbound-observed sch moves fs all [] (nothingSeen sch) (seen-nothing sch) (none-named sch);
       row12 = conflicting-same sch relations (map (transition sch) fs) (observeAll fs (nothingSeen sch) .masks) seen moves;
-      sheet = sheet-rows sch (map (transition sch) fs) (observeAll fs (nothingSeen sch) .masks) seen (sch .moves) 1 (omega arith) (omega arith);
+      sheet = sheet-blocks sch (map (transition sch) fs) (observeAll fs (nothingSeen sch) .masks) seen (sch .moves) 1 (omega arith) (omega arith);
     }

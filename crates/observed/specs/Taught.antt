@@ -8,7 +8,7 @@ use Rattle.terms.specs.Schema.{Schema}
 use Rattle.format.specs.Decode.{RecordedStep}
 use Rattle.model.specs.Learned.{learnedRules}
 use Rattle.jobs.specs.Planning.{domain, transition}
-use Rattle.jobs.specs.Learn.{unboundEffects, conflictingMove, ruleRows}
+use Rattle.jobs.specs.Learn.{unboundEffects, conflictingMove, ruleBlocks}
 use Rattle.observed.specs.Observed.{Observed}
 use Rattle.observed.specs.Rules.{sheetObserved, unboundAnswer, conflictAmong}
 
@@ -18,4 +18,4 @@ pub record Taught (sch : Schema) (fs : List RecordedStep) (h : Observed) : Type 
   pub bytes : Bytes (h .masks)
   pub row11 : unboundAnswer (h .named) ≡ unboundEffects sch fs
   pub row12 : conflictAmong (h .masks) (sch .moves) ≡ conflictingMove sch (map (transition sch) fs)
-  pub sheet : sheetObserved (h .masks) (sch .moves) 1 ≡ ruleRows (learnedRules (domain sch) (map (transition sch) fs)) (sch .moves) 1
+  pub sheet : sheetObserved (h .masks) (sch .moves) 1 ≡ ruleBlocks (learnedRules (domain sch) (map (transition sch) fs)) (sch .moves) 1

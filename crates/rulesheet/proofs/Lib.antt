@@ -1,2 +1,2 @@
 -- Laws for the proofs of src/: the sheet (Rows).
-pub mod Rows
+pub mod Blocks

@@ -1,4 +1,4 @@
--- Rules in memory: a move's four sets as an array, and as the 128 bytes of its row. Uses the sets of observed.
+-- Rules in memory: a move's four sets as an array, and as the 128 bytes of its block. Uses the sets of observed.
 use Prim.Native.Nat.{ℕ}
 use mathlib.Core.List.{List, [], _∷_, _++_}
 use lib.ListN.{getD}
@@ -10,5 +10,5 @@ ruleSets l a =
     ruleSet l a neededSet ∷ ruleSet l a neededNotSet ∷ ruleSet l a addedSet ∷ ruleSet l a removedSet ∷ []
 
 -- the four sets one after the other
-unfoldable pub row : List (List ℕ) → List ℕ
-row r = getD r neededSet [] ++ getD r neededNotSet [] ++ getD r addedSet [] ++ getD r removedSet []
+unfoldable pub block : List (List ℕ) → List ℕ
+block r = getD r neededSet [] ++ getD r neededNotSet [] ++ getD r addedSet [] ++ getD r removedSet []

@@ -1,4 +1,4 @@
-// The rules of a move from what the learner has observed, and the rule sheet: each move's four sets, by value and as the bytes of its row.
+// The rules of a move from what the learner has observed, and the rule sheet: each move's four sets, by value and as the bytes of its block.
 // Uses observed for the sets that are observed, output for the bytes, terms, limits, and the numbers of a move's rules from jobs;
 // each contract names its definition, of observed or of specs/Sheet.antt.
 ghost use mathlib.Core.Path.{_≡_};
@@ -8,7 +8,7 @@ ghost use Rattle.limits.specs.Limits.{observedSize, maxMoves, setSize, ruleSize
 ghost use Rattle.output.specs.Written.{written};
 ghost use Rattle.observed.specs.Observed.{MoveObserved};
 ghost use Rattle.observed.specs.Rules.{sheetObserved};
-ghost use Rattle.rulesheet.specs.Sheet.{ruleSets, row};
+ghost use Rattle.rulesheet.specs.Sheet.{ruleSets, block};
 use terms::Move;
 
 // ---- the rules of a move
@@ -28,7 +28,7 @@ pub fn rules_of(observed: &[u8], m: Move) -> [[u8; 32]; 4]
 
 // ---- the sheet
 
-// Where the second set of a move stands in its row, and the third and the fourth.
+// Where the second set of a move stands in its block, and the third and the fourth.
 const PRE_NEG_AT: usize = jobs::PRE_NEG * limits::SET_SIZE;
 
 const ADD_AT: usize = jobs::ADD * limits::SET_SIZE;
@@ -45,7 +45,7 @@ fn write_set(part: &mut [u8], at: usize, set: [u8; 32])
 
 fn write_rules(part: &mut [u8], rules: [[u8; 32]; 4])
     requires { ⌜ ruleSize ≤ length (now part) ⌝ }
-    ensures { λ _. ⌜ now (part .exit) ≡ written (now (part .entry)) 0 (row rules) ⌝ }
+    ensures { λ _. ⌜ now (part .exit) ≡ written (now (part .entry)) 0 (block rules) ⌝ }
 {
     let pre_pos = rules[jobs::PRE_POS];
     let pre_neg = rules[jobs::PRE_NEG];
@@ -72,7 +72,7 @@ pub fn write_sheet(moves: u16, observed: &[u8], sheet: &mut [u8])
     }
 }
 
-// The sheet written over what is observed, from the first byte on. A row is shorter than the seven sets of a move, and is written when these
+// The sheet written over what is observed, from the first byte on. A block is shorter than the seven sets of a move, and is written when these
 // have been read, so the sets of the moves behind it stay.
 pub fn write_over(moves: u16, observed: &mut [u8])
     requires { ⌜ (moves ≤ maxMoves) × (length (now observed) ≡ observedSize) ⌝ }

@@ -13,7 +13,7 @@ use Rattle.format.specs.Form.{Form}
 use Rattle.quantify.specs.Quantify.{least}
 use Rattle.model.specs.Learned.{Rules, unboundEffect}
 use Rattle.jobs.specs.Planning.{domain, transition, schemaOf, stepsOfBook, transitionsOf}
-use Rattle.jobs.specs.Learn.{unboundEffects, conflictAnswer, conflictingMove, inconsistency, learnable, ruleRows, ruleSheet, learn, learnBytes}
+use Rattle.jobs.specs.Learn.{unboundEffects, conflictAnswer, conflictingMove, inconsistency, learnable, ruleBlocks, ruleSheet, learn, learnBytes}
 use Rattle.quantify.proofs.Mapped.{any-map}
 use Rattle.twins.specs.Twins.{SameTransitions}
 use Rattle.twins.proofs.Answers.{Twin, equal, twin-bind, first-twin, twin-kept}
@@ -59,7 +59,7 @@ module _ (f g : Form) (s t : List ℕ) (n : ℕ) (same : SameTransitions f g s t
   -- The sheet is the same,
   pub sheet-same : ruleSheet f s ≡ ruleSheet g t
   unfolding ruleSheet
-  sheet-same = ap₂ (λ (R : Rules) (m : ℕ). ruleRows R m 1) (rules-same f g s t n same) (same .comparable .schema .moves)
+  sheet-same = ap₂ (λ (R : Rules) (m : ℕ). ruleBlocks R m 1) (rules-same f g s t n same) (same .comparable .schema .moves)
 
   -- and so is what the lent sheet holds afterwards.
   pub learn-bytes-same : (lent : List ℕ) → learnBytes f s lent ≡ learnBytes g t lent

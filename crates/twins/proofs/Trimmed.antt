@@ -11,9 +11,9 @@ use Rattle.quantify.specs.Quantify.{same, any}
 use Rattle.model.specs.Domain.{Domain, State, GroundAction, Transition}
 use Rattle.model.specs.Model.{Model, Valid, Fits, Consistent, image, inapplicable, next, Run, stopped, run}
 use Rattle.model.specs.Learned.{learnedRules, learned, unboundEffect, conflicting}
-use Rattle.model.specs.Alike.{Alike, SameRow, Renumbered, none, more}
+use Rattle.model.specs.Alike.{Alike, SameOfAction, Renumbered, none, more}
 use Rattle.quantify.proofs.Quantify.{below-same}
-use Rattle.model.proofs.Row.{rules-equal, row-of-renumbered, rules-same, conflicting-same}
+use Rattle.model.proofs.OneAction.{rules-equal, same-of-renumbered, rules-same, conflicting-same}
 use Rattle.model.proofs.Seen.{need-out, effect-out}
 use Rattle.quantify.proofs.Mapped.{mem-map-out, mem-map-in}
 
@@ -75,16 +75,16 @@ module _ (D : Domain) where
   all-alike [] = none
   all-alike (t ∷ ts) = more (alike-trimmed t) (all-alike ts)
 
-  row-trimmed : (ts : List Transition) (a : ℕ) → SameRow D a ts (map (trimmedTransition D) ts)
-  row-trimmed ts a = row-of-renumbered D ts (map (trimmedTransition D) ts) (all-alike ts) a
+  block-trimmed : (ts : List Transition) (a : ℕ) → SameOfAction D a ts (map (trimmedTransition D) ts)
+  block-trimmed ts a = same-of-renumbered D ts (map (trimmedTransition D) ts) (all-alike ts) a
 
   -- The same rules are learned,
   pub rules-trimmed : (ts : List Transition) → learnedRules D ts ≡ learnedRules D (map (trimmedTransition D) ts)
-  rules-trimmed ts = rules-equal _ _ (λ a n. rules-same D a ts (map (trimmedTransition D) ts) (row-trimmed ts a) n)
+  rules-trimmed ts = rules-equal _ _ (λ a n. rules-same D a ts (map (trimmedTransition D) ts) (block-trimmed ts a) n)
 
   -- and the same actions have a conflict.
   pub conflicting-trimmed : (ts : List Transition) → conflicting D ts ≡ conflicting D (map (trimmedTransition D) ts)
-  conflicting-trimmed ts = λ i a. conflicting-same D a ts (map (trimmedTransition D) ts) (row-trimmed ts a) i
+  conflicting-trimmed ts = λ i a. conflicting-same D a ts (map (trimmedTransition D) ts) (block-trimmed ts a) i
 
   -- ---- models
 

@@ -1,4 +1,4 @@
--- `rulesheet::write_over` meets its contract: the first i rows are written, and the sets of the moves behind them are as they were.
+-- `rulesheet::write_over` meets its contract: the first i blocks are written, and the sets of the moves behind them are as they were.
 use Prim.Native.Nat.{_-_, _*_, _≤_}
 use native.Mathlib.Omega.{arith}
 use mathlib.Core.Path.{_≡_, refl, _∙_}
@@ -8,7 +8,7 @@ use Rattle.observed.specs.Rules.{sheetObserved}
 use Rattle.limits.specs.Limits.{observedSize, maxMoves}
 use Rattle.output.specs.Written.{written}
 use Rattle.output.proofs.Written.{part-room}
-use Rattle.rulesheet.proofs.Rows.{sheet-first, sheet-length, sheet-turn, sets-behind, over-last}
+use Rattle.rulesheet.proofs.Blocks.{sheet-first, sheet-length, sheet-turn, sets-behind, over-last}
 use Rattle.rulesheet.proofs.write_over.Statement.{statement}
 use Rattle.rulesheet.proofs.write_over.Tie as tie
 

@@ -1,4 +1,4 @@
--- `rulesheet::write_sheet` meets its contract: the first i rows are written.
+-- `rulesheet::write_sheet` meets its contract: the first i blocks are written.
 use Prim.Native.Nat.{_-_, _*_, _≤_}
 use native.Mathlib.Omega.{arith}
 use mathlib.Core.Path.{_≡_, refl}
@@ -8,7 +8,7 @@ use Rattle.observed.specs.Rules.{sheetObserved}
 use Rattle.limits.specs.Limits.{observedSize, maxMoves}
 use Rattle.output.specs.Written.{written}
 use Rattle.output.proofs.Written.{part-room}
-use Rattle.rulesheet.proofs.Rows.{sheet-first, sheet-length, sheet-turn, sheet-last}
+use Rattle.rulesheet.proofs.Blocks.{sheet-first, sheet-length, sheet-turn, sheet-last}
 use Rattle.rulesheet.proofs.write_sheet.Statement.{statement}
 use Rattle.rulesheet.proofs.write_sheet.Tie as tie
 

@@ -1,4 +1,4 @@
--- A move's row of the sheet, and the sheet, row after row. Uses the sets of observed, mask's lengths, and output's laws.
+-- A move's block of the sheet, and the sheet, block after block. Uses the sets of observed, mask's lengths, and output's laws.
 use Prim.Native.Nat.{ℕ, zero, suc, _+_, _-_, _*_, _≤_}
 use native.Mathlib.Omega.{arith}
 use mathlib.Core.Path.{_≡_, refl, sym, _∙_, ap, ap₂}
@@ -14,7 +14,7 @@ use Rattle.observed.specs.Observed.{alwaysBefore, everBefore, added, deleted, b
 use Rattle.observed.proofs.Noted.{length-observedSet}
 use Rattle.observed.specs.Rules.{ruleSet, rulesObserved, sheetObserved}
 use Rattle.output.specs.Written.{written}
-use Rattle.rulesheet.specs.Sheet.{ruleSets, row}
+use Rattle.rulesheet.specs.Sheet.{ruleSets, block}
 use Rattle.output.proofs.Written.{length-written, written-then, front-written, written-whole, written-part}
 
 -- what is written at the front leaves the rest
@@ -30,14 +30,14 @@ drop-behind l x n h =
     ∙ ap (λ (k : ℕ). drop k l) (sym e)
 
 -- four runs one after the other
-pub row-by : (d a b c e : List ℕ) {p q r t : List ℕ}
+pub block-by : (d a b c e : List ℕ) {p q r t : List ℕ}
     → 128 ≤ length d
     → (p ≡ written d 0 a) × (length a ≡ 32)
     → (q ≡ written p 32 b) × (length b ≡ 32)
     → (r ≡ written q 64 c) × (length c ≡ 32)
     → (t ≡ written r 96 e) × (length e ≡ 32)
     → t ≡ written d 0 (a ++ b ++ c ++ e)
-row-by d a b c e {p} {q} {r} {t} h (f, la) (g, lb) (j, lc) (k, le) =
+block-by d a b c e {p} {q} {r} {t} h (f, la) (g, lb) (j, lc) (k, le) =
     let two : length (a ++ b) ≡ 64 = simp (length-append, la, lb) in
     let three : length (a ++ b ++ c) ≡ 96 = simp (length-append, la, lb, lc) in
     let q′ : q ≡ written d 0 (a ++ b) = g ∙ rw f (written-then d 0 a b 32 (omega arith) (omega arith)) in
@@ -55,9 +55,9 @@ module _ (l : List ℕ) where
   unfolding ruleSets ruleSet
   rules-by a e f g j k = rw (e, g, f, j, k)
 
-  pub row-rules : (a : ℕ) → row (ruleSets l a) ≡ rulesObserved l a
-  unfolding row ruleSets rulesObserved
-  row-rules a = refl
+  pub block-rules : (a : ℕ) → block (ruleSets l a) ≡ rulesObserved l a
+  unfolding block ruleSets rulesObserved
+  block-rules a = refl
 
   module _ (sized : length l ≡ observedSize) where
     pub length-ruleSet : (a k : ℕ) → 1 ≤ a → a ≤ 32 → length (ruleSet l a k) ≡ 32
@@ -83,7 +83,7 @@ module _ (l : List ℕ) where
     length-sheet zero a h h′ = refl
     length-sheet (suc n) a h h′ = simp (length-append, length-rules a h (omega arith), length-sheet n (suc a) (omega arith) (omega arith)) (omega arith)
 
-  -- one row more at the end
+  -- one block more at the end
   pub sheet-next : (n a : ℕ) → sheetObserved l (n + 1) a ≡ sheetObserved l n a ++ rulesObserved l (a + n)
   unfolding sheetObserved
   sheet-next zero a =
@@ -96,7 +96,7 @@ module _ (l : List ℕ) where
       ∙ ap (λ (r : List ℕ). rulesObserved l a ++ r) (sheet-next n (suc a) ∙ ap (λ (k : ℕ). sheetObserved l n (suc a) ++ rulesObserved l k) f)
       ∙ sym (append-assoc (rulesObserved l a) (sheetObserved l n (suc a)) (rulesObserved l (a + suc n)))
 
-  -- ---- the loop over moves: d is the sheet as lent, s the sheet with i rows written
+  -- ---- the loop over moves: d is the sheet as lent, s the sheet with i blocks written
   pub sheet-first : (d : List ℕ) → d ≡ written d 0 (sheetObserved l 0 1)
   unfolding written sheetObserved
   sheet-first d = refl
@@ -110,14 +110,14 @@ module _ (l : List ℕ) where
         → 128 * (i + 1) ≤ length d
         → at ≡ 128 * i
         → r ≡ ruleSets l (i + 1)
-        → m ≡ written (midOf at (length s - at) s) 0 (row r)
+        → m ≡ written (midOf at (length s - at) s) 0 (block r)
         → putMid at (length s - at) s m ≡ written d 0 (sheetObserved l (i + 1) 1)
     sheet-turn r at m k h f g w =
         let next = sheet-next i 1 in
         let o : 1 + i ≡ i + 1 = omega arith in
-        written-part s at (row r) m (omega arith) w
-        ∙ ap (λ (x : List (List ℕ)). written s at (row x)) g
-        ∙ ap₂ (λ (x y : List ℕ). written x at y) e (row-rules (i + 1))
+        written-part s at (block r) m (omega arith) w
+        ∙ ap (λ (x : List (List ℕ)). written s at (block x)) g
+        ∙ ap₂ (λ (x y : List ℕ). written x at y) e (block-rules (i + 1))
         ∙ written-then d 0 (sheetObserved l i 1) (rulesObserved l (i + 1)) at (omega (arith, length-sheet sized i 1 (omega arith) (omega arith))) (omega arith)
         ∙ ap (λ (a : ℕ). written d 0 (sheetObserved l i 1 ++ rulesObserved l a)) (sym o)
         ∙ ap (written d 0) (sym next)
@@ -127,7 +127,7 @@ module _ (l : List ℕ) where
         let q : i ≡ n = omega arith in
         e ∙ written-whole d (sheetObserved l i 1) (omega (arith, length-sheet sized i 1 (omega arith) (omega arith))) ∙ ap (λ (j : ℕ). sheetObserved l j 1) q
 
-  -- ---- the sheet over what is observed itself: the sets of a move stay where no row has come to
+  -- ---- the sheet over what is observed itself: the sets of a move stay where no block has come to
   module _ (sized : length l ≡ observedSize) (s : List ℕ) (i : ℕ) (few : i ≤ 32) (e : s ≡ written l 0 (sheetObserved l i 1)) where
     set-behind : (k : ℕ) → observedSet s (i + 1) k ≡ observedSet l (i + 1) k
     unfolding observedSet setAt

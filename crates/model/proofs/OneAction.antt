@@ -8,7 +8,7 @@ use Rattle.truth.specs.Bools.{bool-eq, guarded}
 use Rattle.quantify.specs.Quantify.{Mem, here, there}
 use Rattle.model.specs.Domain.{Domain, Transition}
 use Rattle.model.specs.Learned.{Rules, saw, before, after, turned, learnedRules, conflicting}
-use Rattle.model.specs.Alike.{Alike, EachAlike, SameRow, SameRules, Renumbered, none, more}
+use Rattle.model.specs.Alike.{Alike, EachAlike, SameOfAction, SameRules, Renumbered, none, more}
 use Rattle.quantify.proofs.Quantify.{any-append, below-same}
 use Rattle.model.proofs.Seen.{Sight, saw-in, saw-out}
 
@@ -36,9 +36,9 @@ module _ (D : Domain) where
   alike-sym t u h =
       record { action = sym (h .action); was = λ n atom. sym (h .was n (rw (h .action) atom)); got = λ n atom. sym (h .got n (rw (h .action) atom)) }
 
-  -- the same transitions of the action: the same row
-  pub row-of-members : (a : ℕ) (ts us : List Transition) → ((t : Transition) → t .step .action ≡ a → Mem t ts ↔ Mem t us) → SameRow D a ts us
-  row-of-members a ts us h =
+  -- the same transitions of the action: the same is shown of it
+  pub same-of-members : (a : ℕ) (ts us : List Transition) → ((t : Transition) → t .step .action ≡ a → Mem t ts ↔ Mem t us) → SameOfAction D a ts us
+  same-of-members a ts us h =
       record { forth = λ t m e. (t, h t e .0 m, alike-refl t); back = λ t m e. (t, h t e .1 m, alike-refl t) }
 
   renumbered-forth : {ts us : List Transition} → Renumbered D ts us → {t : Transition} → Mem t ts → (u : Transition) × Mem u us × Alike D t u
@@ -49,9 +49,9 @@ module _ (D : Domain) where
   renumbered-sym none = none
   renumbered-sym (more {t = t} {u = u} h rest) = more (alike-sym t u h) (renumbered-sym rest)
 
-  -- Renumbered objects leave each action's row as it is.
-  pub row-of-renumbered : (ts us : List Transition) → Renumbered D ts us → (a : ℕ) → SameRow D a ts us
-  row-of-renumbered ts us h a =
+  -- Renumbered objects change nothing of what is shown of an action.
+  pub same-of-renumbered : (ts us : List Transition) → Renumbered D ts us → (a : ℕ) → SameOfAction D a ts us
+  same-of-renumbered ts us h a =
       record { forth = λ t m e. renumbered-forth h m; back = λ t m e. renumbered-forth (renumbered-sym h) m }
 
   module _ (a : ℕ) where
@@ -67,14 +67,14 @@ module _ (D : Domain) where
           got = sym (h .got n atom′) ∙ s .got;
         }
 
-    module _ (ts us : List Transition) (row : SameRow D a ts us) where
+    module _ (ts us : List Transition) (shown : SameOfAction D a ts us) where
       pub saw-same : (test : Bool → Bool → Bool) (n : ℕ) → D .atom a n ≡ true → saw ts test a n ≡ saw us test a n
       saw-same test n atom =
           bool-eq
           _
           _
-          (λ e. let (x, y, s, h) = saw-out ts test a n e in saw-in us test a n x y (sight-over ts us (row .forth) n atom x y s) h)
-          (λ e. let (x, y, s, h) = saw-out us test a n e in saw-in ts test a n x y (sight-over us ts (row .back) n atom x y s) h)
+          (λ e. let (x, y, s, h) = saw-out ts test a n e in saw-in us test a n x y (sight-over ts us (shown .forth) n atom x y s) h)
+          (λ e. let (x, y, s, h) = saw-out us test a n e in saw-in ts test a n x y (sight-over us ts (shown .back) n atom x y s) h)
 
       before-same : (b : Bool) (n : ℕ) → D .atom a n ≡ true → before ts b a n ≡ before us b a n
       unfolding before
