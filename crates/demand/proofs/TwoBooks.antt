@@ -58,9 +58,9 @@ module _ (F G : Form) (s t : List ℕ) (agree : SameSchema (schemaOf s) (schemaO
   pub same-block : (a : ℕ) → AlikeSteps a → ruleBlock (rulesFrom F s) a ≡ ruleBlock (rulesFrom G t) a
   unfolding rulesFrom
   same-block a h =
-      let same = same-of-alike a h in
+      let alike = same-of-alike a h in
       let D : Domain = domain (schemaOf s) in
-      block-same (learnedRules D (transitionsOf F s)) (learnedRules D (transitionsOf G t)) a (rules-same D a (transitionsOf F s) (transitionsOf G t) same)
+      block-same (learnedRules D (transitionsOf F s)) (learnedRules D (transitionsOf G t)) a (rules-same D a (transitionsOf F s) (transitionsOf G t) alike)
       ∙ ap (λ (E : Domain). ruleBlock (learnedRules E (transitionsOf G t)) a) (domain-same (schemaOf s) (schemaOf t) agree right-s right-t)
 
   -- ---- the same steps

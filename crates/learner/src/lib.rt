@@ -1,5 +1,5 @@
 // Learning from a book of either form: the records walked once, each looked over and observed; then rows 11 to 13 and the rule sheet from what is observed.
-// Uses sections and observing for the rows of the form, notes for what is observed before any record, rulesheet and conflicts for what comes of what is
+// Uses sections and observerecords for the rows of the form, observestep for what is observed before any record, rulesheet and conflicts for what comes of what is
 // observed, answer, limits and terms, and the definitions of jobs and observed.
 use answer::Answer;
 use observerecords::Walked;

@@ -1,6 +1,6 @@
 // Looking over a book of either form: rows 1 to 10 of the refusal table, for any bytes; the count of all steps is good.
 // Uses answer, terms, sections, records for a head and the book's tail, the reader of one record, and the definitions of format. Nothing is observed; learning has a walk
-// of its own (observing), which looks over and observes at once.
+// of its own (observerecords), which looks over and observes at once.
 use answer::Answer;
 use records::Head;
 use terms::Sections;

@@ -1,4 +1,4 @@
--- One set of what is observed replaced. A step is noted so, set by set (notes); proofs/Noted.antt says that this is `noted`.
+-- One set of what is observed replaced. A step is noted so, set by set (observestep); proofs/Noted.antt says that this is `noted`.
 use Prim.Native.Nat.{ℕ, _+_}
 use mathlib.Core.List.{List, _++_}
 use lib.ListN.{take, drop}

@@ -1,4 +1,4 @@
--- One step of a record observed as its list is looked over: what the step's form gives the functions of notes, and what they say comes to what is
+-- One step of a record observed as its list is looked over: what the step's form gives the functions of observestep, and what they say comes to what is
 -- observed after the step.
 use Prim.Native.Nat.{ℕ, _+_, _≤_, _<_}
 use native.Mathlib.Decide.{decLt}

@@ -1,6 +1,6 @@
 // One record of a book looked over and observed at once, rows 6 to 10: each list of facts is read once for both, and the state of a short book's record is
 // carried on once.
-// Uses records for the parts of a record that are no lists, states for the first state, notes for a list behind a step, lifting for the table that it is
+// Uses records for the parts of a record that are no lists, states for the first state, observestep for a list behind a step, lifting for the table that it is
 // lent, turning for a short book's state, tables, mask, answer, limits, terms, and the definitions of format and observed.
 pub mod walk; // the records of a book, one after the other
 

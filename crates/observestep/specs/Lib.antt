@@ -1,2 +1,2 @@
--- Names for what the functions of notes compute on the way to the definitions of observed.
+-- Names for what the functions of observestep compute on the way to the definitions of observed.
 pub mod Notes

@@ -1,5 +1,5 @@
 // What the learner has observed, before any record and after a step: seven sets of bound facts (lifted atoms) for each move, and the first step
-// that row 11 names. Uses atoms for the bound facts of a move, marks for those of a step, with row 8 of the list behind it, mask for the sets, terms, filed,
+// that row 11 names. Uses atoms for the bound facts of a move, stepmasks for those of a step, with row 8 of the list behind it, mask for the sets, terms, filed,
 // answer, limits, and where the sets stand from observed; the contracts cite observed, format and states, and specs/Notes.antt for the parts.
 ghost use mathlib.Core.Path.{_≡_};
 ghost use Prim.Native.Nat.{ℕ, _+_, _≤_};
@@ -96,7 +96,7 @@ pub struct Noted {
 }
 
 // What is observed of a full book after the step at `at`, before which the state at `pre` stands, whose facts suit by the record's table; the table `t`
-// is lent for the step (`marks`).
+// is lent for the step (`stepmasks`).
 pub fn observe(
     s: &[u8],
     table: &[u32; 512],

@@ -1,2 +1,2 @@
--- Names for what the functions of marks compute on the way to the definitions of observed.
+-- Names for what the functions of stepmasks compute on the way to the definitions of observed.
 pub mod Marks
