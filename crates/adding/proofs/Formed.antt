@@ -1,6 +1,6 @@
 -- The new book as bytes written one after the other: what `form` leaves, and how long it is.
 use Prim.Native.Nat.{ℕ, _+_, _≤_}
-use mathlib.Core.Path.{_≡_, refl, sym, ap, _∙_}
+use mathlib.Core.Path.{_≡_, sym, ap, _∙_}
 use mathlib.Core.List.{List, _++_, append-assoc}
 use native.Mathlib.Omega.{arith}
 use lib.ListN.{length, take, drop, length-append, length-drop}
@@ -11,10 +11,7 @@ use Rattle.limits.specs.Limits.{headerSize}
 use Rattle.jobs.specs.Add.{added}
 use Rattle.output.specs.Written.{written, twoBytes}
 use Rattle.output.proofs.Written.{front-written, behind-written, part-written, length-written}
-
-pub length-two : (n : ℕ) → length (twoBytes n) ≡ 2
-unfolding twoBytes
-length-two n = refl
+use Rattle.output.proofs.Two.{length-two}
 
 -- two numbers of a header renewed
 module _ (l K M : List ℕ) (k : length K ≡ 2) (m : length M ≡ 2) (h : headerSize ≤ length l) where

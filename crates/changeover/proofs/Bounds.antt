@@ -15,20 +15,18 @@ use Rattle.answer.specs.Answer.{isRefused, number, unpositioned, thenAt}
 use Rattle.answer.proofs.Laws.{passed, parted, bind-assoc}
 use Rattle.answer.proofs.Positions.{then-answer}
 use Rattle.terms.specs.Sections.{sectionsOf}
-use Rattle.terms.specs.declared.Fact.{Fact}
-use Rattle.terms.specs.Schema.{Schema, TypedObjects}
-use Rattle.limits.specs.Limits.{maxLength, maxMoves, maxSteps, maxStarts, maxEntries, stepSize, entrySize}
+use Rattle.terms.specs.Schema.{Schema}
+use Rattle.limits.specs.Limits.{maxLength, maxMoves, maxSteps, maxStarts, maxEntries, entrySize}
 use Rattle.format.specs.LookOver.{lookOver}
-use Rattle.format.specs.Form.{Form, stateAfter}
-use Rattle.format.specs.Lists.{listEnd}
+use Rattle.format.specs.Form.{Form}
 use Rattle.format.specs.Records.{lengthIn, steps}
-use Rattle.format.specs.Decode.{RecordedStep, recordedStepsAt, stepsOfRecord, recordedStep}
+use Rattle.format.specs.Decode.{stepsOfRecord}
 use Rattle.format.specs.Order.{stepCount, goalCount, goal, goalFrom, orderForm}
 use Rattle.answer.proofs.Bounds.{Bounded, bounded-good, bounded-then, bounded-row, bounded-wider}
-use Rattle.format.proofs.Records.{head-limits, step-reach, steps-parted, record-good}
+use Rattle.format.proofs.Records.{head-limits, record-good}
 use Rattle.format.proofs.LookOver.{look-over-good}
 use Rattle.lookover.proofs.Laws.{look-over-bounded}
-use Rattle.quantify.specs.Quantify.{Mem, here, there, first, least}
+use Rattle.quantify.specs.Quantify.{first, least}
 use Rattle.model.specs.Domain.{State, GroundAction, Transition, GoalLiteral}
 use Rattle.model.specs.Model.{Run, stopped, ended}
 use Rattle.model.specs.Judge.{wrong}
@@ -43,19 +41,11 @@ use Rattle.jobs.specs.Check.{planRun, orderRun, goalAnswer, runAnswer, startAns
 use Rattle.jobs.proofs.FirstRefused.{first-refused-bounded}
 use Rattle.jobs.proofs.Starts.{failing-all, failing-some, failing-position}
 use Rattle.wellformed.proofs.Headers.{moves-few}
-use Rattle.wellformed.proofs.Records.{recorded-somewhere}
+use Rattle.wellformed.proofs.Records.{recorded-somewhere, steps-before}
 use Rattle.wellformed.proofs.Orders.{length-plan, length-start-states}
 use Rattle.format.proofs.OrderForm.{order-good, order-bounded}
 use Rattle.adding.proofs.Bounds.{add-bounded}
 use Rattle.changeover.proofs.Laws.{Fits, fits-by}
-
--- ---- row 11: the place of a step lies within the book
-steps-placed : (form : Form) (sch : Schema) (ob : TypedObjects) (s : List ℕ) (end : ℕ) (n : ℕ) (before : List Fact) (at last : ℕ) {f : RecordedStep}
-    → steps form sch ob s end n before at ≡ Good last → Mem f (recordedStepsAt form s n before at) → f .place ≤ end
-unfolding recordedStepsAt recordedStep
-steps-placed form sch ob s end (suc n) before at last e here = omega (arith, step-reach form sch ob s end before at _ (steps-parted form sch ob s end n before at last e .0))
-steps-placed form sch ob s end (suc n) before at last e (there m) =
-    steps-placed form sch ob s end n (stateAfter form s before (at + stepSize)) (listEnd s (at + stepSize)) last (steps-parted form sch ob s end n before at last e .1) m
 
 -- ---- row 12: the move is one of the book's
 conflicting-bounded : (sch : Schema) (ts : List Transition) → sch .moves ≤ maxMoves → Bounded maxLength (conflictingMove sch ts)
@@ -78,7 +68,7 @@ learnable-bounded form s =
     (λ f m.
     let (from, next, good, k) = recorded-somewhere form s total e m in
     let r = record-good form (sectionsOf s) s from next good in
-    omega (arith, steps-placed form _ _ s (from + lengthIn s from) _ _ _ _ (r .steps) k, head-limits s from (r .head) .2, g .sections .size .most)))
+    omega (arith, steps-before form _ _ s (from + lengthIn s from) _ _ _ (r .last) (r .steps) k, head-limits s from (r .head) .2, g .sections .size .most)))
     (λ n i j. conflicting-bounded (schemaOf s) (transitionsOf form s) (moves-few form s total e)))
     (λ n i j. bounded-good maxLength total l))
 

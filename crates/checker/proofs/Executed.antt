@@ -35,7 +35,7 @@ use Rattle.wellformed.proofs.Orders.{order-right, start-under}
 use Rattle.wellformed.specs.Right.{orderTyped, RightOrder}
 use Rattle.wellformed.proofs.Learnable.{inconsistentIn, learnable-inconsistent}
 use Rattle.statemask.specs.Statemask.{rulesIn, execute, startMask}
-use Rattle.statemask.specs.Executing.{Under, Ruled, Executing, executedAnswer}
+use Rattle.statemask.specs.Executing.{AllInMask, Ruled, Executing, executedAnswer}
 use Rattle.statemask.proofs.Plan.{execute-start, execute-answer, agrees-sheet}
 use Rattle.format.proofs.OrderForm.{order-good}
 use Rattle.execution.specs.Execution.{Executable}
@@ -107,7 +107,7 @@ module _ (form : Form) (s : List ℕ) (n m : ℕ) (good : lookOver form s ≡ Go
               };
         }
 
-    module _ (start : List Fact) (under : Under (holding start)) where
+    module _ (start : List Fact) (under : AllInMask (holding start)) where
       -- rows 19 and 20, and the end sheet where no step stops
       plan-answer : (count : ℕ) (goals : List GoalEntry)
           → runAnswer count (map goalEntry goals) (planRun form s (holding start) (map (groundAction (schemaOf s)) steps)) ≡ executedAnswer count goals (execute (schemaOf s) (rulesIn (ruleSheet form s)) steps (startMask start) 1)
@@ -124,7 +124,7 @@ module _ (form : Form) (s : List ℕ) (n m : ℕ) (good : lookOver form s ≡ Go
     right : RightOrder (schemaOf s) o
     right = order-right (schemaOf s) (right-schema form s n good .falling) o k order
 
-    start-in-mask : (start : List Fact) → Mem start (starts o) → Under (holding start)
+    start-in-mask : (start : List Fact) → Mem start (starts o) → AllInMask (holding start)
     unfolding startStates
     start-in-mask start i f h =
         let size = relations-few form s n good in

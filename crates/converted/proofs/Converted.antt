@@ -26,12 +26,12 @@ use Rattle.jobs.specs.Planning.{schemaOf, stepsOfBook}
 use Rattle.jobs.specs.Convert.{bytesAt, allRecordsBytes, converted}
 use Rattle.converted.specs.Converted.{endingAt, unplaced, ConvertedKeepsSections, ConvertedIsGood, ConvertedSaysTheSame, ThereAndBack}
 use Rattle.converted.proofs.Stands.{Stands, stands-at, stands-both, stands-whole, length-part, part-stands}
-use Rattle.converted.proofs.Rendered.{length-two}
 use Rattle.converted.proofs.Rendering.{recordsIn, all-converted}
 use Rattle.converted.proofs.Records.{RowAgain, records-rendered}
 use Rattle.converted.proofs.Restored.{two-own, records-own}
 use Rattle.converted.proofs.Header.{length-converted, records-stand, byte-kept, rest-kept}
 use Rattle.converted.proofs.Front.{behind, within, header, sections-converted, kinds-kept, schema-kept, sections-kept}
+use Rattle.output.proofs.Two.{length-two}
 
 module _ (to : Form) (s : List ℕ) (n : ℕ) (good : lookOver (not to) s ≡ Good n) where
   was : LookedOver (not to) s n

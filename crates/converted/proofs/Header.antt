@@ -17,7 +17,8 @@ use Rattle.format.proofs.Front.{header-kept}
 use Rattle.jobs.specs.Convert.{bytesAt, allRecordsBytes, converted}
 use Rattle.converted.specs.Converted.{endingAt}
 use Rattle.converted.proofs.Stands.{Stands, stands-at, stands-own, stands-left, stands-right, length-part, part-read}
-use Rattle.converted.proofs.Rendered.{length-two, two-read}
+use Rattle.converted.proofs.Rendered.{two-read}
+use Rattle.output.proofs.Two.{length-two}
 
 -- where the records begin behind the header, and within the book
 module _ (to : Form) (s : List ℕ) (behind : headerSize ≤ sectionsOf s .records .at) (within : sectionsOf s .records .at ≤ length s) where

@@ -32,10 +32,11 @@ use Rattle.jobs.specs.Convert.{bytesAt, listBytes, stepsBytes}
 use Rattle.factsets.specs.Right.{RightState}
 use Rattle.factsets.proofs.States.{state-right}
 use Rattle.converted.proofs.Stands.{Stands, stands-at, stands-first, stands-rest, stands-left, stands-right, length-part, part-read, part-same}
-use Rattle.converted.proofs.Rendered.{length-two, two-read, list-read, list-end-read}
+use Rattle.converted.proofs.Rendered.{two-read, list-read, list-end-read}
 use Rattle.converted.proofs.Lists.{list-in}
 use Rattle.converted.proofs.Steps.{bytes-same, steps-rendered}
 use Rattle.converted.proofs.Rendering.{bodyIn, recordIn, length-recordIn}
+use Rattle.output.proofs.Two.{length-two}
 
 -- a list does not end before it begins
 pub low-end : (s : List ℕ) (at : ℕ) → at ≤ listEnd s at

@@ -16,14 +16,11 @@ use Rattle.format.specs.Form.{Form}
 use Rattle.format.specs.Decode.{recordedStep}
 use Rattle.jobs.specs.Convert.{factsBytes, listBytes, stepBytes, filedStepBytes}
 use Rattle.converted.proofs.Stands.{Stands, stands-first, stands-rest, stands-left, stands-right}
+use Rattle.output.proofs.Two.{length-two}
 
 -- ---- a two-byte number
 
--- it has two bytes, and is read if they hold it
-pub length-two : (n : ℕ) → length (twoBytes n) ≡ countSize
-unfolding twoBytes
-length-two n = refl
-
+-- it is read if its two bytes hold it
 pub two-read : (n : ℕ) (t : List ℕ) (at : ℕ) → n < 65536 → Stands (twoBytes n) t at → two t at ≡ n
 unfolding twoBytes two
 two-read n t at l h =

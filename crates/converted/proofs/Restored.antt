@@ -28,11 +28,12 @@ use Rattle.jobs.proofs.Bytes.{filed-step-again}
 use Rattle.factsets.specs.Right.{RightState}
 use Rattle.factsets.proofs.States.{length-facts, list-increasing, next-right, state-right}
 use Rattle.converted.proofs.Stands.{Stands, stands-at, stands-none, stands-more, stands-both, length-part, part-stands}
-use Rattle.converted.proofs.Rendered.{length-two, length-listBytes, length-filedStepBytes}
+use Rattle.converted.proofs.Rendered.{length-listBytes, length-filedStepBytes}
 use Rattle.converted.proofs.Listed.{listed-again}
 use Rattle.converted.proofs.Rendering.{bodyIn, recordIn, recordsIn, length-recordIn}
 use Rattle.converted.proofs.Record.{low-end}
 use Rattle.answer.proofs.Walks.{walk-parted}
+use Rattle.output.proofs.Two.{length-two}
 
 -- ---- a list of facts, and a step
 

@@ -24,7 +24,7 @@ use Rattle.quantify.specs.Quantify.{Mem, here, first}
 use Rattle.model.specs.Domain.{State, GroundAction, GoalLiteral}
 use Rattle.model.specs.Judge.{Verdict, impossible, passes}
 use Rattle.model.specs.Check.{judgedRun, checked}
-use Rattle.model.specs.Formed.{Grounded}
+use Rattle.model.specs.Formed.{Grounded, Under}
 use Rattle.model.proofs.Judge.{unique}
 use Rattle.model.proofs.Impossible.{learned-valid}
 use Rattle.model.specs.Exact.{Exact}
@@ -38,7 +38,7 @@ use Rattle.format.proofs.OrderForm.{order-good, order-met}
 use Rattle.wellformed.proofs.Headers.{right-schema, relations-few}
 use Rattle.wellformed.proofs.Formed.{formed}
 use Rattle.wellformed.proofs.Orders.{grounded, plan-under, length-start-states, start-under}
-use Rattle.wellformed.proofs.Ends.{Under, run-under}
+use Rattle.wellformed.proofs.Ends.{run-under}
 use Rattle.wellformed.proofs.Learnable.{inconsistentIn, learnable-clean, learnable-inconsistent}
 use Rattle.demand.proofs.Failing.{comes, pass-comes, from-failing, failing-by}
 use Rattle.demand.specs.Demand3.{NoneFits, Impossible, Verdicts, none, more, answerBy, Shows, Demand3}

@@ -1,6 +1,6 @@
 -- Groups and columns of four parameters: what the table has for a set of them, and an unused place.
-use Prim.Native.Nat.{ℕ, zero, suc, _+_, _-_, _*_, _%_, _^_, _≤_, _<_}
-use native.Mathlib.Nat.{zero-add, add-zero, one-mul}
+use Prim.Native.Nat.{ℕ, zero, suc, _+_, _-_, _%_, _^_, _≤_, _<_}
+use native.Mathlib.Nat.{zero-add, add-zero}
 use native.Mathlib.Decide.{decLt}
 use native.Mathlib.Omega.{arith}
 use mathlib.Core.Path.{_≡_, refl, sym, ap, _∙_}
@@ -9,7 +9,7 @@ use mathlib.Core.List.{List, [], _∷_}
 use lib.Bits.{bitOr}
 use lib.Dec.{eqb, leb, lit<}
 use lib.ListN.{getD, List·getD-eq-default}
-use lib.Pow.{shl-exact, pow-lt}
+use lib.Pow.{pow-lt}
 use borrow.Author.Tests.{le-leb, lt-leb, eq-eqb, eqb-true}
 use Rattle.truth.specs.Bools.{clash, is-false, bool-eq, and-in, and-out}
 use Rattle.mask.specs.Bits.{bitOf}
@@ -34,9 +34,6 @@ pub unused-small : Indices unused
 unused-small q = omega (arith, unused-at q)
 
 -- ---- the columns of a set of parameters
-pub one-shl : (k : ℕ) → k < 16 → 1 * 2 ^ k % 65536 ≡ 2 ^ k
-one-shl k h = shl-exact {a = 1} 1 k 16 (lit< tt) (omega arith) ∙ one-mul (2 ^ k)
-
 module _ (ys : List ℕ) where
   pub columns-bit : (k y : ℕ) → y < 16 → bitOf (columnSet ys k) y ≡ below 4 (λ q. bitOf k q && eqb (getD ys q 0) y)
   unfolding columnSet

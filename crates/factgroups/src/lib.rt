@@ -157,7 +157,10 @@ fn in_columns(group: u16, ys: [usize; 4]) -> u16
     requires { ⌜ Indices ys ⌝ }
     ensures { λ r. ⌜ (r ≡ inColumns group ys) × (r < 16) ⌝ }
 {
-    bit_at(group, ys[0]) + bit_at(group, ys[1]) * 2 + bit_at(group, ys[2]) * 4 + bit_at(group, ys[3]) * 8
+    bit_at(group, ys[0])
+        + bit_at(group, ys[1]) * 2
+        + bit_at(group, ys[2]) * 4
+        + bit_at(group, ys[3]) * 8
 }
 
 // Which of a relation's bound facts hold in a state, by the columns of the parameters in the second place: from each of four groups four bits. In most

@@ -12,6 +12,10 @@ use Rattle.limits.specs.Limits.{factSize, nearCeiling}
 use Rattle.format.specs.Lists.{factsAt, listAt, listEnd}
 use Rattle.factlist.specs.declared.ListCursor.{ListCursor}
 use Rattle.factlist.specs.Rest.{rest, FactsWithin, next, Comes}
+use lib.Dec.{ltb}
+use borrow.Author.Tests.{ltb-true}
+use mathlib.Core.Bool.{true, _&&_}
+use Rattle.truth.specs.Bools.{and-out}
 
 module _ (s : List ℕ) where
   pub rest-none : (c : ListCursor) → c .left ≡ 0 → rest s c ≡ []
@@ -36,3 +40,7 @@ module _ (s : List ℕ) where
         ahead = record { within = omega (arith, w .within); near = omega (arith, w .near) };
         less = omega arith;
       }
+
+-- a loop over two lists goes on while both have facts to come
+pub both-left : (m n : ℕ) → (ltb 0 m && ltb 0 n) ≡ true → (0 < m) × (0 < n)
+both-left m n e = let (p, q) = and-out (ltb 0 m) (ltb 0 n) e in (ltb-true 0 m p, ltb-true 0 n q)

@@ -2,7 +2,7 @@
 use Prim.Native.Nat.{ℕ, zero, suc, _+_, _≤_}
 use mathlib.Core.Path.{_≡_, refl, ap}
 use mathlib.Core.Bool.{true, false, cond}
-use mathlib.Core.List.{List}
+use mathlib.Core.List.{List, []}
 use native.Mathlib.Omega.{arith}
 use lib.ListN.{length}
 use Rattle.answer.specs.declared.Answer.the-variants.{Good}
@@ -20,7 +20,7 @@ use Rattle.format.proofs.Chains.{chain-parted}
 use Rattle.format.proofs.States.{fact-good, facts-chain, list-good, next-good}
 use Rattle.quantify.specs.Quantify.{Mem, here, there}
 use Rattle.factsets.specs.Right.{Increasing, RightState}
-use Rattle.factsets.proofs.Toggled.{toggled-right}
+use Rattle.factsets.proofs.Toggled.{toggled-right, toggled-none}
 
 pub length-facts : (s : List ℕ) (n at : ℕ) → length (factsAt s n at) ≡ n
 unfolding factsAt
@@ -86,3 +86,12 @@ next-right form sch ob s end before at next right good =
         → length (cond form (toggled before (listAt s at)) (listAt s at)) ≤ maxFacts → RightState sch ob (cond form (toggled before (listAt s at)) (listAt s at))
     go false suits order few = record { suits = suits; increasing = order; few = few }
     go true suits order few = toggled-right sch ob before (listAt s at) right suits order few
+
+-- After no facts, either form leaves the list.
+pub after-none : (form : Form) (s : List ℕ) (at : ℕ) → Increasing noFact (listAt s at) → stateAfter form s [] at ≡ listAt s at
+unfolding stateAfter
+after-none form s at order = go form
+  where
+    go : (form : Form) → cond form (toggled [] (listAt s at)) (listAt s at) ≡ listAt s at
+    go true = toggled-none noFact (listAt s at) order
+    go false = refl

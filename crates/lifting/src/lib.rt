@@ -10,8 +10,8 @@ use terms::Fact;
 use terms::Object;
 use terms::Param;
 
-// What the table has for an object of no parameter: the two places of a bound fact add less. A relation has so many bound facts, one
-// for each pair of parameters.
+// What the table has for an object of no parameter. A relation has 16 bound facts, one for each pair of parameters, numbered from 0 by the sum of what
+// the table has for the two objects; a sum with this value is 16 or more, so it is no bound fact's.
 pub const UNBOUND: usize = limits::ATOMS_PER_RELATION;
 
 // ---- the table

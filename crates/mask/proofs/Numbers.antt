@@ -3,15 +3,19 @@
 use mathlib.Core.Bool.{Bool, true, false, not, _&&_, _||_, Bool·beq}
 use mathlib.Core.Path.{_≡_, refl, sym, ap, ap₂, _∙_}
 use Prim.Native.Nat.{ℕ, zero, suc, _+_, _*_, _-_, _/_, _%_, _^_, _<_}
-use native.Mathlib.Nat.{pow-suc, add-zero, zero-add, add-suc, add-assoc, div-one, zero-div}
+use native.Mathlib.Nat.{one-mul, pow-suc, add-zero, zero-add, add-suc, add-assoc, div-one, zero-div}
 use native.Mathlib.Numerals.{one-add}
 use native.Mathlib.Omega.{arith}
 use lib.Bits.{bitAnd, bitOr, bitXor, and-shr, or-shr, xor-shr, and-mod, or-mod, xor-mod, and-le-l, or-lt, xor-lt}
 use lib.Count.{ones, ones-step}
 use lib.Dec.{eqb, eqb·zero-suc, eqb·suc-zero, eqb·suc-suc, lit<}
-use lib.Pow.{shr-shr}
+use lib.Pow.{shr-shr, shl-exact}
 use Rattle.mask.specs.Bits.{bitOf, without}
 use Rattle.mask.specs.Sets.{digit, countBelow, number}
+
+-- a bit that is shifted within the width loses nothing
+pub one-shl : (width k : ℕ) → k < width → 1 * 2 ^ k % 2 ^ width ≡ 2 ^ k
+one-shl width k h = shl-exact {a = 1} 1 k width (lit< tt) (omega arith) ∙ one-mul (2 ^ k)
 
 -- what holds of the four pairs of digits
 on-digits : (P : ℕ → ℕ → Type 0) → P 0 0 → P 0 1 → P 1 0 → P 1 1 → (x y : ℕ) → x < 2 → y < 2 → P x y

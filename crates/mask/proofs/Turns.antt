@@ -3,24 +3,22 @@
 use mathlib.Core.List.{List, [], _∷_, _++_, append-nil}
 use mathlib.Core.Path.{_≡_, refl, sym, ap, ap₂, _∙_}
 use Prim.Native.Nat.{ℕ, suc, _+_, _-_, _*_, _^_, _%_, _<_, _≤_}
-use native.Mathlib.Nat.{add-zero, one-mul}
+use native.Mathlib.Nat.{add-zero}
 use native.Mathlib.Numerals.{add-one}
 use native.Mathlib.Omega.{arith}
 use lib.Bits.{bitAnd}
 use lib.Count.{ones}
-use lib.Dec.{lit<}
 use lib.ListN.{length, getD, take, drop, set, length-set, drop-of-length-le}
-use lib.Pow.{shl-exact}
 use lib.Seq.{append-snoc, drop-cons, drop-drop, drop-set-lt, getD-drop, take-all, take-suc-set}
 use Rattle.mask.specs.Bits.{without}
 use Rattle.mask.specs.Sets.{bytewise, difference, cardinality}
 use Rattle.mask.proofs.Bytes.{byte-bytewise}
 use Rattle.mask.proofs.Laws.{without-none}
-use Rattle.mask.proofs.Numbers.{and-not}
+use Rattle.mask.proofs.Numbers.{one-shl, and-not}
 
 -- the bit of n as a shift computes it
 pub shl-bit : (n : ℕ) → 1 * 2 ^ (n % 8) % 256 ≡ 2 ^ (n % 8)
-shl-bit n = shl-exact {a = 1} 1 (n % 8) 8 (lit< tt) (omega arith) ∙ one-mul (2 ^ (n % 8))
+shl-bit n = one-shl 8 (n % 8) (omega arith)
 
 -- the first i bytes of a as they are, and the rest with the rest of b
 pub rest : (ℕ → ℕ → ℕ) → List ℕ → List ℕ → ℕ → List ℕ

@@ -1,25 +1,20 @@
 -- Laws of sets of objects and of tables of them: an object put into a set, and what stands at an index of a table.
-use Prim.Native.Nat.{ℕ, _*_, _/_, _^_, _%_, _<_, _≤_}
+use Prim.Native.Nat.{ℕ, _/_, _^_, _%_, _<_, _≤_}
 use mathlib.Core.Path.{_≡_, refl, sym, ap, ap₂, _∙_}
 use mathlib.Core.Bool.{Bool, true, false, _&&_, _||_, and-false}
 use mathlib.Core.List.{List}
-use native.Mathlib.Nat.{one-mul}
 use native.Mathlib.Decide.{ℕ-discrete}
 use native.Mathlib.Omega.{arith}
 use borrow.Author.Tests.{ltb-true, ltb-false, ne-eqb}
 use lib.Bits.{bitAnd, bitOr}
-use lib.Dec.{lit<, eqb, ltb}
+use lib.Dec.{eqb, ltb}
 use lib.ListN.{length, length-set}
-use lib.Pow.{shl-exact}
 use lib.Seq.{getD-set-same, getD-set-other}
 use Rattle.mask.specs.Bits.{bitOf}
 use Rattle.mask.specs.Sets.{empty}
 use Rattle.mask.proofs.Numbers.{bit-and, bit-or, bit-zero, bit-power, bit-none}
 use Rattle.mask.proofs.Bytes.{zeros}
 use Rattle.objectset.specs.Sets.{member, entry, put, stored}
-
-pub one-shl : (k : ℕ) → k < 32 → 1 * 2 ^ k % 4294967296 ≡ 2 ^ k
-one-shl k h = shl-exact {a = 1} 1 k 32 (lit< tt) (omega arith) ∙ one-mul (2 ^ k)
 
 -- ---- sets
 pub member-none : (x : ℕ) → member 0 x ≡ false

@@ -141,7 +141,8 @@ unfoldable pub observedAfterAll : Form → List (List ℕ) → ℕ → Observed 
 observedAfterAll form [] at h = h
 observedAfterAll form (r ∷ rs) at h = observedAfterAll form rs (at + length r) (observedAfter form r at h)
 
--- number n in set k of move a before any record: what holds at every one of no steps is every bound fact
+-- number n in set k of move a before any record. No step has been seen that lacks a bound fact, so the two sets of what held at every step begin with all
+-- bound facts; the sets of what held, was added or was removed at some step begin empty
 unfoldable pub atFirst : Schema → ℕ → ℕ → ℕ → Bool
 atFirst sch a k n = isAtom sch a n && (eqb k alwaysBefore || eqb k alwaysAfter || eqb k bound)
 

@@ -51,8 +51,8 @@ pub fn ended(value: usize, named: usize) -> Walked
     }
 }
 
-// The whole list behind the step at an offset, by what stands for the facts before it: in a full book the list at `pre`, in a short one the state, in
-// which its own turns.
+// The whole list behind the step at an offset, observed. The facts before the step are, in a full book, the list at `pre`; in a short book they are the
+// mask `state`, in which the facts of the list turn.
 fn observe_list(
     book: &[u8],
     c: Scope,

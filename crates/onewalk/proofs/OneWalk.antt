@@ -14,19 +14,16 @@ use Rattle.answer.specs.Answer.{_>>=_}
 use Rattle.answer.proofs.Laws.{parted}
 use Rattle.input.specs.Bytes.{byteAt, two}
 use Rattle.output.specs.Written.{twoBytes}
-use Rattle.limits.specs.Limits.{maxLength, stepSize, observedSize}
+use Rattle.limits.specs.Limits.{maxLength, observedSize}
 use Rattle.mask.specs.Bits.{Bytes}
-use Rattle.terms.specs.declared.Fact.{Fact}
 use Rattle.terms.specs.Sections.{sectionsOf}
-use Rattle.terms.specs.Schema.{Schema, TypedObjects}
-use Rattle.format.specs.Form.{Form, stateAfter}
+use Rattle.format.specs.Form.{Form}
 use Rattle.format.specs.Header.{sections}
-use Rattle.format.specs.Lists.{listEnd}
 use Rattle.format.specs.Records.{steps}
 use Rattle.format.specs.LookOver.{lookOver, lookOverBy}
-use Rattle.format.specs.Decode.{RecordedStep, recordedStep, recordedStepsAt, stepsOfRecord, stepsOfRecords, recordedSteps}
+use Rattle.format.specs.Decode.{RecordedStep, stepsOfRecord, stepsOfRecords, recordedSteps}
 use Rattle.format.specs.Parts.{recordPart, sectionsPart}
-use Rattle.format.proofs.Records.{head-limits, step-reach, steps-parted, record-good}
+use Rattle.format.proofs.Records.{head-limits, record-good}
 use Rattle.format.proofs.LookOver.{LookedOver, look-over-good}
 use Rattle.format.proofs.Parts.{parts-joined}
 use Rattle.quantify.specs.Quantify.{Mem, here, there}
@@ -40,7 +37,7 @@ use Rattle.observed.specs.Taught.{Taught}
 use Rattle.observed.proofs.Observe.{seen-observed}
 use Rattle.observed.proofs.Records.{held-none, held-steps, held-first, held-next}
 use Rattle.wellformed.proofs.Headers.{moves-few}
-use Rattle.wellformed.proofs.Records.{recorded-somewhere}
+use Rattle.wellformed.proofs.Records.{recorded-somewhere, steps-before}
 use Rattle.onewalk.specs.OneWalk.{heldBytes, Small, heldRows, heldSheet, recordOffset, LearnsInOneWalk, SameRecordSameHeld}
 use Rattle.onewalk.proofs.ObservedRight.{recorded-faithful, observed-right}
 use Rattle.onewalk.proofs.Sections.{moves-alone, nothing-alone}
@@ -94,16 +91,6 @@ module _ (most : ℕ) where
   unfolding observeAll observe observeBy
   named-within [] places h l = l
   named-within (f ∷ fs) places h l = named-within fs (λ g m. places g (there m)) (observe f h) (named-one _ _ _ (places f here) l)
-
--- a step stands within its record
-steps-before : (form : Form) (sch : Schema) (ob : TypedObjects) (s : List ℕ) (end n : ℕ) (before : List Fact) (at last : ℕ) → steps form sch ob s end n before at ≡ Good last
-    → {f : RecordedStep} → Mem f (recordedStepsAt form s n before at) → f .place ≤ end
-unfolding recordedStepsAt recordedStep
-steps-before form sch ob s end (suc n) before at last e here =
-    let reach = step-reach form sch ob s end before at _ (steps-parted form sch ob s end n before at last e .0) in
-    omega arith
-steps-before form sch ob s end (suc n) before at last e (there m) =
-    steps-before form sch ob s end n (stateAfter form s before (at + stepSize)) (listEnd s (at + stepSize)) last (steps-parted form sch ob s end n before at last e .1) m
 
 -- ---- a book of good form
 module _ (form : Form) (s : List ℕ) (n : ℕ) (good : lookOver form s ≡ Good n) where

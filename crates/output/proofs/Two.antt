@@ -1,6 +1,6 @@
 -- A two-byte number written: as two stores, the other bytes, and the number read.
 use Prim.Native.Nat.{ℕ, _+_, _/_, _%_, _≤_, _<_}
-use mathlib.Core.Path.{_≡_, _∙_}
+use mathlib.Core.Path.{_≡_, refl, _∙_}
 use mathlib.Core.List.{List, [], _∷_}
 use native.Mathlib.Numerals.{add-one}
 use native.Mathlib.Omega.{arith}
@@ -8,6 +8,11 @@ use lib.ListN.{length, set, getD, length-set}
 use lib.Seq.{sets-eq, getD-set-same, getD-set-other}
 use Rattle.input.specs.Bytes.{byteAt, two}
 use Rattle.output.specs.Written.{written, twoBytes}
+
+-- it has two bytes
+pub length-two : (n : ℕ) → length (twoBytes n) ≡ 2
+unfolding twoBytes
+length-two n = refl
 
 -- two stores are a two-byte number written
 pub two-written : (d : List ℕ) (at n : ℕ) → at + 2 ≤ length d → set (set d at (n / 256 % 256)) (at + 1) (n % 256) ≡ written d at (twoBytes n)

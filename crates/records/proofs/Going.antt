@@ -20,10 +20,10 @@ use Rattle.format.specs.States.{list, state}
 use Rattle.format.specs.Records.{steps}
 use Rattle.format.proofs.States.{list-within, next-in}
 use Rattle.factsets.specs.Right.{RightState}
-use Rattle.factsets.proofs.States.{state-right, next-right, list-suits, list-increasing, list-few}
+use Rattle.factsets.proofs.States.{state-right, next-right, list-suits, list-increasing, list-few, after-none}
 use Rattle.factsets.proofs.Sorted.{mem-none}
 use Rattle.turning.specs.Turning.{Turnable, Carried, Carries}
-use Rattle.turning.proofs.Carrying.{carries-none, carries-count, carried-on, carried-many, after-none, list-turnable}
+use Rattle.turning.proofs.Carrying.{carries-none, carries-count, carried-on, carried-many, list-turnable}
 use Rattle.records.specs.declared.Scope.{Scope}
 use Rattle.records.specs.Readable.{schemaIn, typedIn, Readable, stepListed}
 use Rattle.records.specs.Rows.{stepAfter}

@@ -1,14 +1,14 @@
 -- Two lists of facts walked together: each way on of `merge_next`, and what its loop leaves.
-use Prim.Native.Nat.{ℕ, zero, suc, _+_, _-_, _<_, _≤_}
+use Prim.Native.Nat.{ℕ, zero, suc, _+_, _-_, _≤_}
 use native.Mathlib.Omega.{arith}
 use mathlib.Core.Path.{_≡_, refl, sym, ap, ap₂, _∙_}
 use mathlib.Core.Logic.{_⊎_, inl, inr}
 use mathlib.Core.Bool.{true, false, _&&_}
 use mathlib.Core.List.{List, [], _∷_, _++_, append-nil}
 use lib.Dec.{ltb}
-use borrow.Author.Tests.{ltb-true, lt-ltb}
+use borrow.Author.Tests.{lt-ltb}
 use Rattle.terms.specs.declared.Fact.{Fact}
-use Rattle.truth.specs.Bools.{clash, and-in, and-out}
+use Rattle.truth.specs.Bools.{clash, and-in}
 use Rattle.terms.specs.Facts.{precedes, noFact}
 use Rattle.limits.specs.Limits.{nearCeiling}
 use Rattle.format.specs.Lists.{listAt, listEnd}
@@ -89,9 +89,6 @@ module _ (state s : List ℕ) (v : Walk) (m : Merging state s v) (f g : Fact) (a
       }
 
 -- ---- all turns
-
-pub both-left : (a b : ℕ) → (ltb 0 a && ltb 0 b) ≡ true → (0 < a) × (0 < b)
-both-left a b e = let (p, q) = and-out (ltb 0 a) (ltb 0 b) e in (ltb-true 0 a p, ltb-true 0 b q)
 
 not-both : (a b : ℕ) → (ltb 0 a && ltb 0 b) ≡ false → (a ≡ 0) ⊎ (b ≡ 0)
 not-both zero b e = inl refl

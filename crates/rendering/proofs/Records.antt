@@ -2,8 +2,8 @@
 use Prim.Native.Nat.{ℕ, zero, suc, _+_, _-_, _≤_, _<_}
 use native.Mathlib.Numerals.{sub-one}
 use native.Mathlib.Omega.{arith}
-use mathlib.Core.Path.{_≡_, refl, _∙_}
-use mathlib.Core.Bool.{true, false, not, Bool·not-not}
+use mathlib.Core.Path.{_≡_, refl, _∙_, ap}
+use mathlib.Core.Bool.{not, Bool·not-not}
 use mathlib.Core.List.{List, [], _∷_, _++_, append-assoc}
 use lib.ListN.{length, take, drop}
 use Rattle.answer.proofs.Walks.{walk-parted}
@@ -24,8 +24,7 @@ use Rattle.format.proofs.States.{list-ends}
 use Rattle.format.proofs.Records.{record-good, record-within, head-limits}
 use Rattle.jobs.specs.Convert.{listBytes, stepsBytes, bytesAt, bodyBytes, recordBytes, recordsBytes}
 use Rattle.jobs.proofs.Bytes.{part-cons, part-three}
-use Rattle.factsets.specs.Right.{Increasing}
-use Rattle.factsets.proofs.States.{list-increasing, list-few}
+use Rattle.factsets.proofs.States.{list-increasing, list-few, after-none}
 use Rattle.factsets.proofs.Toggled.{toggled-none}
 use Rattle.appending.specs.Appended.{pastEnd, Appended, AllBut}
 use Rattle.rendering.specs.Held.{Holds, AppendedHeld}
@@ -35,15 +34,9 @@ use Rattle.appending.proofs.Appended.{append-then, append-stays, append-same, a
 
 -- ---- from the first state on
 
--- after no facts, either form leaves the list
-after-none : (form : Form) (s : List ℕ) (at : ℕ) → Increasing noFact (listAt s at) → (before : List Fact) → before ≡ [] → stateAfter form s before at ≡ listAt s at
-unfolding stateAfter
-after-none true s at h before e = rw e (toggled-none noFact (listAt s at) h)
-after-none false s at h before e = refl
-
 module _ (form : Form) (s : List ℕ) (n at : ℕ) (good : GoodTrajectory form s n at) (before : List Fact) (none : before ≡ []) where
   pub first-after : stateAfter form s before at ≡ listAt s at
-  first-after = after-none form s at (good .list .order) before none
+  first-after = ap (λ (fs : List Fact). stateAfter form s fs at) none ∙ after-none form s at (good .list .order)
 
   pub first-good : GoodNext form s before at
   first-good = record { list = good .list; few = rw first-after (good .few) }

@@ -194,7 +194,7 @@ fn append_steps(
     end
 }
 
-// A record from its first state on, which is as after no facts.
+// A record from its first state on. The first state is written as a state after a step would be, the state before it being empty.
 fn append_trajectory(
     new: &mut [u8],
     w: usize,

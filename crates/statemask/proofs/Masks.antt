@@ -19,11 +19,11 @@ use Rattle.model.specs.Domain.{State}
 use Rattle.truth.specs.Bools.{is-false}
 use Rattle.quantify.proofs.Quantify.{any-out}
 use Rattle.factsets.specs.Holding.{holding}
-use Rattle.statemask.specs.Statemask.{withFacts, startMask, effects}
-use Rattle.statemask.specs.Executing.{Under}
+use Rattle.statemask.specs.Statemask.{withFacts, startMask, effects, touched}
+use Rattle.statemask.specs.Executing.{AllInMask}
 
 -- ---- what is in a mask, whatever number is asked for
-pub test-mask : (st : State) → Under st → (f : ℕ) → testBit (maskOf stateSize st) f ≡ st f
+pub test-mask : (st : State) → AllInMask st → (f : ℕ) → testBit (maskOf stateSize st) f ≡ st f
 test-mask st under f = go (decLt f maxFactNumbers)
   where
     go : Dec (f < maxFactNumbers) → testBit (maskOf stateSize st) f ≡ st f
@@ -44,7 +44,7 @@ pub start-mask : (fs : List Fact) → startMask fs ≡ maskOf stateSize (holding
 unfolding startMask
 start-mask fs = ap (withFacts fs) (empty-maskOf stateSize) ∙ facts-mask stateSize fs (λ n. false)
 
-pub start-under : (fs : List Fact) → ((f : Fact) → Mem f fs → factNumber f < maxFactNumbers) → Under (holding fs)
+pub start-under : (fs : List Fact) → ((f : Fact) → Mem f fs → factNumber f < maxFactNumbers) → AllInMask (holding fs)
 unfolding holding
 start-under fs small n h =
     is-false
@@ -54,10 +54,6 @@ start-under fs small n h =
     omega (arith, small f m, eqb-true (factNumber f) n q))
 
 -- ---- effects laid down
--- f is the fact of a bound fact below n that the set has
-unfoldable pub touched : List ℕ → (ℕ → ℕ) → ℕ → State
-touched set g n f = below n (λ j. testBit set j && eqb (g j) f)
-
 module _ (value : Bool) (set : List ℕ) (g : ℕ → ℕ) (len : ℕ) (p : State) where
   -- Whichever value is put, a fact that is touched has it, and every other is as it was.
   pub effects-mask : (n : ℕ) → effects value set g (maskOf len p) n ≡ maskOf len (λ f. cond (touched set g n f) value (p f))

@@ -22,7 +22,7 @@ use Rattle.model.proofs.Lockstep.{run-stop, run-go}
 use Rattle.jobs.specs.Planning.{groundAction, goalEntry}
 use Rattle.jobs.specs.Check.{runAnswer, endSheet}
 use Rattle.statemask.specs.Statemask.{MoveRules, startMask, stepInapplicable, stepNext, Executed, execute, missed, misses}
-use Rattle.statemask.specs.Executing.{Under, Ruled, InMask, Executing, Agrees, executedAnswer}
+use Rattle.statemask.specs.Executing.{AllInMask, Ruled, InMask, Executing, Agrees, executedAnswer}
 use Rattle.statemask.proofs.Masks.{test-mask, start-mask}
 use Rattle.statemask.proofs.Step.{next-under, inapplicable-mask, next-mask}
 use Rattle.factsets.specs.Holding.{holding}
@@ -37,7 +37,7 @@ module _ (sch : Schema) (R : ℕ → MoveRules) (st : Step) (plan : List Step) (
   execute-go e = rw (e, execute)
 
 module _ (D : Domain) (M : Model) (sch : Schema) (R : ℕ → MoveRules) where
-  module _ (few : D .atoms ≤ maxAtoms) (valid : Valid D M) (s : Step) (fits : InMask D (groundAction sch s)) (st : State) (under : Under st) where
+  module _ (few : D .atoms ≤ maxAtoms) (valid : Valid D M) (s : Step) (fits : InMask D (groundAction sch s)) (st : State) (under : AllInMask st) where
     step-inapplicable : Ruled M (s .action .0) (R (s .action .0)) → stepInapplicable sch R s (maskOf stateSize st) ≡ inapplicable D M (groundAction sch s) st
     unfolding stepInapplicable groundAction
     step-inapplicable ruled = inapplicable-mask D M few valid (groundAction sch s) fits (R (s .action .0)) ruled st under
@@ -47,7 +47,7 @@ module _ (D : Domain) (M : Model) (sch : Schema) (R : ℕ → MoveRules) where
     step-next ruled = next-mask D M few valid (groundAction sch s) fits (R (s .action .0)) ruled st under
 
   -- The plan over the mask of a state comes to what it comes to from the state.
-  pub execute-run : (plan : List Step) → Executing D M sch R plan → (st : State) → Under st → (k : ℕ) → 1 ≤ k
+  pub execute-run : (plan : List Step) → Executing D M sch R plan → (st : State) → AllInMask st → (k : ℕ) → 1 ≤ k
       → Agrees (execute sch R plan (maskOf stateSize st) k) (run D M (map (groundAction sch) plan) st k)
   unfolding execute run
   execute-run [] c st under k h = (refl, refl, under)
@@ -81,7 +81,7 @@ module _ (D : Domain) (M : Model) (sch : Schema) (R : ℕ → MoveRules) where
           deeper
 
 -- The first goal entry that the mask misses is the first that is wrong in the state.
-pub missed-first : (end : State) → Under end → (goal : List GoalEntry) → missed (maskOf stateSize end) goal ≡ first (wrong end) (map goalEntry goal)
+pub missed-first : (end : State) → AllInMask end → (goal : List GoalEntry) → missed (maskOf stateSize end) goal ≡ first (wrong end) (map goalEntry goal)
 unfolding missed misses wrong goalEntry
 missed-first end under goal =
     first-map _ _ goalEntry (λ e. ap (λ (t : Bool). not (same t (e .wanted))) (test-mask end under (factNumber (e .fact)))) goal
@@ -101,7 +101,7 @@ agrees-sheet c (stopped k) a e = absurd (omega arith)
 agrees-sheet c (ended end) a e = a .1
 
 -- ---- from a start
-module _ (D : Domain) (M : Model) (sch : Schema) (R : ℕ → MoveRules) (plan : List Step) (c : Executing D M sch R plan) (fs : List Fact) (under : Under (holding fs)) where
+module _ (D : Domain) (M : Model) (sch : Schema) (R : ℕ → MoveRules) (plan : List Step) (c : Executing D M sch R plan) (fs : List Fact) (under : AllInMask (holding fs)) where
   pub execute-start : Agrees (execute sch R plan (startMask fs) 1) (run D M (map (groundAction sch) plan) (holding fs) 1)
   execute-start =
       subst (λ (m : List ℕ). Agrees (execute sch R plan m 1) (run D M (map (groundAction sch) plan) (holding fs) 1)) (sym (start-mask fs))

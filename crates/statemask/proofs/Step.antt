@@ -13,9 +13,9 @@ use Rattle.model.specs.Domain.{Domain, State, GroundAction}
 use Rattle.model.specs.Model.{Model, Valid, image, inapplicable, next}
 use Rattle.quantify.proofs.Quantify.{below-cong, below-wide}
 use Rattle.model.proofs.Next.{image-out}
-use Rattle.statemask.specs.Statemask.{MoveRules, unmet, inapplicableIn, effects, nextIn}
-use Rattle.statemask.specs.Executing.{Under, Ruled, InMask}
-use Rattle.statemask.proofs.Masks.{test-mask, touched, effects-mask}
+use Rattle.statemask.specs.Statemask.{MoveRules, unmet, inapplicableIn, effects, nextIn, touched}
+use Rattle.statemask.specs.Executing.{AllInMask, Ruled, InMask}
+use Rattle.statemask.proofs.Masks.{test-mask, effects-mask}
 
 -- a value is needed to be what it is not
 either : (need : Bool → Bool) (t : Bool) → (need true && not t || need false && t) ≡ need (not t)
@@ -38,7 +38,7 @@ module _ (D : Domain) (M : Model) (few : D .atoms ≤ maxAtoms) (valid : Valid D
       ∙ below-wide maxAtoms (D .atoms) (λ n. q n && eqb (s .ground n) f) few (λ n e. fits .ranged n (own n (and-out (q n) _ e .0)))
 
   -- The state after the step has no fact from the bound on either.
-  pub next-under : (st : State) → Under st → Under (next D M s st)
+  pub next-under : (st : State) → AllInMask st → AllInMask (next D M s st)
   unfolding next
   next-under st under f h =
       let off : image D (M .effect true (s .action)) s f ≡ false = is-false _
@@ -48,7 +48,7 @@ module _ (D : Domain) (M : Model) (few : D .atoms ≤ maxAtoms) (valid : Valid D
       in
       rw (off, under f h)
 
-  module _ (R : MoveRules) (ruled : Ruled M (s .action) R) (st : State) (under : Under st) where
+  module _ (R : MoveRules) (ruled : Ruled M (s .action) R) (st : State) (under : AllInMask st) where
     unmet-mask : (n : ℕ) → n < maxAtoms → unmet R (s .ground) (maskOf stateSize st) n ≡ M .precondition (not (st (s .ground n))) (s .action) n
     unfolding unmet
     unmet-mask n l =

@@ -16,10 +16,11 @@ use Rattle.model.specs.Model.{Model, Valid, Run, stopped, ended}
 use Rattle.jobs.specs.Planning.{groundAction}
 use Rattle.jobs.specs.Check.{goalAnswer}
 use Rattle.statemask.specs.Statemask.{MoveRules, Executed, missed}
+use Rattle.model.specs.Formed.{Under}
 
--- no fact holds that the mask has no bit for
-abbrev pub Under : State → Type 0
-Under st = (f : ℕ) → maxFactNumbers ≤ f → st f ≡ false
+-- each fact that holds has a bit in the mask
+abbrev pub AllInMask : State → Type 0
+AllInMask st = Under maxFactNumbers st
 
 -- the four sets are the model's for the action
 pub record Ruled (M : Model) (a : ℕ) (R : MoveRules) : Type 0 where
@@ -43,7 +44,7 @@ pub record Executing (D : Domain) (M : Model) (sch : Schema) (R : ℕ → MoveRu
 -- the masks stop where the run stops; where it ends they have its end state
 abbrev pub Agrees : Executed → Run → Type 0
 Agrees c (stopped k) = (c .stop ≡ k) × (1 ≤ k)
-Agrees c (ended end) = (c .stop ≡ 0) × (c .mask ≡ maskOf stateSize end) × Under end
+Agrees c (ended end) = (c .stop ≡ 0) × (c .mask ≡ maskOf stateSize end) × AllInMask end
 
 -- rows 19 and 20 from what the masks came to
 unfoldable pub executedAnswer : ℕ → List GoalEntry → Executed → Answer

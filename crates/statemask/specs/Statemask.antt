@@ -3,6 +3,7 @@
 use Prim.Native.Nat.{ℕ, zero, suc}
 use mathlib.Core.Bool.{Bool, true, false, cond, _&&_, _||_, not}
 use mathlib.Core.List.{List, [], _∷_}
+use lib.Dec.{eqb}
 use Rattle.limits.specs.Limits.{stateSize, maxAtoms}
 use Rattle.jobs.specs.SheetBits.{neededSet, neededNotSet, addedSet, removedSet, sheetSet}
 use Rattle.mask.specs.Bits.{testBit, setBit, putBit}
@@ -46,6 +47,10 @@ unmet R g m n = testBit (R .needed) n && not (testBit m (g n)) || testBit (R .ne
 
 unfoldable pub inapplicableIn : MoveRules → (ℕ → ℕ) → List ℕ → Bool
 inapplicableIn R g m = below maxAtoms (unmet R g m)
+
+-- f is the fact of a bound fact below n that the set has
+unfoldable pub touched : List ℕ → (ℕ → ℕ) → ℕ → ℕ → Bool
+touched set g n f = below n (λ j. testBit set j && eqb (g j) f)
 
 -- The value put at the facts of those bound facts below n that the set has: true adds them, false removes them.
 unfoldable pub effects : Bool → List ℕ → (ℕ → ℕ) → List ℕ → ℕ → List ℕ

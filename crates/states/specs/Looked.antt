@@ -26,7 +26,7 @@ pub record Looked (number : ℕ) (s table : List ℕ) (end n from : ℕ) (c : Fa
   pub whole : c .at + factSize * c .left ≤ end
   pub answers : ForRightByPlace table (λ sch ob. facts asWritten number sch ob s end (c .left) (c .last) (c .at) ≡ facts asWritten number sch ob s end n noFact from)
 
--- what row 8 answers of the facts of the whole list at an offset, whatever end they do not reach past
+-- what row 8 answers of the facts of the whole list at an offset; it is the same for every record's end that does not cut the list
 abbrev pub ListLooked : List ℕ → List ℕ → ℕ → Answer → Type 0
 ListLooked s table at a =
     (end : ℕ) → listEnd s at ≤ end

@@ -5,9 +5,9 @@ use mathlib.Core.Path.{_≡_, refl, sym, ap, ap₂, _∙_}
 use mathlib.Core.Bool.{Bool, true, false, _&&_, _||_, or-assoc, or-false}
 use mathlib.Core.List.{List, []}
 use native.Mathlib.Omega.{arith}
-use borrow.Author.Tests.{ltb-true, ltb-false}
+use borrow.Author.Tests.{ltb-false}
 use lib.Dec.{ltb, leb}
-use Rattle.truth.specs.Bools.{clash, and-out, or-right}
+use Rattle.truth.specs.Bools.{clash, or-right}
 use Rattle.mask.specs.Sets.{empty}
 use Rattle.terms.specs.declared.Binding.{Binding}
 use Rattle.terms.specs.declared.Fact.{Fact}
@@ -26,12 +26,6 @@ use Rattle.stepmasks.proofs.Unbound.{none-after, both-more, before-more
 use Rattle.factlist.proofs.Rest.{rest-none}
 use Rattle.stepmasks.proofs.Facts.{Passes, passed-by}
 use Rattle.stepmasks.proofs.Looks.{suited-next}
-
--- neither of two counts is 0
-pub both-left : (m n : ℕ) → (ltb 0 m && ltb 0 n) ≡ true → (0 < m) × (0 < n)
-both-left m n e =
-    let d = and-out _ _ e in
-    (ltb-true 0 m (d .0), ltb-true 0 n (d .1))
 
 module _ (s atoms : List ℕ) (b : Binding) where
   -- ---- one fact more: f comes next before
@@ -138,7 +132,7 @@ module _ (s atoms : List ℕ) (b : Binding) where
           let k : p .left ≡ 0 = omega (arith, ltb-false 0 (p .left) d) in
           rw (rest-none s p k)
 
-  -- Where the walk stands: what is yet to come leads to the sets and the answer of the two states.
+  -- The loop's invariant: marking the facts that are left gives the sets and the answer of the two whole states.
   pub record Stands (pre post : List Fact) (w : Walk) (m n : List ℕ) : Type 0 where
     pub ahead : FactsWithin s (w .pre)
     pub aheadAfter : FactsWithin s (plain (w .post))

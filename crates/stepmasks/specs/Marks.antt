@@ -74,7 +74,8 @@ toCome w = w .pre .left + w .post .left
 unfoldable pub says : List ℕ → List ℕ → Binding → Walk → Bool
 says s atoms b w = w .changed || unboundChanged atoms b (rest s (w .pre)) (rest s (plain (w .post)))
 
--- From v with the sets m and n to w with m′ and n′: nearer to the end, and what is yet to come leads to the same.
+-- One turn of the loop, from v with the sets m and n to w with m′ and n′: fewer facts are left, and marking those that are left in m′ and n′ gives the
+-- sets and the answer that marking what was left before the turn in m and n gives.
 pub record NextMarked (s atoms : List ℕ) (b : Binding) (v : Walk) (m n : List ℕ) (w : Walk) (m′ n′ : List ℕ) : Type 0 where
   pub ahead : FactsWithin s (w .pre)
   pub aheadAfter : FactsWithin s (plain (w .post))

@@ -18,11 +18,11 @@ use Rattle.quantify.proofs.Quantify.{below-out, below-cong}
 use Rattle.terms.specs.declared.Step.{Step}
 use Rattle.terms.specs.Schema.{Schema}
 use Rattle.terms.specs.Steps.{ground}
-use Rattle.statemask.specs.Statemask.{MoveRules, effects, nextIn, stepNext}
+use Rattle.statemask.specs.Statemask.{MoveRules, effects, nextIn, stepNext, touched}
 use Rattle.statemask.proofs.Masks as masks
 use Rattle.factgroups.specs.Groups.{StartsRelation, putAt, inWord}
 use Rattle.grounding.specs.Grounding.{Bounded}
-use Rattle.stepping.specs.Stepping.{touched, nextBelow}
+use Rattle.stepping.specs.Stepping.{nextBelow}
 use Rattle.factgroups.proofs.Tests.{below-join}
 use Rattle.grounding.proofs.Objects.{ground-relation}
 use Rattle.factgroups.proofs.Effects.{put-none, put-mask, put-length}
@@ -125,11 +125,11 @@ module _ (sch : Schema) (R : ℕ → MoveRules) (st : Step) (m : List ℕ) (len 
       none ∙ put-none true (λ f. false) (putAt false (λ f. false) m) (λ f. refl) (put-mask false (λ f. false) m)
 
   pub next-last : (n : ℕ) → n ≡ 256 → nextBelow sch R st m n ≡ stepNext sch R st m
-  unfolding nextBelow touched putAt masks.touched stepNext nextIn
+  unfolding nextBelow touched putAt stepNext nextIn
   next-last n e =
       let gone : List ℕ = R (st .action .0) .removed in
       let come : List ℕ = R (st .action .0) .added in
       let g : ℕ → ℕ = ground sch (st .binding) in
       let first : effects false gone g m 256 ≡ _ = ap (λ (o : List ℕ). effects false gone g o 256) is-mask ∙ masks.effects-mask false gone g 512 (testBit m) 256 in
       let second = ap (λ (o : List ℕ). effects true come g o 256) first ∙ masks.effects-mask true come g 512 _ 256 in
-      rw e (sym (second ∙ maskOf-same 512 _ _ (λ f h. ap (cond (masks.touched come g 256 f) true) (sym (test-maskOf 512 _ f h)))))
+      rw e (sym (second ∙ maskOf-same 512 _ _ (λ f h. ap (cond (touched come g 256 f) true) (sym (test-maskOf 512 _ f h)))))

@@ -1,19 +1,17 @@
 -- What a step asks of the rules that are lent and of its objects, and names for what the functions pass on to each other.
 use Prim.Native.Nat.{ℕ, _+_, _*_, _≤_}
 use mathlib.Core.Path.{_≡_}
-use mathlib.Core.Bool.{Bool, true, false, cond, _&&_}
+use mathlib.Core.Bool.{Bool, true, false, cond}
 use mathlib.Core.List.{List}
-use lib.Dec.{eqb}
 use lib.ListN.{length}
 use Rattle.limits.specs.Limits.{atomsPerRelation, ruleSize}
-use Rattle.mask.specs.Bits.{testBit}
 use Rattle.terms.specs.declared.Step.{Step}
 use Rattle.terms.specs.Schema.{Schema}
 use Rattle.terms.specs.Steps.{ground}
 use Rattle.quantify.specs.Quantify.{below}
 use Rattle.factgroups.specs.Groups.{putAt}
 use Rattle.grounding.specs.Grounding.{Bounded}
-use Rattle.statemask.specs.Statemask.{MoveRules, unmet, stepInapplicable, stepNext}
+use Rattle.statemask.specs.Statemask.{MoveRules, unmet, stepInapplicable, stepNext, touched}
 
 -- ---- what is asked
 
@@ -30,10 +28,6 @@ unfoldable pub relationUnmet : Schema → (ℕ → MoveRules) → Step → List 
 relationUnmet sch R st m n = below atomsPerRelation (λ j. unmet (R (st .action .0)) (ground sch (st .binding)) m (n + j))
 
 -- ---- effects
-
--- the facts of the bound facts below n that a set has
-unfoldable pub touched : List ℕ → (ℕ → ℕ) → ℕ → ℕ → Bool
-touched set g n f = below n (λ j. testBit set j && eqb (g j) f)
 
 -- the state after a step, of the bound facts below n alone
 unfoldable pub nextBelow : Schema → (ℕ → MoveRules) → Step → List ℕ → ℕ → List ℕ

@@ -70,7 +70,8 @@ suitsWithin sch (suc n) named kind = eqb kind named || ltb 0 (sch .parent kind) 
 unfoldable pub kindSuits : Schema → ℕ → ℕ → Bool
 kindSuits sch named kind = suitsWithin sch maxKinds named kind
 
--- what stands where an object of the kind named belongs is wrong: a used place has an object's number, of a kind that suits; an unused one has 0
+-- the object byte of a place or parameter of the kind named is wrong: where the place is used it must be an object's number, of a kind that suits,
+-- and where it is unused it must be 0
 unfoldable pub objectBad : Schema → TypedObjects → Bool → ℕ → Object → Bool
 objectBad sch ob used named x =
     used && (outOfRange (ob .count) (x .0) || not (kindSuits sch named (ob .kind x))) || not used && not (eqb (x .0) 0)

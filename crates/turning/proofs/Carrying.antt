@@ -3,7 +3,7 @@ use Prim.Native.Nat.{ℕ, _≤_}
 use native.Mathlib.Omega.{arith}
 use mathlib.Core.Path.{_≡_, refl, sym, ap, _∙_}
 use mathlib.Core.Logic.{_⊎_, inl, inr}
-use mathlib.Core.Bool.{true, false, cond}
+use mathlib.Core.Bool.{true, false}
 use mathlib.Core.List.{List, [], _∷_}
 use lib.Dec.{ltb}
 use lib.ListN.{length}
@@ -27,7 +27,7 @@ use Rattle.factsets.specs.Holding.{holding}
 use Rattle.factsets.specs.Right.{Increasing}
 use Rattle.factsets.proofs.Numbers.{number-below}
 use Rattle.factsets.proofs.States.{list-suits}
-use Rattle.factsets.proofs.Toggled.{increasing-after, toggle-increasing, toggle-from, toggled-none, toggled-increasing, toggled-suits}
+use Rattle.factsets.proofs.Toggled.{increasing-after, toggle-increasing, toggle-from, toggled-increasing, toggled-suits}
 use Rattle.factsets.proofs.Turned.{flip-holding, cardinality-holding}
 use Rattle.turning.specs.Turning.{flipped, Numbered, Turnable, Carried, Carries}
 
@@ -100,14 +100,6 @@ module _ (sch : Schema) (ob : TypedObjects) (few : ob .count ≤ maxObjects) (kn
 pub carries-none : (form : Form) → Carries form [] (empty stateSize) 0
 unfolding holding any
 carries-none form = record { mask = λ e. empty-maskOf stateSize; size = λ e. refl; nothing = λ e. refl }
-
-pub after-none : (form : Form) (s : List ℕ) (at : ℕ) → Increasing noFact (listAt s at) → stateAfter form s [] at ≡ listAt s at
-unfolding stateAfter
-after-none form s at order = go form
-  where
-    go : (form : Form) → cond form (toggled [] (listAt s at)) (listAt s at) ≡ listAt s at
-    go true = toggled-none noFact (listAt s at) order
-    go false = refl
 
 -- A list of good form can be turned.
 pub list-turnable : (most num : ℕ) (sch : Schema) (ob : TypedObjects) → ob .count ≤ maxObjects → sch .relations ≤ maxRelations

@@ -1,5 +1,5 @@
-// A state of facts as a mask of 512 bytes in which the facts of a list turn, and how many facts hold: what the states of a short book's record are
-// carried on by. In a full book nothing is carried.
+// A state of facts as a mask of 512 bytes in which the facts of a list turn, and how many facts hold. A list of a short book has only the facts that
+// turn, so the state of its record is kept in such a mask from step to step; in a full book nothing is kept.
 // Uses limits, input, terms and mask, and the definitions of format; specs/Turning.antt says what is carried.
 ghost use mathlib.Core.Path.{_≡_};
 ghost use mathlib.Core.Bool.{true};

@@ -1,5 +1,5 @@
 -- The end state of a plan: it has no fact that neither the start nor a step's atoms could give it.
-use Prim.Native.Nat.{ℕ, suc, _≤_, _<_}
+use Prim.Native.Nat.{ℕ, suc, _<_}
 use native.Mathlib.Decide.{decLt}
 use native.Mathlib.Omega.{arith}
 use mathlib.Core.Path.{_≡_, refl, sym, _∙_}
@@ -13,6 +13,7 @@ use Rattle.model.specs.Model.{Model, Valid, ended, image, inapplicable, next, r
 use Rattle.model.proofs.Next.{image-out}
 use Rattle.model.proofs.Lockstep.{run-stop, run-go}
 use Rattle.model.proofs.Judge.{not-both, one-end}
+use Rattle.model.specs.Formed.{Under}
 
 -- no fact holds but those that have a property
 abbrev pub Within : (ℕ → Type 0) → State → Type 0
@@ -43,10 +44,6 @@ module _ (D : Domain) (M : Model) (valid : Valid D M) (P : ℕ → Type 0) where
       go : (inapplicable D M s st ≡ true) ⊎ (inapplicable D M s st ≡ false) → (run D M plan (next D M s st) (suc k) ≡ ended end → Within P end) → Within P end
       go (inl h) rest = absurd (not-both _ k end (run-stop D M s plan st k h) e)
       go (inr h) rest = rest (sym (run-go D M s plan st k h) ∙ e)
-
--- no fact from the bound on holds
-abbrev pub Under : ℕ → State → Type 0
-Under bound st = (f : ℕ) → bound ≤ f → st f ≡ false
 
 under-within : (bound : ℕ) (st : State) → Under bound st → Within (λ f. f < bound) st
 under-within bound st under f e = go (decLt f bound)

@@ -19,7 +19,7 @@ use Rattle.format.specs.Records.{objectsIn, stepsIn, lengthIn, step, steps, obj
 use Rattle.format.specs.LookOver.{lookOver}
 use Rattle.format.specs.Lists.{listAt, listEnd}
 use Rattle.format.specs.Decode.{RecordedStep, firstAt, recordedStepsAt, stepsOfRecord, stepsOfRecords, recordedSteps, recordedStep}
-use Rattle.format.proofs.Records.{head-objects, step-good, steps-parted, record-good}
+use Rattle.format.proofs.Records.{head-objects, step-good, steps-parted, record-good, step-reach}
 use Rattle.format.proofs.Typing.{schema-right, objects-known}
 use Rattle.format.proofs.LookOver.{look-over-good}
 use Rattle.quantify.specs.Quantify.{Mem, here, there}
@@ -29,6 +29,7 @@ use Rattle.wellformed.specs.Right.{Right, RightSomewhere}
 use Rattle.factsets.proofs.States.{state-right, next-right}
 use Rattle.factsets.specs.Right.{RightState}
 use Rattle.answer.proofs.Walks.{walk-parted}
+use native.Mathlib.Omega.{arith}
 
 module _ (form : Form) (sch : Schema) (ob : TypedObjects) (typed : RightObjects sch ob) (s : List ℕ) (end : ℕ) where
   -- a step of good form is right, and so is the state after it if the state before it is
@@ -102,3 +103,13 @@ module _ (form : Form) (s : List ℕ) (n : ℕ) (e : lookOver form s ≡ Good n)
       let (from, next, good, k) = recorded-somewhere m in
       let (place, few, right) = record-right form (sectionsOf s) s falls from next good in
       (typedObjects (objectsOf s from) s, few, right f k)
+
+-- A step stands within its record.
+pub steps-before : (form : Form) (sch : Schema) (ob : TypedObjects) (s : List ℕ) (end n : ℕ) (before : List Fact) (at last : ℕ) → steps form sch ob s end n before at ≡ Good last
+    → {f : RecordedStep} → Mem f (recordedStepsAt form s n before at) → f .place ≤ end
+unfolding recordedStepsAt recordedStep
+steps-before form sch ob s end (suc n) before at last e here =
+    let reach = step-reach form sch ob s end before at _ (steps-parted form sch ob s end n before at last e .0) in
+    omega arith
+steps-before form sch ob s end (suc n) before at last e (there m) =
+    steps-before form sch ob s end n (stateAfter form s before (at + stepSize)) (listEnd s (at + stepSize)) last (steps-parted form sch ob s end n before at last e .1) m

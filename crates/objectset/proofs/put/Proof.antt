@@ -2,7 +2,7 @@
 use mathlib.Core.Path.{sym}
 use lib.Seq.{set-out}
 use Rattle.objectset.specs.Sets.{put, entry}
-use Rattle.objectset.proofs.Laws.{one-shl}
+use Rattle.mask.proofs.Numbers.{one-shl}
 use borrow.Author.Needs.{needs}
 use Rattle.objectset.proofs.put.Statement.{statement}
 use Rattle.objectset.proofs.put.Tie as tie
@@ -13,7 +13,7 @@ returns c = sym (set-out _ _ _ (c .if1 .taken))
 
 returns-2 : tie.Need-returns-2
 unfolding put entry
-returns-2 c = rw (one-shl _ (c .before .before .pre))
+returns-2 c = rw (one-shl 32 _ (c .before .before .pre))
 
 pub put-spec : {M : Type 1} → statement M
 put-spec =

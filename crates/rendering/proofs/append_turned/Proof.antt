@@ -8,9 +8,10 @@ use Rattle.format.specs.Toggled.{toggled}
 use Rattle.jobs.specs.Convert.{factsBytes}
 use Rattle.rendering.specs.Merge.{left}
 use Rattle.rendering.proofs.Held.{holds-end}
-use Rattle.rendering.proofs.Merge.{list-near, both-left, Merged, merged-first, merged-next, merged-end}
+use Rattle.rendering.proofs.Merge.{list-near, Merged, merged-first, merged-next, merged-end}
 use Rattle.rendering.proofs.append_turned.Statement.{statement}
 use Rattle.rendering.proofs.append_turned.Tie as tie
+use Rattle.factlist.proofs.Rest.{both-left}
 
 abbrev Inv-loop : tie.InvT-loop
 Inv-loop new₀ w state book at v₀ new v =

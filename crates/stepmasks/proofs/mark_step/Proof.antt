@@ -9,9 +9,10 @@ use Rattle.factlist.specs.Rest.{rest}
 use Rattle.stepmasks.specs.Marks.{Suited, toCome}
 use Rattle.lifting.proofs.Pairs.{digits-long}
 use Rattle.stepmasks.proofs.Looks.{Looking, looking-known}
-use Rattle.stepmasks.proofs.Steps.{both-left, Stands, stands-first, stands-next, stands-end}
+use Rattle.stepmasks.proofs.Steps.{Stands, stands-first, stands-next, stands-end}
 use Rattle.stepmasks.proofs.mark_step.Statement.{statement}
 use Rattle.stepmasks.proofs.mark_step.Tie as tie
+use Rattle.factlist.proofs.Rest.{both-left}
 
 abbrev Inv-loop : tie.InvT-loop
 Inv-loop s table t atoms b pre post before₀ after₀ w₀ before after w =
