@@ -12,6 +12,7 @@ mod change;
 pub mod check;
 pub mod compare;
 pub mod convert;
+pub mod definition;
 pub mod form;
 pub mod gen;
 mod implementation;

@@ -1,150 +1,98 @@
-//! Learning by the paper's words, atom by atom and step by step, compared with
-//! the masks: the sheet, and the numbers and places of rows 11 and 12, in both forms
-//! of a book.
+//! Learning and checking by the paper's words: the definition gives the vectors'
+//! answers, this implementation does as defined, and wrong ones do not.
 
-use second::calls::Form;
-use second::gen::hall::{book, Dynamics};
-use second::gen::{BookDraft, Fact, Rng, Step};
-use second::{learn, Answer, Refusal};
+use second::calls::{unpacked, Calls, Form, Job};
+use second::compare::{self, By, Capped, Run};
+use second::gen::{BookDraft, OrderDraft};
+use second::{definition, vectors, Answer, Refusal, Second};
 
-/// A bound fact: its number n, its relation, and its parameters (0 unused).
-struct Atom {
-    n: usize,
-    relation: u8,
-    parameters: [usize; 2],
-}
-
-impl Atom {
-    fn fact(&self, step: &Step) -> Fact {
-        let object = |parameter: usize| if parameter == 0 { 0 } else { step[parameter] };
-        [self.relation, object(self.parameters[0]), object(self.parameters[1])]
-    }
-}
-
-fn atoms(draft: &BookDraft, entry: &[u8; 6]) -> Vec<Atom> {
-    let mut atoms = Vec::new();
-    for (relation, kinds) in (1u8..).zip(&draft.relations) {
-        for n in 0..16 {
-            let parameters: [usize; 2] = [n / 4 + 1, n % 4 + 1];
-            let suits = |place: usize| {
-                let parameter = parameters[place];
-                match kinds[1 + place] {
-                    0 => parameter == 1,
-                    kind => {
-                        parameter <= usize::from(entry[0]) && draft.suits(entry[parameter], kind)
-                    }
-                }
-            };
-            if suits(0) && suits(1) {
-                let used = |place: usize| {
-                    if kinds[1 + place] == 0 {
-                        0
-                    } else {
-                        parameters[place]
-                    }
-                };
-                let n = 16 * (usize::from(relation) - 1) + n;
-                atoms.push(Atom { n, relation, parameters: [used(0), used(1)] });
-            }
+/// The definition as calls, for inputs of good form.
+fn defined() -> impl Calls {
+    By(|job: Job, book: &[u8], told: u32, order: &[u8], output: &mut [u8]| {
+        let form = if told == 0 { Form::Full } else { Form::Short };
+        let book = BookDraft::parse(book, form).in_form(Form::Full);
+        let defined = match job {
+            Job::Learn => definition::learn(&book, form),
+            _ => definition::check(&book, form, &OrderDraft::parse(order)),
+        };
+        if let Some(bytes) = defined.written {
+            output.copy_from_slice(&bytes);
         }
-    }
-    atoms
-}
-
-/// Where the first step stands, as the draft is written in this form, that changes a
-/// fact which no atom of its move gives: row 11.
-fn unbound_change(draft: &BookDraft, form: Form, of_move: &[Vec<Atom>]) -> Option<usize> {
-    for (record, layout) in draft.records.iter().zip(draft.in_form(form).layout().records) {
-        for (index, step) in record.steps.iter().enumerate() {
-            let (before, after) = (&record.states[index], &record.states[index + 1]);
-            let bound: Vec<Fact> =
-                of_move[usize::from(step[0]) - 1].iter().map(|atom| atom.fact(step)).collect();
-            let changed = |fact: &&Fact| before.contains(fact) != after.contains(fact);
-            if before.iter().chain(after).filter(changed).any(|fact| !bound.contains(fact)) {
-                return Some(layout.steps[index]);
-            }
-        }
-    }
-    None
-}
-
-/// The atom's values before and after each step of the move of this number.
-fn values(draft: &BookDraft, number: usize, atom: &Atom) -> Vec<(bool, bool)> {
-    let mut values = Vec::new();
-    for record in &draft.records {
-        for (at, step) in record.steps.iter().enumerate() {
-            if usize::from(step[0]) == number {
-                let fact = atom.fact(step);
-                let holds = |state: usize| record.states[state].contains(&fact);
-                values.push((holds(at), holds(at + 1)));
-            }
-        }
-    }
-    values
-}
-
-/// Changed to a value by one step, and of the other after another: row 12.
-fn conflict(values: &[(bool, bool)]) -> bool {
-    [true, false].into_iter().any(|value| {
-        let changed_to = values.contains(&(!value, value));
-        changed_to && values.iter().any(|&(_, after)| after != value)
+        defined.answer.packed()
     })
 }
 
-/// Whether the atom is needed to hold, needed not to hold, added and removed.
-fn sets(values: &[(bool, bool)]) -> [bool; 4] {
-    [
-        values.iter().all(|&(before, _)| before),
-        values.iter().all(|&(before, _)| !before),
-        values.contains(&(false, true)),
-        values.contains(&(true, false)),
-    ]
-}
-
-/// The answer, with places as the draft is written in this form, and, on success,
-/// the sheet.
-fn defined(draft: &BookDraft, form: Form) -> (Answer, Vec<u8>) {
-    let of_move: Vec<Vec<Atom>> = draft.moves.iter().map(|entry| atoms(draft, entry)).collect();
-    if let Some(place) = unbound_change(draft, form, &of_move) {
-        return (Refusal::UnboundChange.at(place), Vec::new());
+#[test]
+fn the_definition_gives_the_vectors_answers() {
+    for (job, numbers) in [(Job::Learn, [0, 11, 12]), (Job::Check, [0, 19, 20])] {
+        let of_job: Vec<vectors::Vector> = vectors::all()
+            .into_iter()
+            .filter(|vector| vector.jobs.contains(&job) && numbers.contains(&vector.answer.number))
+            .map(|vector| vectors::Vector { jobs: vec![job], ..vector })
+            .collect();
+        let (runs, failures) = vectors::run(&of_job, &defined());
+        let failures: Vec<String> = failures.iter().map(ToString::to_string).collect();
+        assert_eq!(failures, Vec::<String>::new());
+        assert!(runs > 200, "{runs} vectors of {}", job.name());
     }
-    let mut sheet = vec![0; 128 * draft.moves.len()];
-    for (index, atoms) in of_move.iter().enumerate() {
-        for atom in atoms {
-            let values = values(draft, index + 1, atom);
-            if conflict(&values) {
-                return (Refusal::EffectConflict.at(index + 1), Vec::new());
-            }
-            for (set, holds) in sets(&values).into_iter().enumerate() {
-                sheet[128 * index + 32 * set + atom.n / 8] |= u8::from(holds) << (atom.n % 8);
-            }
-        }
-    }
-    (Answer::success(draft.steps()), sheet)
 }
 
 #[test]
-fn masks_learn_as_defined() {
-    let mut met = [0; 3];
-    for seed in 0..6_000 {
-        let mut rng = Rng::new(seed);
-        let shape = if rng.chance(80) { book::SMALL } else { book::MEDIUM };
-        let dynamics = if rng.chance(40) { Dynamics::Follows } else { Dynamics::Slips };
-        let draft = book::of_shape(&shape, dynamics, &mut rng).book;
-        for form in Form::BOTH {
-            let (answer, expected) = defined(&draft, form);
-            let mut sheet = vec![0xee; 128 * draft.moves.len()];
-            let book = draft.in_form(form).bytes();
-            assert_eq!(learn::learn(&book, form, &mut sheet), answer, "seed {seed}, {form:?}");
-            if answer.number == 0 {
-                assert_eq!(sheet, expected, "seed {seed}, {form:?}");
+fn this_implementation_does_as_defined() {
+    let run = Run { seed: 0, count: 6_000 };
+    let met = compare::definition(run, &Second).unwrap_or_else(|difference| panic!("{difference}"));
+    println!("{met}");
+    assert_eq!(met.missing(), Vec::<String>::new());
+}
+
+/// Each is right but for one thing, in one form of a book.
+#[test]
+fn wrong_ones_are_found() {
+    type Change = fn(Answer, &mut [u8]) -> Answer;
+    let wrongs: [(&str, Job, Change); 7] = [
+        ("no fact is needed not to hold", Job::Learn, |answer, sheet| {
+            if answer.number == 0 && !sheet.is_empty() {
+                sheet[32..64].fill(0);
             }
-            met[match answer.number {
-                11 => 0,
-                12 => 1,
-                _ => 2,
-            }] += 1;
-        }
+            answer
+        }),
+        ("11 at the step's state", Job::Learn, |answer, _| match answer.number {
+            11 => Answer { place: answer.place + 5, ..answer },
+            _ => answer,
+        }),
+        ("12 by the first move", Job::Check, |answer, _| match answer.number {
+            12 => Refusal::EffectConflict.at(1),
+            _ => answer,
+        }),
+        ("stops at step 1", Job::Check, |answer, _| match answer.number {
+            19 => Answer { place: 1, ..answer },
+            _ => answer,
+        }),
+        ("passes every plan", Job::Check, |answer, _| match answer.number {
+            19 | 20 => Answer::success(1),
+            _ => answer,
+        }),
+        ("fails by the first start", Job::Check, |answer, _| match answer.position {
+            0 => answer,
+            _ => answer.from_start(1),
+        }),
+        ("the end sheet lacks its first byte", Job::Check, |answer, end| {
+            if answer.number == 0 {
+                end[0] = 0;
+            }
+            answer
+        }),
+    ];
+    let run = Run { seed: 3, count: 500 };
+    for ((what, wrong, change), form) in
+        wrongs.into_iter().flat_map(|wrong| [0, 1].map(|form| (wrong, form)))
+    {
+        let calls = By(|job: Job, book: &[u8], told: u32, other: &[u8], output: &mut [u8]| {
+            let answer = unpacked(job.run(&Second, book, told, other, output));
+            let is_wrong = job == wrong && told == form;
+            if is_wrong { change(answer, output) } else { answer }.packed()
+        });
+        assert!(compare::definition(run, &calls).is_err(), "not found: {what}, form {form}");
     }
-    assert!(met.iter().all(|&times| times > 600), "{met:?}");
+    assert!(compare::definition(run, &Capped).is_err(), "not found: a state of 256 facts");
 }

@@ -1,6 +1,6 @@
-//! Compares the built static library with this implementation, and with the
-//! judge on tiny halls and on those in which over 256 facts hold; books in both
-//! forms, and with their records in another sequence.
+//! Compares the built static library with this implementation, with the definition by
+//! the paper's words, and with the judge on tiny halls and on those in which over 256
+//! facts hold; books in both forms, and with their records in another sequence.
 //!
 //! `compare [seed] [count]`; exit status 1 on any difference or when something
 //! was met too seldom, 2 without a library to compare with.
@@ -19,7 +19,7 @@ const LEARNING: usize = 20_000;
 fn main() -> ExitCode {
     use library::Library;
     use second::calls::Job;
-    use second::compare::{judge, judge_crowded, Run};
+    use second::compare::{definition, judge, judge_crowded, Run};
 
     let mut arguments = std::env::args().skip(1).map(|argument| argument.parse::<u64>());
     let mut next = |default| match arguments.next() {
@@ -41,10 +41,13 @@ fn main() -> ExitCode {
             good &= compare_job(&library, job, form, Run { seed, count: factor * count });
         }
     }
+    let any = Run { seed, count };
+    good &= compare_halls("definition", "halls", any, |run| definition(run, &library));
     let tiny = Run { seed, count: count / 3 };
-    good &= compare_judge("tiny halls", tiny, |run| judge(run, &library));
+    good &= compare_halls("judge", "tiny halls", tiny, |run| judge(run, &library));
     let crowded = Run { seed, count: count / 30 };
-    good &= compare_judge("halls with over 256 facts", crowded, |run| judge_crowded(run, &library));
+    let over_256 = "halls with over 256 facts";
+    good &= compare_halls("judge", over_256, crowded, |run| judge_crowded(run, &library));
     println!("NULL was lent {} times for an empty input or output", library.nulls());
     good &= library.nulls() > 0;
     if good {
@@ -87,26 +90,28 @@ fn compare_job(
     }
 }
 
-/// Learning and checking against the judge, each kind of verdict often enough.
+/// Learning and checking beside the judge or the definition, each kind of outcome often
+/// enough.
 #[cfg(archive)]
-fn compare_judge(
+fn compare_halls<M: 'static>(
+    by: &str,
     halls: &str,
     run: second::compare::Run,
-    judge: impl Fn(second::compare::Run) -> Result<second::compare::Verdicts, String>,
+    compare: impl Fn(second::compare::Run) -> Result<second::compare::Kinds<M>, String>,
 ) -> bool {
     let started = std::time::Instant::now();
-    match judge(run) {
+    match compare(run) {
         Ok(met) => {
             let seconds = started.elapsed().as_secs_f64();
-            println!("judge: no difference in {} {halls}, {seconds:.1} s: {met}", run.count);
+            println!("{by}: no difference in {} {halls}, {seconds:.1} s: {met}", run.count);
             let missing = met.missing();
             for line in &missing {
-                println!("judge: met too seldom in {halls}: {line}");
+                println!("{by}: met too seldom in {halls}: {line}");
             }
             missing.is_empty()
         }
         Err(difference) => {
-            println!("judge: DIFFERENCE in {halls}\n{difference}");
+            println!("{by}: DIFFERENCE in {halls}\n{difference}");
             false
         }
     }

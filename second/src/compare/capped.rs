@@ -3,9 +3,9 @@
 //! It is right in all but that it has room for 256 facts while a plan is
 //! executed, as if the limit of a state that is read were one of every state.
 
-use super::judge::sheet_of;
 use crate::answer::{Answer, Refusal};
 use crate::calls::{unpacked, Calls};
+use crate::definition::end_sheet;
 use crate::gen::Fact;
 use crate::limits::{FACT_LIMIT, RULES_LENGTH, SET_LENGTH};
 use crate::Second;
@@ -65,7 +65,7 @@ fn execute(book: &[u8], order: &[u8], rules: &[u8], end: &mut [u8]) -> Answer {
             return Refusal::GoalMissed.at(index + 1).from_start(position);
         }
         if starts == 1 {
-            end.copy_from_slice(&sheet_of(&state));
+            end.copy_from_slice(&end_sheet(&state));
         }
     }
     Answer::success((order.len() - steps_at) / 5)

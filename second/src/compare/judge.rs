@@ -12,6 +12,7 @@ use super::verdicts::{Decision, IsMet, Verdicts, CROWDED, TINY};
 use super::Run;
 use crate::answer::{Answer, Refusal};
 use crate::calls::{unpacked, Calls, Form};
+use crate::definition::end_sheet;
 use crate::gen::plan::order::Plan;
 use crate::gen::plan::{crowded_hall, tiny};
 use crate::gen::{OrderDraft, Rng};
@@ -168,22 +169,11 @@ impl Given {
             return false;
         };
         let written =
-            if judgements.len() == 1 { self.end == sheet_of(end) } else { untouched(&self.end) };
+            if judgements.len() == 1 { self.end == end_sheet(end) } else { untouched(&self.end) };
         self.end_answer == Answer::success(*steps as usize) && written
     }
 }
 
 fn untouched(lent: &[u8]) -> bool {
     lent.iter().all(|&byte| byte == FILL)
-}
-
-/// The end sheet with just these facts.
-pub(super) fn sheet_of(facts: &[[u8; 3]]) -> Vec<u8> {
-    let mut sheet = vec![0; END_SHEET_LENGTH];
-    for &[relation, first, second] in facts {
-        let from_zero = |number: u8| usize::from(number.max(1)) - 1;
-        let fact = 256 * from_zero(relation) + 16 * from_zero(first) + from_zero(second);
-        sheet[fact / 8] |= 1 << (fact % 8);
-    }
-    sheet
 }

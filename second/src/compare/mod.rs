@@ -1,5 +1,5 @@
 //! Compares this implementation with another one, call by call, and another
-//! one with the judge.
+//! one with the judge and with the definition.
 //!
 //! The other one is given by its calls, so that the same runs serve the built
 //! library (the bin `compare`) and deliberately wrong ones (the tests).
@@ -8,6 +8,7 @@ mod agreed;
 mod alone;
 mod by;
 mod capped;
+mod definition;
 mod job;
 mod judge;
 mod kinds;
@@ -20,8 +21,10 @@ mod verdicts;
 
 pub use by::By;
 pub use capped::Capped;
+pub use definition::definition;
 pub use job::job;
 pub use judge::{judge, judge_crowded};
+pub use kinds::Kinds;
 pub use report::{Difference, Run};
 pub use tally::Tally;
 pub use verdicts::Verdicts;

@@ -1,7 +1,8 @@
 //! The small hall of the paper and what is built from it.
 
+pub use crate::definition::end_sheet;
 use crate::gen::{BookDraft, Fact, OrderDraft, RecordDraft, Step};
-use crate::limits::{END_SHEET_LENGTH, RULES_LENGTH, SET_LENGTH};
+use crate::limits::{RULES_LENGTH, SET_LENGTH};
 
 /// Kind 1 is a bank, 2 a spot; relation 1 "bank at spot", 2 "spot clear"; move
 /// 1 rolls a bank from spot to spot. No record.
@@ -139,17 +140,6 @@ pub fn sheet(moves: &[[&[usize]; 4]]) -> Vec<u8> {
                 set[n / 8] |= 1 << (n % 8);
             }
         }
-    }
-    bytes
-}
-
-/// An end sheet with just these facts.
-pub fn end_sheet(facts: &[Fact]) -> Vec<u8> {
-    let mut bytes = vec![0; END_SHEET_LENGTH];
-    for &[relation, first, second] in facts {
-        let from_zero = |number: u8| usize::from(number.max(1)) - 1;
-        let n = 256 * from_zero(relation) + 16 * from_zero(first) + from_zero(second);
-        bytes[n / 8] |= 1 << (n % 8);
     }
     bytes
 }

@@ -1,6 +1,6 @@
-//! The draft of a good book, from its bytes.
+//! The drafts of a good book and of a good order, from their bytes.
 
-use super::{BookDraft, Fact, RecordDraft};
+use super::{BookDraft, Fact, OrderDraft, RecordDraft};
 use crate::calls::Form;
 
 impl BookDraft {
@@ -20,6 +20,25 @@ impl BookDraft {
             relations: (0..relations).map(|_| array(&mut rest)).collect(),
             moves: (0..moves).map(|_| array(&mut rest)).collect(),
             records: (0..records).map(|_| record(&mut rest)).collect(),
+        }
+    }
+}
+
+impl OrderDraft {
+    /// Reads an order of good form.
+    ///
+    /// # Panics
+    /// If the order is cut.
+    #[must_use]
+    pub fn parse(bytes: &[u8]) -> Self {
+        let mut rest = bytes;
+        let numbers: [usize; 8] = std::array::from_fn(|_| number(&mut rest));
+        let [objects, starts, goal, steps, ..] = numbers;
+        Self {
+            objects: take(&mut rest, objects).to_vec(),
+            starts: (0..starts).map(|_| state(&mut rest)).collect(),
+            goal: (0..goal).map(|_| (array::<1>(&mut rest)[0], array(&mut rest))).collect(),
+            steps: (0..steps).map(|_| array(&mut rest)).collect(),
         }
     }
 }
@@ -58,7 +77,8 @@ fn take<'a>(rest: &mut &'a [u8], count: usize) -> &'a [u8] {
 mod tests {
     use crate::calls::Form;
     use crate::gen::hall::{book, Dynamics};
-    use crate::gen::{BookDraft, Rng};
+    use crate::gen::plan::order;
+    use crate::gen::{BookDraft, OrderDraft, Rng};
 
     #[test]
     fn bytes_and_back() {
@@ -67,6 +87,8 @@ mod tests {
             let mut rng = Rng::new(seed as u64);
             let bytes = book::any_size(form, Dynamics::Random, &mut rng).1.bytes();
             assert_eq!(BookDraft::parse(&bytes, form).bytes(), bytes);
+            let bytes = order::draw(&mut rng).order.bytes();
+            assert_eq!(OrderDraft::parse(&bytes).bytes(), bytes);
         }
     }
 }

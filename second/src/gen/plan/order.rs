@@ -23,6 +23,16 @@ pub fn draw(rng: &mut Rng) -> Plan {
     Plan { book: world.book, order }
 }
 
+/// Draws until a plan has steps, and keeps one without in 15 of 100 cases.
+pub(super) fn with_steps(draw: impl Fn(&mut Rng) -> Plan, rng: &mut Rng) -> Plan {
+    loop {
+        let plan = draw(rng);
+        if !plan.order.steps.is_empty() || rng.chance(15) {
+            return plan;
+        }
+    }
+}
+
 /// An order that is filed, lived through or made up.
 pub fn for_world(world: &World, shape: &Shape, rng: &mut Rng) -> OrderDraft {
     let mut record = match rng.below(100) {

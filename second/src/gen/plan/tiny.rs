@@ -11,12 +11,7 @@ const SHAPE: Shape =
 /// A book with few lifted atoms and an order for it, with steps in most cases;
 /// some books are impossible.
 pub fn draw(rng: &mut Rng) -> Plan {
-    loop {
-        let plan = draw_any(rng);
-        if !plan.order.steps.is_empty() || rng.chance(15) {
-            return plan;
-        }
-    }
+    order::with_steps(draw_any, rng)
 }
 
 fn draw_any(rng: &mut Rng) -> Plan {
@@ -48,7 +43,7 @@ pub(super) fn few_atoms(book: &BookDraft, rng: &mut Rng) -> bool {
 }
 
 /// The lifted atoms of the move that has most of them.
-pub(super) fn most_atoms(book: &BookDraft) -> usize {
+pub fn most_atoms(book: &BookDraft) -> usize {
     let count = |entry: &[u8; 6]| -> usize {
         let kinds = &entry[1..=usize::from(entry[0])];
         let fillers = |place: u8| book.fillers(kinds, place).len();
