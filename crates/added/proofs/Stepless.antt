@@ -1,4 +1,4 @@
--- A record without steps is turned back: of the new book's rows before 24 none is met.
+-- A record without steps is refused with 24: no row before 24 is met by the new book.
 use Prim.Native.Nat.{ℕ, _+_, _≤_}
 use mathlib.Core.Path.{_≡_, _∙_}
 use mathlib.Core.Bool.{false}

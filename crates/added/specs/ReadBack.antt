@@ -42,7 +42,7 @@ pub record ReadBack (form : Form) (s r : List ℕ) (n : ℕ) : Type 0 where
 abbrev pub AddedIsReadBack : Type 0
 AddedIsReadBack = (form : Form) (s r : List ℕ) (size n : ℕ) → add form s r size ≡ Good n → ReadBack form s r n
 
--- what a call's lent output holds afterwards: the new book and then its own bytes, or what it held
+-- the lent output after a success: the new book, and behind it the bytes that the output had there; after a refusal all its bytes are as before
 pub record NewBookStored (form : Form) (s r out : List ℕ) (n : ℕ) : Type 0 where
   pub book : take n (addBytes form s r out) ≡ added s r
   pub beyond : drop n (addBytes form s r out) ≡ drop n out

@@ -1,4 +1,4 @@
--- A record without steps is turned back where it would stand, whatever else is wrong behind its head.
+-- A record without steps is refused with 24 at the offset where it would stand in the new book, whatever is wrong behind its head.
 use Prim.Native.Nat.{ℕ, _+_, _≤_, _<_}
 use mathlib.Core.Path.{_≡_}
 use mathlib.Core.Bool.{false}

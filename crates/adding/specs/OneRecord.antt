@@ -1,4 +1,5 @@
--- Looking over the new book, where the old one is of good form: of its rows only the record count and the record after the old book can be met.
+-- Looking over the new book, where the old one is of good form: it can be refused only for its record count (row 2), by the rows of the record that
+-- was added, and for bytes left behind that record.
 use Prim.Native.Nat.{ℕ, _+_, _≤_}
 use mathlib.Core.Path.{_≡_}
 use mathlib.Core.List.{List}

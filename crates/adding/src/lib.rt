@@ -14,7 +14,8 @@ const COUNT_AT: usize = 6;
 
 const END_AT: usize = 14;
 
-// Memory is cleared before the new book is formed in it. A book and a record of up to this length get less of it than the longest would need.
+// Memory is cleared before the new book is formed in it, which takes time. A book and a record, each of up to this length, get memory of twice this
+// length; all others get memory for the longest book.
 const SMALL: usize = 4096;
 
 // The new book: the old one with the record after it, record count and end renewed.
@@ -29,7 +30,8 @@ fn form(new: &mut [u8], book: &[u8], bytes: &[u8])
     output::write_two(new, END_AT, book.len() + bytes.len());
 }
 
-// How many bytes a book leaves. The new length is tested by this difference: a sum would wrap for a length that no memory has, such as -1 in C.
+// How many bytes may follow a book up to the greatest length. The new length is tested by this difference: a sum would wrap for a length that no
+// memory has, such as -1 in C.
 fn room_behind(book: &[u8]) -> usize
     requires { ⌜ length (now book) ≤ maxLength ⌝ }
     ensures { λ r. ⌜ length (now (book .entry)) + r ≡ maxLength ⌝ }

@@ -8,7 +8,7 @@ use Rattle.answer.specs.declared.Answer.the-variants.{Good, Refused}
 use Rattle.answer.specs.Answer.{_>>=_, refuse, number, place, maxNumber}
 use Rattle.answer.specs.Walk.{walk}
 
--- a number that can be packed, places up to `size`; what is good counts as a place
+-- the number of a refusal can be packed, and its place is at most `size`; the number of a good answer is a place too
 unfoldable pub Bounded : ℕ → Answer → Type 0
 Bounded size (Good n) = n ≤ size
 Bounded size (Refused k p) = (k ≤ maxNumber) × (p ≤ size)

@@ -21,7 +21,7 @@ unfolding isRefused _>>=_
 stays (Good n) k e = clash false e refl
 stays (Refused n p) k e = refl
 
--- what is good is followed by what follows
+-- after a good answer the answer is what follows, asked with its number
 pub follows : (a : Answer) (k : ℕ → Answer) → isRefused a ≡ false → k (valueOf a) ≡ (a >>= k)
 unfolding isRefused valueOf _>>=_
 follows (Good n) k e = refl
@@ -35,7 +35,7 @@ pub bind-refused : (a : Answer) (k : ℕ → Answer) (n p : ℕ) → a ≡ Refus
 unfolding _>>=_
 bind-refused a k n p e = rw e
 
--- nothing follows, or what follows has two parts, or may be told another way
+-- where nothing follows; where what follows has two parts; and where what follows is replaced by something equal
 pub bind-unit : (a : Answer) → (a >>= λ n. Good n) ≡ a
 unfolding _>>=_
 bind-unit (Good n) = refl

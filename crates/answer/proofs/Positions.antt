@@ -14,7 +14,7 @@ unfolding isRefused thenAt
 then-refused (Good n) r e = clash false e refl
 then-refused (Refused n p) r e = refl
 
--- what is good is followed by what follows
+-- after a good answer the answer is the one that follows
 pub then-by : (a : Answer) (r : Positioned) (n : ℕ) → a ≡ Good n → thenAt a r ≡ r
 unfolding thenAt
 then-by a r n e = rw e

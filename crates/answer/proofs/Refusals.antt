@@ -36,7 +36,7 @@ row-cases false m q k n p e f g = g refl e
 
 -- ---- where in the table an answer is met
 
--- what is met from a row on is met from any row before it on
+-- if every refusal of an answer is met at the row of n or later, and the row of m is no later, then each is met at the row of m or later
 pub from-earlier : (m n : ℕ) (a : Answer) → upTo m n ≡ true → MetFrom n a → MetFrom m a
 unfolding upTo
 from-earlier m n a h from num p e =
@@ -78,7 +78,7 @@ among-every test (n ∷ ns) num all e = go (or-out (eqb n num) (among ns num) e)
     go (inl h) rest = subst (λ (k : ℕ). test k ≡ true) (eqb-true n num h) (and-out (test n) _ all .0)
     go (inr h) rest = rest h
 
--- what is met from row 13 on does not say that no model fits, and neither does success
+-- the numbers that say that no model fits stand before 13 in the table, and 0, the number of success, is none of them
 pub impossible-early : (num : ℕ) → isImpossible num ≡ true → not (upTo 13 num) ≡ true
 unfolding table rowFrom row upTo impossibleRows isImpossible every
 impossible-early num e = among-every (λ n. not (upTo 13 n)) impossibleRows num refl e

@@ -29,7 +29,8 @@ module _ (item : ℕ → Answer) where
   unfolding walk
   walk-parted n at last e = parted (item at) last _ e
 
-  -- A property of (items left, offset, end) holds of a good walk if it holds where none is left, and goes back over one good item.
+  -- Induction: a property of (items left, offset, end) holds of a good walk if it holds where no item is left, and holds before a good item whenever
+  -- it holds behind that item.
   pub walk-induction : (Q : ℕ → ℕ → ℕ → Type 0) → ((at : ℕ) → Q 0 at at)
       → ((n at next last : ℕ) → item at ≡ Good next → Q n next last → Q (suc n) at last)
       → (n at last : ℕ) → walk item n at ≡ Good last → Q n at last
@@ -48,7 +49,8 @@ module _ (item : ℕ → Answer) where
       walk-induction (λ n at last. walk item (suc n) at ≡ item last) (λ at. bind-unit (item at))
       (λ n at next last good rest. bind-good _ _ _ good ∙ rest)
 
--- a walk whose items, where they end by `most`, are good in another walk too, at offsets that are related
+-- Two walks side by side: for each good item of the first that ends by `most` the second has a good item at a related offset, and where the two items
+-- end is related again. Then for a good walk of the first that ends by `most` the second has a good walk.
 pub walk-beside : (f g : ℕ → Answer) (R : ℕ → ℕ → Type 0) (most : ℕ)
     → ((at next : ℕ) → f at ≡ Good next → at ≤ next)
     → ((a b next : ℕ) → R a b → next ≤ most → f a ≡ Good next → (m : ℕ) × R next m × (g b ≡ Good m))

@@ -7,7 +7,7 @@ use Rattle.answer.specs.declared.Answer.the-variants.{Good, Refused}
 use Rattle.answer.specs.declared.Positioned.{Positioned}
 
 infixl 20 _>>=_
--- what follows, if nothing is refused before it
+-- an answer and what follows it: a refusal is the answer of both; else the answer is what follows, asked with the number that is good
 unfoldable pub _>>=_ : Answer → (ℕ → Answer) → Answer
 Good n >>= k = k n
 Refused n p >>= k = Refused n p
@@ -46,7 +46,7 @@ place (Refused n p) = p
 unfoldable pub unpositioned : Answer → Positioned
 unpositioned a = record { answer = a; position = 0 }
 
--- what follows has a position, if nothing is refused before it
+-- an answer about no start, and then one with a position: a refusal of the first is the answer, with position 0; else the second is the answer
 unfoldable pub thenAt : Answer → Positioned → Positioned
 thenAt (Good n) r = r
 thenAt (Refused n p) r = unpositioned (Refused n p)

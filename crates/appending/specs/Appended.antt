@@ -5,7 +5,7 @@ use mathlib.Core.List.{List, _++_}
 use lib.ListN.{length, take}
 use Rattle.limits.specs.Limits.{maxLength}
 
--- the offset of a book that has passed its end, however far
+-- the offset that stands for a book that would be longer than the longest, by however much
 abbrev pub pastEnd : ℕ
 pastEnd = maxLength + 1
 
@@ -15,7 +15,7 @@ pub record Appended (bytes : List ℕ) (w : ℕ) (old new : List ℕ) (r : ℕ) 
   pub fits : r ≤ maxLength → (r ≡ w + length bytes) × (take r new ≡ take w old ++ bytes)
   pub over : maxLength < r → (r ≡ pastEnd) × (maxLength < w + length bytes)
 
--- all bytes of `whole` were, but for those of `rest` at its end
+-- the bytes of `whole` were appended, but for those of `rest` at its end
 pub record AllBut (rest whole : List ℕ) (w : ℕ) (old new : List ℕ) (r : ℕ) : Type 0 where
   pub front : List ℕ
   pub split : front ++ rest ≡ whole

@@ -9,10 +9,10 @@ ghost use Rattle.limits.specs.Limits.{maxLength};
 ghost use Rattle.jobs.specs.Convert.{factsBytes};
 ghost use Rattle.appending.specs.Appended.{pastEnd, Appended};
 
-// The offset of a book that has passed its end, however far: nothing more is written.
+// The offset that stands for a book that would be longer than the longest, by however much: nothing more is written.
 const PAST_END: usize = limits::MAX_LENGTH + 1;
 
-// From the offset `w` on, which the new book has reached; where the bytes end is returned.
+// Appends the bytes at the offset `w`, which the new book has reached, and returns the offset behind them.
 pub fn append(new: &mut [u8], w: usize, bytes: &[u8]) -> usize
     requires { ⌜ (length (now new) ≡ maxLength) × (w ≤ pastEnd) ⌝ }
     ensures { λ r. ⌜ Appended (now (bytes .entry)) w (now (new .entry)) (now (new .exit)) r ⌝ }

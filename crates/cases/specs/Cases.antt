@@ -1,5 +1,6 @@
--- The marked cases of the paper and its limits, and cases of kinds under kinds, of several starts, of short books, of adding, of records without steps and
--- of records in another sequence, as one list of what the definitions give and what the paper says. proofs/Cases.antt has the one theorem that covers it.
+-- The marked cases of the paper and its limits, and cases of kinds under kinds, of several starts, of short books, of adding, of records without
+-- steps, of records in another sequence, of each start alone and of the facts that an end sheet shows, as one list of what the definitions give and
+-- what the paper says. proofs/Cases.antt has the one theorem that covers it.
 use mathlib.Core.Path.{_≡_}
 use mathlib.Core.List.{List, [], _∷_, _++_}
 use Rattle.cases.specs.Marked.{Case, marked}

@@ -28,8 +28,8 @@ wagons = under 3 (0 ∷ 0 ∷ 1 ∷ []) 1 3
 abbrev belowWagons : List ℕ
 belowWagons = under 4 (0 ∷ 0 ∷ 1 ∷ 3 ∷ []) 1 4
 
--- a wagon is a bank, and relation 3 says of a wagon that it is coupled: object 1 is when the roll begins, and the book is told what the last
--- state says of it, and the kind of object 1
+-- A wagon is a bank, and relation 3 says of a wagon that it is coupled. Object 1 is coupled before the roll. The arguments are the kind of object 1,
+-- and the facts of relation 3 that are listed after the roll.
 abbrev coupled : ℕ → List ℕ → List ℕ
 coupled kind last =
     (0x00 ∷ 0x03 ∷ 0x00 ∷ 0x03 ∷ 0x00 ∷ 0x01 ∷ 0x00 ∷ 0x01 ∷ 0x00 ∷ 0x13 ∷ 0x00 ∷ 0x1f ∷ 0x00 ∷ 0x25 ∷ 0x00 ∷ (0x44 + length last) ∷ [])
@@ -54,9 +54,10 @@ rules =
 abbrev pub lentRules : List ℕ
 lentRules = replicate ruleSize 0xff
 
--- kinds under kinds: parents of 0 change nothing; a wagon rolls as a bank does, and only if it lies below one; a move over wagons has bound
--- facts over banks, and no bank makes it; a fact of wagons alone is no bank's, and no bound fact of a roll of banks: a roll may not change it
--- and does not need it; then a parent as large as its kind, and an offset that has no room for the parents
+-- kinds under kinds: parents of 0 change nothing; a wagon rolls as a bank does, and only if its kind lies below the bank's; a move whose parameter is
+-- a wagon has bound facts of relations over banks, and a step of it with a bank is refused; a fact of a relation over wagons is wrong for a bank, and
+-- is no bound fact of a move whose parameter is a bank, so that a roll may not change it and does not need it; then a parent as large as its kind,
+-- and an offset of the relations that has room for one parent of two
 abbrev pub kindsUnder : List Case
 kindsUnder =
     record { gives = learnBytes full book lentRules; wanted = rules }

@@ -24,7 +24,7 @@ book =
     ∷ 0x02 ∷ 0x00 ∷ 0x02 ∷ 0x01 ∷ 0x01 ∷ 0x02 ∷ 0x02 ∷ 0x03 ∷ 0x00 ∷ 0x01 ∷ 0x01 ∷ 0x02
     ∷ 0x03 ∷ 0x00 ∷ 0x00 ∷ 0x02 ∷ 0x01 ∷ 0x01 ∷ 0x03 ∷ 0x02 ∷ 0x02 ∷ 0x00 ∷ []
 
--- the small hall with so many records, which are the bytes given, at most 225 of them, in place of its own
+-- the small hall with other records in place of its own: how many they are, and their bytes, of which there are at most 225
 abbrev pub hallOf : ℕ → List ℕ → List ℕ
 hallOf count records =
     (0x00 ∷ 0x02 ∷ 0x00 ∷ 0x02 ∷ 0x00 ∷ 0x01 ∷ 0x00 ∷ count ∷ 0x00 ∷ 0x10 ∷ 0x00 ∷ 0x18 ∷ 0x00 ∷ 0x1e ∷ 0x00 ∷ (0x1e + length records) ∷ [])
@@ -138,7 +138,7 @@ valuesFrom (r ∷ rs) fs = valuesAt r fs ++ valuesFrom rs fs
 abbrev pub lent : List ℕ
 lent = replicate endSheetSize 0xff
 
--- so many facts of a relation over a number of objects: a pair for each n from `from` on
+-- the bytes of a number of facts of a relation with two places: for each n from `from` on the pair of objects n / objects + 1 and n % objects + 1
 abbrev pub pairs : ℕ → ℕ → ℕ → ℕ → List ℕ
 pairs relation objects zero from = []
 pairs relation objects (suc left) from = relation ∷ (from / objects + 1) ∷ (from % objects + 1) ∷ pairs relation objects left (suc from)

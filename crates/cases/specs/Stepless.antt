@@ -29,7 +29,7 @@ unstepped = nothing 15 1
 abbrev uncounted : List ℕ
 uncounted = 0x03 ∷ 0x00 ∷ drop 32 book
 
--- the small hall with that record behind its own
+-- the small hall with the record `unstepped` behind its own
 abbrev stepped : List ℕ
 stepped = take 6 book ++ (0x00 ∷ 0x02 ∷ take 6 (drop 8 book)) ++ (0x00 ∷ 0x49 ∷ drop 16 book) ++ unstepped
 

@@ -25,7 +25,7 @@ pub record Says (a : Answer) (position r : ℕ) : Type 0 where
   pub position-read : r / 4294967296 % 65536 ≡ position
   pub place-read : r % 4294967296 ≡ place a
 
--- the form of a book, by the number that tells a call: 0 for a full book, any other for a short one
+-- the form of a book, by the number that a call is given: 0 for a full book, any other for a short one
 unfoldable pub formOf : ℕ → Form
 formOf n = not (eqb n 0)
 

@@ -1,4 +1,5 @@
--- For a book that learns, masks by its rule sheet come to what a plan comes to under the learned model: of any right steps, then of an order of good form.
+-- For a book that learning does not refuse, a plan executed over masks by the rule sheet comes to what it comes to under the learned model: a plan of
+-- any right steps, then that of an order of good form.
 use Prim.Native.Nat.{ℕ, zero, suc, _+_, _*_, _≤_, _<_}
 use mathlib.Core.Path.{_≡_, sym, _∙_}
 use mathlib.Core.Bool.{true, false}

@@ -1,4 +1,5 @@
--- A rendered list of facts that suit and stand in order is of good form where it stands (row 8 is not met), if it is not too long and ends in time.
+-- A rendered list of facts that suit and stand in order is of good form where it stands (row 8 is not met), if it is not too long and ends within the
+-- record.
 use Prim.Native.Nat.{ℕ, _+_, _*_, _≤_, _<_}
 use mathlib.Core.Path.{_≡_, ap, _∙_}
 use mathlib.Core.Bool.{false}

@@ -31,7 +31,7 @@ use Rattle.converted.proofs.Rendered.{length-filedStepBytes, list-read,
 use Rattle.converted.proofs.Listed.{most-told, listed-suits, listed-increasing, listed-few, listed-after}
 use Rattle.converted.proofs.Lists.{list-in}
 
--- places apart, bytes do not tell recorded steps from others
+-- the bytes that recorded steps are rendered as do not depend on the places of the steps
 pub bytes-unplaced : (to : Form) (fs : List RecordedStep) → stepsBytes to (placedBy (λ p. 0) fs) ≡ stepsBytes to fs
 unfolding stepsBytes filedStepBytes placedBy placedAt listed
 bytes-unplaced to [] = refl

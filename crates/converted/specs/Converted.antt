@@ -1,5 +1,5 @@
 -- What converting a book promises. `s` is a book of good form, read in `form`, and `converted (not form) s` is the same book in the other form. Each
--- promise is for both forms, so it is for either way. Where the new book would pass 60,000 bytes the job refuses, and nothing is said of it.
+-- promise is for both forms, and so for both directions. Where the new book would pass 60,000 bytes the job refuses, and nothing is said of it.
 use Prim.Native.Nat.{ℕ, _≤_, _<_}
 use mathlib.Core.Path.{_≡_}
 use mathlib.Core.Logic.{_↔_}
@@ -75,7 +75,7 @@ abbrev pub BackSucceeds : Type 0
 BackSucceeds = (form : Form) (s : List ℕ) (n : ℕ) → lookOver form s ≡ Good n → length (converted (not form) s) ≤ maxLength
     → (size : ℕ) → length s ≤ size → convert form (converted (not form) s) size ≡ Good (length s)
 
--- what a call's lent output holds after a success: the new book and then its own bytes
+-- the lent output after a success: the new book, and behind it the bytes that the output had there
 pub record Stored (to : Form) (s out : List ℕ) (m : ℕ) : Type 0 where
   pub book : take m (convertBytes to s out) ≡ converted to s
   pub beyond : drop m (convertBytes to s out) ≡ drop m out
@@ -84,6 +84,6 @@ pub record Stored (to : Form) (s out : List ℕ) (m : ℕ) : Type 0 where
 abbrev pub ConvertedIsStored : Type 0
 ConvertedIsStored = (to : Form) (s out : List ℕ) (m : ℕ) → convert to s (length out) ≡ Good m → Stored to s out m
 
--- and after a refusal what it held
+-- after a refusal all bytes of the lent output are as before
 abbrev pub RefusedIsUntouched : Type 0
 RefusedIsUntouched = (to : Form) (s out : List ℕ) (k p : ℕ) → convert to s (length out) ≡ Refused k p → convertBytes to s out ≡ out

@@ -1,4 +1,5 @@
--- Demand 2: each bit of the rule sheet is what every fitting model says of it, and what the recorded steps show of it.
+-- Demand 2: each bit of the rule sheet, said by the models that fit the book (a need is set if some of them has it, an effect if all of them have
+-- it), and by the recorded steps.
 -- The models are those that the judge holds (`FitsBook` of jobs/specs/Judge.antt); `ruleSheet` is what learning writes.
 use Prim.Native.Nat.{ℕ, _*_, _≤_, _<_}
 use mathlib.Core.Path.{_≡_}
@@ -64,7 +65,7 @@ pub record SheetRight (form : Form) (s : List ℕ) : Type 0 where
 pub record LearningRight (form : Form) (s : List ℕ) : Type 0 where
   -- It is refused with 11 or 12 exactly if no model fits it, whatever lent sheet comes with it.
   pub refused : (size : ℕ) → Impossible (learn form s size) ↔ NoneFits form s
-  -- Of a book that is not, the sheet is the bound of all models that fit.
+  -- If it is not refused, its rule sheet is right.
   pub learned : (total : ℕ) → learnable form s ≡ Good total → SheetRight form s
 
 -- Demand 2, of every book of good form

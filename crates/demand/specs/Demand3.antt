@@ -74,8 +74,8 @@ pub record JudgeAgrees (form : Form) (s : List ℕ) : Type 0 where
       → (lent : List ℕ) → length lent ≡ endSheetSize → Shows (checkBytes form s o lent) end
   -- With more than one start the lent end sheet is left as it was.
   pub unwritten : (o : List ℕ) (first second : State) (rest : List State) → startStates o ≡ first ∷ second ∷ rest → (lent : List ℕ) → checkBytes form s o lent ≡ lent
-  -- An order of good form has a start. The judge has a verdict on each of its starts, and only one: so the lines above do not hold for want
-  -- of a start or of a verdict.
+  -- An order of good form has a start. The judge has a verdict on each of its starts, and only one: so the lines above are not true merely because
+  -- there is no start or no verdict.
   pub starts : (o : List ℕ) (n : ℕ) → orderForm (schemaOf s) o ≡ Good n → (1 ≤ length (startStates o)) × (length (startStates o) ≤ maxStarts)
   pub some : (o : List ℕ) (n : ℕ) → orderForm (schemaOf s) o ≡ Good n → (start : State) → (v : Verdict) × StartVerdict form s o start v
   pub one : (o : List ℕ) (start : State) (v w : Verdict) → StartVerdict form s o start v → StartVerdict form s o start w → v ≡ w

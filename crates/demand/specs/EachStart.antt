@@ -17,7 +17,7 @@ use Rattle.jobs.specs.Alone.{alone}
 
 -- of an order of good form
 pub record EachStart (form : Form) (s o : List ℕ) : Type 0 where
-  -- Each of these orders has one start, the order's in their sequence, and the order's objects, goal and plan; and it is of good form.
+  -- Each of these orders has one start and the order's objects, goal and plan, and is of good form; their starts, in sequence, are the order's.
   pub one : map starts (alone o) ≡ map (λ start. start ∷ []) (starts o)
   pub objects : (p : List ℕ) → Mem p (alone o)
       → (objectCount p ≡ objectCount o) × ((i : ℕ) → i < objectCount o → byteAt p (headerSize + i) ≡ byteAt o (headerSize + i))

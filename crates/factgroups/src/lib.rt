@@ -20,7 +20,7 @@ fn word(low: u8, high: u8) -> u16
     low as u16 + 256 * high as u16
 }
 
-// Sixteen numbers of a mask, from those of a byte on.
+// The sixteen bits of a mask from the byte at an index on.
 pub fn word_at(m: &[u8], at: usize) -> u16
     requires { ⌜ at + 2 ≤ length (now m) ⌝ }
     ensures { λ r. ⌜ (r ≡ number (testBit (now (m .entry))) (8 * at) atomsPerRelation) × Bytes (now (m .entry)) ⌝ }

@@ -49,10 +49,10 @@ recordedSteps form h s = stepsOfRecords form s (h .records .count) (h .records .
 unfoldable pub placedAt : ℕ → RecordedStep → RecordedStep
 placedAt at f = record { place = at; step = f .step; pre = f .pre; post = f .post }
 
--- each at the offset that its own is taken to
+-- each step at the offset that `to` makes of its own
 unfoldable pub placedBy : (ℕ → ℕ) → List RecordedStep → List RecordedStep
 placedBy to = map (λ f. placedAt (to (f .place)) f)
 
--- so many bytes further on
+-- each step k bytes further on
 unfoldable pub movedBy : ℕ → List RecordedStep → List RecordedStep
 movedBy k = placedBy (λ at. k + at)

@@ -23,8 +23,8 @@ countsBad h =
     || ltb maxMoves (h .moves .count)
     || ltb maxRecords (h .records .count)
 
--- the relations begin where the header ends, or behind a byte for each kind; the sections touch, the end is the length, and the records begin
--- at or before it
+-- one of these does not hold: the relations begin where the header ends, or behind a byte for each kind; the sections touch; the end is the length;
+-- the records begin at or before it
 unfoldable pub offsetsBad : Sections → ℕ → Bool
 offsetsBad h size =
     not (eqb (h .relations .at) headerSize || eqb (h .relations .at) (headerSize + h .kinds))
@@ -37,7 +37,7 @@ offsetsBad h size =
 unfoldable pub parentBad : List ℕ → ℕ → Bool
 parentBad s at = leb (at - headerSize + 1) (byteAt s at)
 
--- a kind byte of a relation or a move: a kind where it is used, 0 where it is not
+-- a kind byte of a relation or a move is wrong: it must be a kind where it is used, and 0 where it is not
 unfoldable pub kindBad : List ℕ → ℕ → ℕ → Bool → Bool
 kindBad s kinds i used = used && outOfRange kinds (byteAt s i) || not used && not (eqb (byteAt s i) 0)
 

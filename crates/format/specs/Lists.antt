@@ -1,4 +1,4 @@
--- A list of facts as bytes, a count and then its facts: what it reads as, and where it ends. A state lists the facts that hold.
+-- A list of facts as bytes, a count and then its facts: what it reads as, and where it ends. What a list after a step says of the state, Form has.
 -- Decoding is total, and means something where the list is of good form (States).
 use Prim.Native.Nat.{ℕ, zero, suc, _+_, _*_}
 use mathlib.Core.List.{List, [], _∷_}

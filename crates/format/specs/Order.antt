@@ -57,7 +57,7 @@ orderOffsetsBad o =
     || not (eqb (two o 14) (stepsAt o))
     || not (eqb (length o) (stepsAt o + stepSize * stepCount o))
 
--- rows 14 and 22: where the objects begin is good
+-- rows 14 and 22; a good answer says where the objects begin
 unfoldable pub orderHeader : List ℕ → Answer
 orderHeader o = do
   _ ← refuse (orderCountsBad o) 14 0
@@ -112,7 +112,7 @@ fromStart sch ob o = do
   _ ← startsForm sch ob o
   fromGoal sch ob o
 
--- rows 14 to 18; the end of the order is good
+-- rows 14 to 18; a good answer says where the order ends
 unfoldable pub orderForm : Schema → List ℕ → Answer
 orderForm sch o = do
   _ ← orderHeader o

@@ -14,7 +14,7 @@ unfoldable pub recordsAt : List ℕ → ℕ → ℕ → List (List ℕ)
 recordsAt s zero at = []
 recordsAt s (suc n) at = recordPart s at ∷ recordsAt s n (at + lengthIn s at)
 
--- where the record behind so many stands
+-- where the record stands that comes n records after the one at an offset
 unfoldable pub offsetAfter : List ℕ → ℕ → ℕ → ℕ
 offsetAfter s zero at = at
 offsetAfter s (suc n) at = offsetAfter s n (at + lengthIn s at)

@@ -79,7 +79,7 @@ trajectory form sch ob s end n at = do
   next ← state (filedFact form) 8 sch ob s end at
   steps form sch ob s end n (listAt s at) next
 
--- the record at an offset, after what its trajectory answers: no bytes are left
+-- what the record from `at` to `end` answers, if its trajectory answers a: row 6 where bytes are left behind the trajectory
 unfoldable pub closed : (at end : ℕ) → Answer → Answer
 closed at end a = do
   last ← a

@@ -46,7 +46,7 @@ list read num most sch ob s end at = do
 abbrev pub state : (read : Fact → Fact) (num : ℕ) (sch : Schema) (ob : TypedObjects) (s : List ℕ) (end at : ℕ) → Answer
 state read num sch ob s end at = list read num maxFacts sch ob s end at
 
--- a state after a step: its list, and at the list's count that it leaves no more facts than a state may have
+-- a state after a step: its list; then, if more facts hold than a state may have, it is refused at the offset of the list's count
 unfoldable pub nextState : (form : Form) (sch : Schema) (ob : TypedObjects) (s : List ℕ) (end : ℕ) (before : List Fact) (at : ℕ) → Answer
 nextState form sch ob s end before at = do
   next ← list (filedFact form) 8 (mostListed form) sch ob s end at

@@ -30,14 +30,14 @@ indices b =
 
 -- ---- a relation's bound facts
 
--- the facts of a placement, by these columns, are those that a relation's bound facts become under a binding, n being the first of them; a table of
--- the objects has the columns
+-- The placement p with the columns ys stands for the facts that a relation's sixteen bound facts, from n on, become under the binding b; and a table
+-- of the objects xs has these columns.
 pub record Grounds (sch : Schema) (b : Binding) (xs : List ℕ) (n : ℕ) (p : Placement) (ys : List ℕ) : Type 0 where
   pub small : Indices ys
   pub right : (t : List ℕ) → Tables t xs → Tabled t (p .at) ys
   pub is : (j : ℕ) → j < atomsPerRelation → facts p ys j ≡ ground sch b (n + j)
 
--- they are so for every binding of these objects
+-- the placement p is right for every binding that has the objects xs
 pub record Placed (sch : Schema) (xs : List ℕ) (n : ℕ) (p : Placement) : Type 0 where
   pub within : Within p
   pub grounds : (b : Binding) → Bounded b → xs ≡ indices b → (ys : List ℕ) × Grounds sch b xs n p ys

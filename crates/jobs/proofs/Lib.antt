@@ -1,5 +1,5 @@
--- Laws of the definitions in specs/: the rule sheet of a model and what its bits say, in Sheet; a row over a list, in FirstRefused; the starts of an
--- order, in Starts; the bytes of a recorded step, in Bytes.
+-- Laws of the definitions in specs/: the rule sheet that rules give and what its bits say, in Sheet; a row over a list, in FirstRefused; the starts
+-- of an order, in Starts; the bytes of a recorded step, in Bytes.
 pub mod Sheet
 pub mod FirstRefused
 pub mod Starts

@@ -12,7 +12,7 @@ use Rattle.jobs.specs.Planning.{domain, schemaOf, transitionsOf, planOf,
 abbrev pub FitsBook : Form → List ℕ → Model → Type 0
 FitsBook form s M = Consistent (domain (schemaOf s)) (transitionsOf form s) M
 
--- his verdict on a plan from a start on, with a goal, wherever these stand
+-- his verdict on any plan, from any state, with any goal
 abbrev pub BookVerdict : Form → List ℕ → State → List GroundAction → List GoalLiteral → Verdict → Type 0
 BookVerdict form s start plan goal v = Judged (domain (schemaOf s)) (FitsBook form s) plan start goal v
 

@@ -48,7 +48,7 @@ learnable form s = do
 unfoldable pub ruleBlock : Rules → ℕ → List ℕ
 ruleBlock R a = maskOf setSize (R .needed a) ++ maskOf setSize (R .neededNot a) ++ maskOf setSize (R .added a) ++ maskOf setSize (R .removed a)
 
--- the blocks of a number of moves from one on
+-- the blocks of a number of moves, from move a on
 unfoldable pub ruleBlocks : Rules → ℕ → ℕ → List ℕ
 ruleBlocks R zero a = []
 ruleBlocks R (suc n) a = ruleBlock R a ++ ruleBlocks R n (suc a)
@@ -63,7 +63,7 @@ learnedFrom form s = learned (domain (schemaOf s)) (transitionsOf form s)
 unfoldable pub ruleSheet : Form → List ℕ → List ℕ
 ruleSheet form s = ruleBlocks (rulesFrom form s) (schemaOf s .moves) 1
 
--- what a call learns into a sheet of so many bytes
+-- rows 1 to 13, for a lent sheet of `size` bytes; success is the count of all steps
 unfoldable pub learn : Form → List ℕ → ℕ → Answer
 learn form s size = do
   total ← learnable form s

@@ -16,7 +16,7 @@ use Rattle.jobs.specs.Planning.{schemaOf}
 use Rattle.jobs.specs.Learn.{learnable, rulesFrom}
 use Rattle.jobs.specs.Check.{check}
 
--- decimal digits of a number before what follows, the fuel being more than there are
+-- the decimal digits of n, and then `rest`. The fuel, from which the recursion counts down, is at least the number of digits
 unfoldable pub digits : ℕ → ℕ → List ℕ → List ℕ
 digits zero n rest = rest
 digits (suc fuel) n rest = elim (n / 10) [ zero ↦ (48 + n) ∷ rest | suc m ↦ digits fuel (suc m) ((48 + n % 10) ∷ rest) ]

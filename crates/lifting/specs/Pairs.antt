@@ -13,20 +13,20 @@ use Rattle.terms.specs.declared.Fact.{Fact}
 use Rattle.terms.specs.Steps.{objectOf}
 use Rattle.observed.specs.Inverse.{paramOf, placeBound, factBound}
 
--- What an object adds to a bound fact's number in the second place: the object's parameter, counted from 0, and nothing in an unused place.
--- The number of pairs of parameters where no parameter has the object.
+-- What an object in the second place adds to a bound fact's number: the number of its parameter, counted from 0; nothing in an unused place. Where no
+-- parameter has the object it is 16, the number of pairs of parameters, so that the sum is no bound fact's.
 unfoldable pub digit : Binding → Object → ℕ
 digit b x = cond (placeBound b x) (paramOf b x - 1) atomsPerRelation
 
--- the number of the pair of parameters in both places, below that number where both are the binding's
+-- what the objects in both places add: the number of the pair of their parameters, which is under 16; or 16 and more where an object has no parameter
 unfoldable pub placesOf : Binding → Fact → ℕ
 placesOf b f = 4 * digit b (f .first) + digit b (f .second)
 
--- the same of a bound fact, and that number of any other fact
+-- that number for a fact that is a bound fact of the step, and 16 for any other fact
 unfoldable pub pairOf : List ℕ → Binding → Fact → ℕ
 pairOf atoms b f = cond (factBound atoms b f) (placesOf b f) atomsPerRelation
 
--- what is made of a set at the bound fact that a fact is by its pair, if it is one
+-- a set changed by `make` at the bound fact whose number the relation of f and `pair` give; unchanged if `pair` says that f is no bound fact
 unfoldable pub atPair : (List ℕ → ℕ → List ℕ) → List ℕ → Fact → ℕ → List ℕ
 atPair make m f pair = cond (leb atomsPerRelation pair) m (make m (atomsPerRelation * (f .relation .0 - 1) + pair))
 

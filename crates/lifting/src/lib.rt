@@ -92,7 +92,7 @@ pub fn pair(t: &[u8], atoms: &[u8], b: Binding, f: Fact) -> usize
     UNBOUND
 }
 
-// Marks the bound fact that the fact `f` is by its pair.
+// Puts into a set the bound fact whose number the relation of `f` and `pair` give; nothing if `pair` says that `f` is no bound fact.
 pub fn mark(m: &mut [u8], f: Fact, pair: usize)
     ensures { λ _. ⌜ now (m .exit) ≡ markedAs (now (m .entry)) f pair ⌝ }
 {
@@ -102,7 +102,7 @@ pub fn mark(m: &mut [u8], f: Fact, pair: usize)
     mask::set_bit(m, UNBOUND * terms::index(f.relation.0) + pair);
 }
 
-// Turns the bound fact that a fact is by its pair in a set of these.
+// Turns that bound fact in a set: it is put in where it was not in the set, and taken out where it was.
 pub fn turn_mark(after: &mut [u8], f: Fact, pair: usize)
     ensures { λ _. ⌜ now (after .exit) ≡ turnedAs (now (after .entry)) f pair ⌝ }
 {

@@ -107,7 +107,7 @@ observedSize = 7168
 abbrev pub maxHeld : ℕ
 maxHeld = 8192
 
--- ---- the numbers of bound facts and of facts: each is below the greatest, and a relation has so many
+-- ---- the numbers of bound facts, and of facts: how many there are in all, and how many a relation has
 
 abbrev pub maxAtoms : ℕ
 maxAtoms = 256
@@ -125,8 +125,8 @@ factsPerRelation = 256
 abbrev pub ruleBits : ℕ
 ruleBits = 1024
 
--- ---- ceilings of the offsets and counts that code adds to, so that no sum of them overflows: within the near one, a thing of any size that
--- two bytes count ends within the far one
+-- ---- ceilings of the offsets and counts that code adds to, so that no sum of them overflows: from an offset up to the near one, as many entries as
+-- two bytes can count end before the far one
 
 -- the largest number of two bytes
 abbrev pub maxTwo : ℕ

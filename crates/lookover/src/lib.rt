@@ -1,4 +1,4 @@
-// Looking over a book of either form: rows 1 to 10 of the refusal table, for any bytes; the count of all steps is good.
+// Looking over a book of either form: rows 1 to 10 of the refusal table, for any bytes; a good answer is the count of all steps.
 // Uses answer, terms, sections, records for a head and the book's tail, the reader of one record, and the definitions of format. Nothing is observed; learning has a walk
 // of its own (observerecords), which looks over and observes at once.
 use answer::Answer;
@@ -11,7 +11,7 @@ ghost use Rattle.terms.specs.Sections.{sectionsOf};
 ghost use Rattle.limits.specs.Limits.{maxLength, maxRecords, maxRelations};
 ghost use Rattle.format.specs.LookOver.{lookOver, allRecords};
 
-// A number of records, which end the book, walked once and in file order; the count of all steps is good.
+// A number of records, which end the book, walked once and in file order; a good answer is the count of all their steps.
 fn records(s: &[u8], short: bool, h: Sections, n: usize, from: usize) -> Answer
     requires { ⌜ (h .relations .count ≤ maxRelations) × (length (now s) ≤ maxLength) × (from ≤ maxLength) × (n ≤ maxRecords) ⌝ }
     ensures { λ r. ⌜ r ≡ allRecords short h (now (s .entry)) n from ⌝ }
@@ -35,7 +35,7 @@ fn records(s: &[u8], short: bool, h: Sections, n: usize, from: usize) -> Answer
     records::book_end(s, at, total)
 }
 
-// The record at an offset, which ends the book; the count of its steps is good.
+// The record at an offset, which ends the book; a good answer is the count of its steps.
 pub fn last_record(s: &[u8], short: bool, at: usize) -> Answer
     requires { ⌜ (length (now s) ≤ maxLength) × (at ≤ maxLength) × (sectionsOf (now s) .relations .count ≤ maxRelations) ⌝ }
     ensures { λ r. ⌜ r ≡ allRecords short (sectionsOf (now (s .entry))) (now (s .entry)) 1 at ⌝ }

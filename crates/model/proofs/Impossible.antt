@@ -1,4 +1,5 @@
--- Rows 11 and 12 are met exactly where no model is consistent; elsewhere a model is that explains each atom alone, the learned one among them.
+-- Row 11 or 12 is met exactly where no model is consistent. Elsewhere a model is consistent exactly if it is valid and explains what was seen at each
+-- atom; the learned model does.
 use Prim.Native.Nat.{ℕ}
 use mathlib.Core.Path.{_≡_, sym, _∙_}
 use mathlib.Core.Logic.{_⊎_, inl, inr, _↔_}

@@ -18,7 +18,7 @@ unfoldable pub judgedRun : List GoalLiteral → Run → Verdict
 judgedRun goal (stopped k) = stops k
 judgedRun goal (ended end) = reached end (first (wrong end) goal)
 
--- a check by one model: impossible where there is none to be had, else what the model's run comes to
+-- a check by one model L: impossible where `none` is true, which says that no model fits; else what the run under L comes to
 unfoldable pub checkedBy : Bool → Domain → Model → List GroundAction → State → List GoalLiteral → Verdict
 checkedBy none D L plan st goal = elim none [ true ↦ impossible | false ↦ judgedRun goal (run D L plan st 1) ]
 

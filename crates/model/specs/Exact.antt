@@ -1,4 +1,4 @@
--- When a check is exact: its verdict is the judge's, whichever models he holds. The row is the check's own test that there is none.
+-- When a check is exact: its verdict is the judge's, whichever models he holds. `none`, the row, is the check's own test that he holds none.
 use mathlib.Core.Path.{_≡_}
 use mathlib.Core.Logic.{_↔_}
 use mathlib.Core.Bool.{Bool, true}

@@ -28,8 +28,8 @@ pub record Rules : Type 0 where
   pub added : ℕ → ℕ → Bool
   pub removed : ℕ → ℕ → Bool
 
--- Needed to have the value that it never was without before the action; added or removed where it was seen to turn.
--- An action never seen so needs each of its atoms both ways, and has no effect.
+-- An atom is needed to have a value if it had that value before every transition of the action; it is added or removed if some transition turned it.
+-- So an action never seen needs each of its atoms both ways, and has no effect.
 unfoldable pub learnedRules : Domain → List Transition → Rules
 learnedRules D ts =
     record {

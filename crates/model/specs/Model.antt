@@ -23,7 +23,7 @@ pub record Valid (D : Domain) (M : Model) : Type 0 where
 unfoldable pub image : Domain → (ℕ → Bool) → GroundAction → State
 image D q s f = below (D .atoms) (λ n. q n && eqb (s .ground n) f)
 
--- the step is not applicable: an atom is needed to be what its fact is not
+-- the step is not applicable: some atom is needed to have the value that its fact does not have
 unfoldable pub inapplicable : Domain → Model → GroundAction → State → Bool
 inapplicable D M s st = below (D .atoms) (λ n. M .precondition (not (st (s .ground n))) (s .action) n)
 

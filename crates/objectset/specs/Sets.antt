@@ -12,7 +12,7 @@ use Rattle.objectset.specs.declared.Asked.{Asked}
 unfoldable pub member : ℕ → ℕ → Bool
 member m x = ltb x 32 && bitOf m (x % 32)
 
--- an object is in the set of which it is asked
+-- whether the object is in its set
 unfoldable pub isIn : Asked → Bool
 isIn a = member (a .set) (a .object)
 

@@ -5,7 +5,7 @@ ghost use mathlib.Core.Bool.{_&&_};
 ghost use Prim.Native.Nat.{_<_};
 ghost use Rattle.objectset.specs.Sets.{isIn, entry, put, stored};
 
-// An object, and the set of which it is asked whether the object is in it.
+// A question: whether the object is in the set.
 pub struct Asked {
     pub set: u32,
     pub object: u8,
@@ -19,7 +19,7 @@ pub fn two_in(a: Asked, b: Asked) -> bool
         & (((a.set >> (a.object % 32)) & (b.set >> (b.object % 32))) % 2 == 1)
 }
 
-// The same of four.
+// Whether each of four objects is in its set; their bits, too, are tested as one.
 pub fn four_in(a: Asked, b: Asked, c: Asked, d: Asked) -> bool
     ensures { λ r. ⌜ r ≡ ((isIn a && isIn b) && (isIn c && isIn d)) ⌝ }
 {

@@ -13,7 +13,8 @@ use Rattle.model.proofs.OneAction.{saw-append}
 use Rattle.observed.specs.Seen.{inSet}
 use Rattle.observed.proofs.Noted.{changed}
 
--- the sight that set k is about, and whether the set has what was seen or what was not
+-- `looks k` tests the values before and after a transition that set k is about; the set has the atoms for which that was seen, or those for which it
+-- was not (`reads k`)
 looks : ℕ → Bool → Bool → Bool
 looks zero x y = same false x
 looks (suc zero) x y = same true x

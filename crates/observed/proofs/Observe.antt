@@ -1,4 +1,4 @@
--- What is observed means what was seen: of nothing before any step, and after each step what it showed besides.
+-- The sets that are observed say what the transitions so far show: before any step those of no transition, and after each step those of one more.
 use Prim.Native.Nat.{ℕ, zero, suc, _+_, _*_, _/_, _%_, _≤_, _<_}
 use native.Mathlib.Decide.{ℕ-discrete}
 use native.Mathlib.Omega.{arith}

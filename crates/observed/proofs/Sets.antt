@@ -1,4 +1,4 @@
--- Sets laid over an empty one: how a set that is lent, and a difference, come by value.
+-- A set united with the empty one is that set: so the code copies a set out of lent memory, and makes a difference by value.
 use Prim.Native.Nat.{ℕ, _+_, _-_, _≤_}
 use native.Mathlib.Omega.{arith}
 use mathlib.Core.Path.{_≡_, _∙_, ap}

@@ -31,8 +31,8 @@ placeBound b x = eqb (x .0) 0 || not (eqb (paramOf b x) 0)
 unfoldable pub atomOf : Binding → Fact → ℕ
 atomOf b f = 16 * (f .relation .0 - 1) + 4 * (paramOf b (f .first) - 1) + (paramOf b (f .second) - 1)
 
--- A fact is a bound fact of the step: its objects are the binding's, and the move has the bound fact. Objects of a kind below their parameters'
--- may suit where the parameters do not.
+-- A fact is a bound fact of the step: its objects are the binding's, and the move has the bound fact. An object may be of a kind below its
+-- parameter's and suit a place that the parameter does not suit: then the move has no such bound fact.
 unfoldable pub factBound : List ℕ → Binding → Fact → Bool
 factBound atoms b f = placeBound b (f .first) && placeBound b (f .second) && testBit atoms (atomOf b f)
 
@@ -55,8 +55,8 @@ unbound atoms b (f ∷ fs) = cond (factBound atoms b f) (unbound atoms b fs) (f 
 unfoldable pub sameFact : Fact → Fact → Bool
 sameFact f g = eqb (f .relation .0) (g .relation .0) && eqb (f .first .0) (g .first .0) && eqb (f .second .0) (g .second .0)
 
--- the facts that stand in one alone of f ∷ fs and a list, both in order, where `more` says it of fs and a list: of the next two facts, if they differ, the one
--- that precedes stands in its list alone, and the other is compared with those that follow
+-- the facts that are in f ∷ fs or in a second list but not in both; both are in order, and `more` gives the same for fs and a second list. Of the
+-- first facts of the two, if they differ, the one that precedes is in its list alone, and the other is compared with the facts that follow
 unfoldable pub alone : Fact → List Fact → (List Fact → List Fact) → List Fact → List Fact
 alone f fs more [] = f ∷ fs
 alone f fs more (g ∷ gs) = cond (precedes f g) (f ∷ more (g ∷ gs)) (cond (precedes g f) (g ∷ alone f fs more gs) (more gs))
@@ -77,7 +77,7 @@ unboundChanged atoms b pre post = someFact (inOneAlone (unbound atoms b pre) (un
 
 -- ---- facts that turn
 
--- a set in which the bound fact that a fact is turns, if it is one
+-- a set in which the bound fact that f is turns; unchanged if f is no bound fact
 unfoldable pub turnMark : List ℕ → Binding → List ℕ → Fact → List ℕ
 turnMark atoms b m f = cond (factBound atoms b f) (flipBit m (atomOf b f)) m
 

@@ -1,4 +1,4 @@
--- A record that is observed is its own bytes observed.
+-- What is observed of a record at its offset in a book is what is observed of the record's own bytes.
 use Prim.Native.Nat.{ℕ, _+_, _-_, _≤_}
 use mathlib.Core.Path.{_≡_, sym, ap, _∙_, subst}
 use mathlib.Core.Bool.{Bool, true}

@@ -1,4 +1,4 @@
--- Records observed one by one are all observed.
+-- The loop over the records: observed one by one, they give what is observed after all of them (`observedAfterAll`).
 use Prim.Native.Nat.{ℕ, zero, suc, _-_, _<_}
 use mathlib.Core.Path.{_≡_, sym, ap, _∙_}
 use mathlib.Core.List.{List}

@@ -40,11 +40,11 @@ pub record Observable (s : List ℕ) (c : Scope) (ks table : List ℕ) : Type 0 
   pub typed : RightObjects (schemaIn s c) (typedIn s c)
   pub moves : c .h .moves .count ≤ maxMoves
 
--- where the table by kind is not at hand
+-- the same for some table by kind, for functions that are not lent that table
 abbrev pub ObservableBy : List ℕ → Scope → List ℕ → Type 0
 ObservableBy s c table = (ks : List ℕ) × Observable s c ks table
 
--- what stands for the facts before a step: in a full book the list at an offset, in a short one the state that is carried
+-- the facts before a step, and where the code has them: in a full book in the list at `pre`, in a short one in the mask `m`; `held` is their number
 pub record Ready (s : List ℕ) (c : Scope) (pre : ℕ) (m : List ℕ) (held : ℕ) (masks : List ℕ) : Type 0 where
   pub before : List Fact
   pub right : RightState (schemaIn s c) (typedIn s c) before
@@ -63,14 +63,14 @@ pub record Done (form : Form) (s : List ℕ) (before : List Fact) (at : ℕ) (m 
   pub observed : IsObserved (observedStep form s before at masks named) masks′ (r .named)
   pub carried : Carried form s (at + stepSize) m m′ (r .count)
 
--- for whatever facts it was ready after
+-- the step is observed (`Done`) from the facts that `Ready` says hold before it
 abbrev pub DoneReady : List ℕ → Scope → ℕ → ℕ → List ℕ → ℕ → List ℕ → ℕ → List ℕ → List ℕ → Noted → Type 0
 DoneReady s c pre at m held masks named m′ masks′ r = (ready : Ready s c pre m held masks) → Done (c .short) s (ready .before) at m masks named m′ masks′ r
 
 -- ---- a record
 
--- What observing the record at an offset asks: no more relations and moves than there may be, and parents that are smaller kinds; a book and an offset
--- within the greatest length; and what is held as it was begun.
+-- What observing the record at an offset asks: no more relations and moves than there may be, and parents that are smaller kinds; a book and an
+-- offset within the greatest length; and sets of the right size, the bound facts of each move among them (`Begun`).
 pub record CanObserve (h : Sections) (s : List ℕ) (at : ℕ) (masks : List ℕ) : Type 0 where
   pub known : h .relations .count ≤ maxRelations
   pub moves : h .moves .count ≤ maxMoves

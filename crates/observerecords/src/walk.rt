@@ -40,7 +40,7 @@ pub fn observe_from(
     observe(reader::moved(reader::new(s), at), short, h, observed, named)
 }
 
-// A number of records, which end the book: each looked over and observed before the next. The count of all steps is good.
+// A number of records, which end the book: each looked over and observed before the next. A good answer is the count of all their steps.
 pub fn records(
     s: &[u8],
     short: bool,

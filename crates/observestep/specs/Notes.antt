@@ -38,7 +38,8 @@ pub record IsObserved (h : Observed) (bytes : List ℕ) (offset : ℕ) : Type 0 
   pub masks : bytes ≡ h .masks
   pub named : offset ≡ h .named
 
--- the sets of a move before any record, where nothing was in them: what is so at every one of no steps is every bound fact
+-- the sets of a move before any record, made from empty ones: no step has been seen that lacks a bound fact, so the two sets of what held at every
+-- step begin with all bound facts, and so does the set of these
 unfoldable pub firstSets : ℕ → List ℕ → List ℕ → List ℕ
 firstSets a atoms l = widened (setAt a bound) atoms (widened (setAt a alwaysAfter) atoms (widened (setAt a alwaysBefore) atoms l))
 

@@ -138,8 +138,8 @@ pub fn observe(
     }
 }
 
-// What is observed of a short book after the step at `at`, by the state before it, of whose facts `held` hold, and in which the facts of its list turn:
-// the bound facts are asked of the state, and turned where they are listed.
+// What is observed of a short book after the step at `at`. `state` is the mask of the state before the step, in which `held` facts hold, and the
+// facts of the step's list turn in it. The bound facts before the step are read from `state`; those after it are these with the listed ones turned.
 pub fn observe_turned(
     s: &[u8],
     h: Sections,
@@ -183,7 +183,7 @@ pub fn observe_turned(
 
 // ---- before any record
 
-// The sets of a move: what is so at every one of no steps is every bound fact.
+// The sets of a move: no step has been seen that lacks a bound fact, so the two sets of what held at every step begin with all bound facts.
 fn first_sets(observed: &mut [u8], a: Move, atoms: [u8; 32])
     requires { ⌜ (1 ≤ a .0) × (a .0 ≤ maxMoves) × (length (now observed) ≡ observedSize) ⌝ }
     ensures { λ _. ⌜ now (observed .exit) ≡ firstSets (a .0) atoms (now (observed .entry)) ⌝ }

@@ -3,7 +3,7 @@ use Prim.Native.Nat.{ℕ, _+_, _/_, _%_}
 use mathlib.Core.List.{List, [], _∷_, _++_}
 use lib.ListN.{length, take, drop}
 
--- what stands before and after it stays
+-- the bytes v in place of those of d from an offset on; the other bytes stay
 unfoldable pub written : List ℕ → ℕ → List ℕ → List ℕ
 written d at v = take at d ++ v ++ drop (at + length v) d
 

@@ -1,4 +1,4 @@
-// Bytes and two-byte numbers written into lent memory from an offset on; what stands before and after it stays. Uses input, in its proofs alone.
+// Bytes and two-byte numbers written into lent memory from an offset on; the other bytes stay. Uses input, in its proofs alone.
 ghost use mathlib.Core.Path.{_≡_};
 ghost use Prim.Native.Nat.{_+_, _≤_};
 ghost use lib.ListN.{length};

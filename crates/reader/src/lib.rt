@@ -1,6 +1,7 @@
 // A book as the records' walk holds it: its bytes, and the offset of the record that comes next.
-// Uses answer, limits, terms, records, and the definitions of format. The borrow checker covers no function over a struct that holds a
-// reference, so those here are thin, and each is a proof by hand; the work is `records::record_at`'s. Other crates call `record_from`.
+// Uses answer, limits, terms, records, and the definitions of format. The borrow checker covers no function over a struct that holds a reference, so
+// those here are thin, and each is a proof by hand; the work is `records::record_at`'s. Looking over calls `record_from`; the learner's walk makes a
+// `Reader`, and has a thin function of its own over it.
 use answer::Answer;
 use terms::Sections;
 ghost use mathlib.Core.Path.{_≡_};

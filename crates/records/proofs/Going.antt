@@ -1,4 +1,4 @@
--- The loop over the steps of a record: what it has in hand before each, first and then one step on.
+-- The loop over the steps of a record: its invariant, that it holds before the first step, and that each step keeps it.
 use Prim.Native.Nat.{ℕ, _+_, _-_, _≤_, _<_}
 use native.Mathlib.Omega.{arith}
 use mathlib.Core.Path.{_≡_, refl, sym, _∙_, subst}

@@ -1,4 +1,4 @@
--- Rows that looking over a record and learning from it both meet, each behind what the two read in ways of their own.
+-- Rows that looking over a record and learning from it both meet. What stands before these rows, each of the two reads in its own way.
 use Prim.Native.Nat.{ℕ, _+_}
 use mathlib.Core.List.{List}
 use lib.ListN.{length}

@@ -210,7 +210,7 @@ fn trajectory(book: &[u8], c: Scope, kinds: &[u32; 256], table: &[u32; 512], at:
     steps(book, c, kinds, table, at, answer::value_of(first))
 }
 
-// What a record answers, once its trajectory has: bytes left in it are row 6.
+// What a record answers, by what its trajectory answers: row 6 where bytes are left behind the trajectory.
 pub fn closed(a: Answer, at: usize, end: usize) -> Answer
     ensures { λ r. ⌜ r ≡ closed at end a ⌝ }
 {
@@ -274,7 +274,7 @@ pub fn record_at(s: &[u8], short: bool, h: Sections, at: usize) -> Answer
     body(s, short, h, head, at, answer::value_of(end))
 }
 
-// The book, once its last record has ended: bytes left are row 6, else the count of all steps is good.
+// What a book answers once its last record has ended: row 6 where bytes are left, else the count of all steps.
 pub fn book_end(s: &[u8], last: usize, total: usize) -> Answer
     ensures { λ r. ⌜ r ≡ bookEnd (now (s .entry)) last total ⌝ }
 {

@@ -1,4 +1,4 @@
--- Two lists of facts walked together: those yet to come of either, and of the list in which the facts of one turn that stand in the other.
+-- Two lists of facts walked together, those of a state and those that turn in it: the facts of each that are left, and what is to be written of them.
 use Prim.Native.Nat.{ℕ, _+_, _-_, _<_}
 use mathlib.Core.List.{List}
 use Rattle.terms.specs.declared.Fact.{Fact}
@@ -9,7 +9,7 @@ use Rattle.factlist.specs.Rest.{rest, FactsWithin}
 use Rattle.rendering.specs.declared.Walk.{Walk}
 use Rattle.appending.specs.Appended.{AllBut}
 
--- the facts to come of the state, of those that turn, and those that hold when they have turned
+-- what is still to be written: the facts that are left of the state, those that are left of the list having turned in them
 abbrev pub toCome : List ℕ → List ℕ → Walk → List Fact
 toCome state s v = toggled (rest state (v .held)) (rest s (v .turns))
 
@@ -23,7 +23,8 @@ pub record Merging (state s : List ℕ) (v : Walk) : Type 0 where
   pub last : Fact
   pub order : Increasing last (rest s (v .turns))
 
--- From v to w: nearer to the end, and of the facts that hold afterwards those that come no more were appended.
+-- One turn of the loop, from v to w: fewer facts are left, and what was appended and what is still to be written at w are together what was still to
+-- be written at v.
 pub record NextMerged (state s : List ℕ) (v : Walk) (old : List ℕ) (w : Walk) (new : List ℕ) : Type 0 where
   pub merging : Merging state s w
   pub less : left w < left v

@@ -1,5 +1,6 @@
-// Converting a book of good form to the other form, full or short, in lent memory: one function for both directions. The list that is written
-// after a step has in both the facts that are in one alone of the state before it and the list that is read; only what holds next differs.
+// Converting a book of good form to the other form, full or short, in lent memory: one function for both directions. In both, the list that is
+// written after a step has the facts that are in the state before it or in the list that is read, but not in both of these. The state after the step
+// is the list that is written if the book is short, and the list that is read if it is full.
 // The new book is formed front to back; counts and lengths are copied first and renewed when they are known.
 // Uses answer, input, limits, output, terms, appending for what is written, factlist for a list's facts, where a list ends from states, and the
 // definitions of jobs and format.
@@ -30,7 +31,7 @@ const HELD_SIZE: usize = limits::COUNT_SIZE + limits::FACT_SIZE * limits::MAX_FA
 
 // ---- the facts of a list
 
-// The facts of a list that are yet to come, from the offset `w` on, which the new book has reached, here and below; where they end is returned.
+// Appends the facts of a list that are left. `w` is the offset that the new book has reached, here and below; the offset behind them is returned.
 fn append_rest(new: &mut [u8], w: usize, s: &[u8], c: ListCursor) -> usize
     requires { ⌜ (length (now new) ≡ maxLength) × (w ≤ pastEnd) × FactsWithin (now s) c ⌝ }
     ensures { λ r. ⌜ Appended (factsBytes (rest (now (s .entry)) c)) w (now (new .entry)) (now (new .exit)) r ⌝ }
@@ -49,8 +50,8 @@ struct Walk {
     at: usize,
 }
 
-// One fact more of a list, or of both. Facts stand in order, so a fact that comes next in one list and not in the other is in that list alone: it
-// holds afterwards. One that comes next in both holds no more.
+// One fact more of a list, or of both. Facts stand in order, so of two that differ the one that precedes is in its list alone: it is written. A fact
+// that comes next in both lists is left out.
 fn merge_next(new: &mut [u8], state: &[u8], book: &[u8], v: Walk) -> Walk
     requires { ⌜ (length (now new) ≡ maxLength) × Merging (now state) (now book) v × (0 < v .held .left) × (0 < v .turns .left) × (v .at ≤ pastEnd) ⌝ }
     ensures { λ r. ⌜ NextMerged (now (state .entry)) (now (book .entry)) v (now (new .entry)) r (now (new .exit)) ⌝ }

@@ -23,7 +23,7 @@ pub record MoveRules : Type 0 where
   pub added : List ℕ
   pub removed : List ℕ
 
--- those of each move, in memory that has them as a rule sheet does
+-- the rules of move a in memory that has the sets of each move as a rule sheet has them
 unfoldable pub rulesIn : List ℕ → ℕ → MoveRules
 rulesIn l a =
     record {

@@ -1,4 +1,5 @@
--- A list of facts looked over as it is read for something else: where its facts are whole, and what the cursor at one of them says of all.
+-- A list of facts that is looked over while it is read for something else: when no fact of it is cut, and what is known of the whole list when the
+-- cursor has come to one of its facts.
 use Prim.Native.Nat.{ℕ, _+_, _*_, _≤_}
 use mathlib.Core.Path.{_≡_}
 use mathlib.Core.Bool.{Bool, _&&_, not}
@@ -19,7 +20,8 @@ use Rattle.states.specs.declared.FactCursor.{FactCursor}
 unfoldable pub wholeList : ℕ → List ℕ → ℕ → ℕ → Bool
 wholeList most s end at = not (countBad most s end at) && leb (listEnd s at) end
 
--- The facts from the cursor on are whole, and answer as all n from an offset do: those before it are right and in order.
+-- None of the facts from the cursor on is cut; and what is answered of them is what is answered of all n facts from an offset, since those before the
+-- cursor are right and in order.
 pub record Looked (number : ℕ) (s table : List ℕ) (end n from : ℕ) (c : FactCursor) : Type 0 where
   pub size : c .size ≡ factSize
   pub key : c .key ≡ factKey (c .last)

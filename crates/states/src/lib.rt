@@ -17,8 +17,8 @@ ghost use Rattle.tables.specs.Tables.{ForRightByPlace};
 ghost use Rattle.states.specs.Cursor.{ItemWithin, factOf, misplaced};
 ghost use Rattle.states.specs.Looked.{wholeList};
 
-// Facts still to be looked at, each at the end of an item of a size: from where, how many, and the fact before them with its key. The items
-// of a state, which a start of an order is too, are its facts; a goal entry has a byte before its fact.
+// Items still to be looked at, each with a fact at its end: the offset of the first, how many there are, the fact before them with its key, and the
+// size of an item. The items of a state, and of a start of an order, are its facts; a goal entry has a byte before its fact.
 pub struct FactCursor {
     pub at: usize,
     pub left: usize,

@@ -1,5 +1,5 @@
--- The proofs of the code, and the laws that they use: Atoms for one fact, Unbound for row 11 of facts in a row, Facts for the facts of a state
--- in the bytes, Looks for those that are looked over, Steps for those of a step's two states, Turning for those that turn.
+-- The proofs of the code, and the laws that they use: Unbound for row 11 of facts in a row, Facts for the facts of a state in the bytes, Looks for
+-- those that are looked over, Steps for those of a step's two states, Turning for those that turn.
 pub mod Unbound
 pub mod Facts
 pub mod Looks

@@ -1,5 +1,5 @@
--- The facts of a step's two states walked together: each fact more leads on to the same sets and the same answer. For `mark_next` and `mark_step` of
--- src/lib.rt. Uses Unbound for row 11, Facts and Looks for each state.
+-- The facts of a step's two states walked together: after each turn of the loop the facts that are left still give the sets and the answer of the two
+-- whole states. For `mark_next` and `mark_step` of src/lib.rt. Uses Unbound for row 11, Facts and Looks for each state.
 use Prim.Native.Nat.{ℕ, _<_, _≤_}
 use mathlib.Core.Path.{_≡_, refl, sym, ap, ap₂, _∙_}
 use mathlib.Core.Bool.{Bool, true, false, _&&_, _||_, or-assoc, or-false}

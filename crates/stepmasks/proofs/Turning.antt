@@ -1,4 +1,4 @@
--- The facts of a list that turn in a state and in a set of bound facts, one by one. For `turn_mark` and `mark_turned` of src/lib.rt.
+-- The facts of a list that turn in a state and in a set of bound facts, one by one. For `mark_turned` of src/lib.rt.
 use Prim.Native.Nat.{ℕ, _-_}
 use mathlib.Core.Path.{_≡_, refl, sym, ap, _∙_}
 use mathlib.Core.Bool.{Bool, false, _||_, or-false, or-assoc}

@@ -1,5 +1,5 @@
--- A step's bound facts and row 11, in the parts that the functions compute: a table of a binding, the facts of a state that are yet to come,
--- and two states walked together, the second looked over on the way. `StepMarked`, `StepTurned`, `Suited` and `RightForFew` are for callers.
+-- A step's bound facts and row 11, in the parts that the functions compute: the facts of a list that are left, and two states walked together, the
+-- second looked over on the way. `StepMarked`, `StepTurned`, `Suited` and `RightForFew` are for callers.
 -- Uses the definitions of observed, format and states.
 use Prim.Native.Nat.{ℕ, _+_, _-_, _<_, _≤_}
 use mathlib.Core.Path.{_≡_}
@@ -29,7 +29,7 @@ use Rattle.stepmasks.specs.declared.MarkedList.{MarkedList}
 
 -- ---- the facts of a state that are looked over on the way
 
--- the facts at a cursor that looks over
+-- the cursor at the same facts that does not look them over
 unfoldable pub plain : FactCursor → ListCursor
 plain c = record { at = c .at; left = c .left }
 
@@ -51,7 +51,8 @@ pub record ListAhead (s : List ℕ) (at : ℕ) (c : FactCursor) : Type 0 where
   pub ahead : FactsWithin s (plain c)
   pub looked : (table : List ℕ) (end : ℕ) → listEnd s at ≤ end → Looked 8 s table end (two s at) (at + countSize) c
 
--- From the cursor c to c′, which is past a fact or the same: a fact that is passed is right and in order, or else the list is refused at it.
+-- From the cursor c to c′, which is c or past the fact at c. If `bad` is false, a fact that was passed is right and in order; if it is true, the list
+-- is refused at the fact at c.
 pub record Looks (s table : List ℕ) (c c′ : FactCursor) (bad : Bool) : Type 0 where
   pub on : bad ≡ false → (end n from : ℕ) → Looked 8 s table end n from c → Looked 8 s table end n from c′
   pub refused : bad ≡ true → (end n from : ℕ) → Looked 8 s table end n from c → ForRightByPlace table (λ sch ob. Refused 8 (c .at) ≡ facts asWritten 8 sch ob s end n noFact from)
@@ -91,7 +92,8 @@ pub record StepMarked (atoms : List ℕ) (b : Binding) (pre post : List Fact) (m
   pub after : n ≡ atomsIn atoms b post
   pub unbound : r ≡ unboundChanged atoms b pre post
 
--- the same of a state and the facts that turn in it, of the bound facts before it
+-- in a short book: the facts ts of the list turned in the state m, those of them that are bound facts turned in n, which has the bound facts before
+-- the step; and row 11 of ts
 pub record StepTurned (atoms : List ℕ) (b : Binding) (ts : List Fact) (m m′ n n′ : List ℕ) (r : Bool) : Type 0 where
   pub state : m′ ≡ flipped ts m
   pub after : n′ ≡ turnMarks atoms b n ts

@@ -34,7 +34,7 @@ fn pass(c: ListCursor, m: &mut [u8], f: Fact, pair: usize) -> ListCursor
     c.on()
 }
 
-// Marks the facts to come, and says whether any is no bound fact: row 11 of them and no facts.
+// Marks the facts that are left before the step, and says whether any is no bound fact: row 11, where no facts are left after the step.
 fn mark_rest(m: &mut [u8], s: &[u8], t: &[u8], atoms: &[u8], b: Binding, from: ListCursor) -> bool
     requires { ⌜ Inverts b (now t) × FactsWithin (now s) from ⌝ }
     ensures { λ r. ⌜ (now (m .exit) ≡ marks (now (atoms .entry)) b (now (m .entry)) (rest (now (s .entry)) from)) × (r ≡ unboundChanged (now (atoms .entry)) b [] (rest (now (s .entry)) from)) ⌝ }
@@ -56,7 +56,7 @@ pub struct MarkedList {
     pub unbound: bool,
 }
 
-// Looks over the facts to come, marks them, and says whether any is no bound fact: row 11 of no facts and them.
+// Looks over the facts that are left after the step, marks them, and says whether any is no bound fact: row 11, where none are left before the step.
 fn look_rest(
     m: &mut [u8],
     s: &[u8],
@@ -133,9 +133,9 @@ fn going_on(pre: ListCursor, post: FactCursor, changed: bool) -> Walk
     }
 }
 
-// One fact more of a state, or of both. What comes next in both is looked up once, and suits, as it did before the step. What is no bound fact is merged
-// by key: facts stand in order, so of two that differ the one with the smaller key is in its list alone, and the other is compared with those that
-// follow. Bound facts are passed as they come: they are compared as sets, and to ask for their order costs time.
+// One fact more of a state, or of both. A fact that comes next in both is looked up once, and it suits, since it did before the step. Facts that are
+// no bound facts are merged by key: they stand in order, so of two that differ the one with the smaller key is in its list alone, and the other is
+// compared with those that follow. Bound facts are passed as they come: they are compared as sets, and to ask for their order costs time.
 fn mark_next(
     before: &mut [u8],
     after: &mut [u8],
@@ -247,8 +247,9 @@ pub struct TurnedList {
     pub count: usize,
 }
 
-// Row 8 of the whole list at an offset of a short book, and where it is good row 11 of the step with the binding `b`: the facts of the list turn in the
-// state, of which `held` hold, and those that are bound facts in `after`, which has those before the step. The table `t` is lent for the step.
+// Row 8 of the whole list at an offset of a short book, and where it is good row 11 of the step with the binding `b`. The facts of the list turn in
+// `state`, in which `held` facts hold; those that are bound facts turn in `after`, too, which has the bound facts before the step. The table `t` is
+// lent for the step.
 pub fn mark_turned(
     s: &[u8],
     table: &[u32; 512],

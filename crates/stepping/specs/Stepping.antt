@@ -41,7 +41,7 @@ Advances sch R st n old new = (m : List ℕ) → old ≡ nextBelow sch R st m n 
 
 -- ---- one step
 
--- whether it is inapplicable in a state, and the state after it: where it is, the same
+-- whether it is inapplicable in the state `old`, and the state after it, which is `old` if it is
 pub record StepExecuted (sch : Schema) (R : ℕ → MoveRules) (st : Step) (old : List ℕ) (r : Bool) (new : List ℕ) : Type 0 where
   pub inapplicable : r ≡ stepInapplicable sch R st old
   pub state : new ≡ cond r old (stepNext sch R st old)

@@ -106,7 +106,7 @@ fn put_relation(
     factgroups::put_groups(t, p, added, true, state);
 }
 
-// Those of all bound facts of a step's move, relation by relation.
+// The effects of all bound facts of a step's move, relation by relation.
 fn put_effects(
     book: &[u8],
     h: Sections,

@@ -38,7 +38,7 @@ RightByPlace sch ob t = (f : Fact) → f .relation .0 < 256 → not (suits t f) 
 unfoldable pub RightForSome : List ℕ → Type 0
 RightForSome t = (sch : Schema) × (ob : TypedObjects) × RightByPlace sch ob t
 
--- it follows from the table by kind, for all typed objects that one is right for
+-- the table by relation is right for all typed objects that the table by kind is right for
 unfoldable pub RightFrom : Schema → List ℕ → List ℕ → Type 0
 RightFrom sch ks t = (ob : TypedObjects) → RightByKind sch ob ks → RightByPlace sch ob t
 
@@ -61,6 +61,7 @@ moveEntry s at =
       fourth = byteAt s (at + 4);
     }
 
--- the object given for a parameter of a kind, and the set that suits it; a move has so many parameters
+-- the object that a binding has for parameter i, which is of the kind given, and the set of objects that suit; `params` is how many parameters the
+-- move has
 unfoldable pub argument : List ℕ → ℕ → ℕ → ℕ → Binding → Asked
 argument ks params i kind b = record { set = cond (leb i params) (entry ks kind) 1; object = objectOf b (record { 0 = i }) .0 }

@@ -17,8 +17,8 @@ ghost use Rattle.terms.specs.Schema.{schema, typedObjects};
 ghost use Rattle.terms.specs.Steps.{stepBad};
 ghost use Rattle.tables.specs.Tables.{Joined, RightByKind, placeSet, RightFrom, ForRightByKind, moveEntry, argument};
 
-// Puts an object into the set of its own kind and of each kind above it. Any bytes may stand as parents: so many kinds are looked at as
-// there may be.
+// Puts an object into the set of its own kind and of each kind above it. Any bytes may stand as parents, even in a circle, so no more kinds are
+// looked at than a book may have.
 fn put_object(book: &[u8], h: Sections, kinds: &mut [u32; 256], kind: u8, x: u8)
     requires { ⌜ (x < 32) × (length (now kinds) ≡ 256) ⌝ }
     ensures { λ _. ⌜ Joined (schema h (now (book .entry))) kind x (now (kinds .entry)) (now (kinds .exit)) ⌝ }
@@ -47,7 +47,7 @@ pub fn no_places() -> [u32; 512]
     [0u32; 512]
 }
 
-// Puts the objects in `s` into a table by kind that has none. The table is lent, for a large one that is returned is copied.
+// Puts the objects in `s` into an empty table by kind. The table is lent, since a large one would be copied when it is returned.
 pub fn put_objects(book: &[u8], h: Sections, s: &[u8], objects: Objects, kinds: &mut [u32; 256])
     requires { ⌜ (objects .at ≤ nearCeiling) × (objects .count < 32) × (now kinds ≡ empty 256) ⌝ }
     ensures { λ _. ⌜ RightByKind (schema h (now (book .entry))) (typedObjects objects (now (s .entry))) (now (kinds .exit)) ⌝ }
@@ -92,7 +92,7 @@ fn store_place(t: &mut [u32; 512], i: usize, set: u32)
     objectset::store(t, i, set);
 }
 
-// Stores the sets of all relations in a table that has none. A number over 255 is no byte's.
+// Stores the sets of all relations in an empty table. A fact has its relation in one byte, so relations over 255 have no entry.
 pub fn store_places(book: &[u8], h: Sections, kinds: &[u32; 256], t: &mut [u32; 512])
     requires { ⌜ now t ≡ empty 512 ⌝ }
     ensures { λ _. ⌜ RightFrom (schema h (now (book .entry))) (now (kinds .entry)) (now (t .exit)) ⌝ }
@@ -127,7 +127,7 @@ struct MoveEntry {
     fourth: u8,
 }
 
-// Of an entry that is not cut no byte is tested, which counts at every step.
+// An entry that lies within the book is read without a test of each byte, which saves time at every step.
 fn entry_at(book: &[u8], at: usize) -> MoveEntry
     requires { ⌜ at ≤ nearCeiling ⌝ }
     ensures { λ e. ⌜ e ≡ moveEntry (now (book .entry)) at ⌝ }
@@ -169,7 +169,7 @@ fn argument(kinds: &[u32; 256], params: u8, i: u8, kind: u8, b: Binding) -> Aske
     }
 }
 
-// Rows 9 and 18 of a step's move and objects: the move is there, and its parameters have objects that suit.
+// Rows 9 and 18 of a step's move and objects: the move is not there, or a parameter has an object that does not suit.
 pub fn step_bad(book: &[u8], h: Sections, kinds: &[u32; 256], st: Step) -> bool
     ensures { λ r. ⌜ ForRightByKind (schema h (now (book .entry))) (now (kinds .entry)) (λ ob. r ≡ stepBad (schema h (now (book .entry))) ob st) ⌝ }
 {

@@ -1,4 +1,5 @@
--- Laws of `kindSuits`, the only ones that open it: what suits a place or a parameter is said by it everywhere else.
+-- Laws of `kindSuits`. Besides these, only tables/proofs/Climb, for the code that makes the table by kind, and the computed cases open its
+-- definition: everywhere else what suits a place or a parameter is said by its name.
 use Prim.Native.Nat.{ℕ, zero, suc, _≤_, _<_}
 use mathlib.Core.Path.{_≡_, refl, ap}
 use mathlib.Core.Logic.{_⊎_, inl, inr, ⊎-elim}

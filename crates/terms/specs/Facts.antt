@@ -15,7 +15,7 @@ factAt s at =
       second = record { 0 = byteAt s (at + 2) };
     }
 
--- the relation is there, and its places have objects that suit
+-- the fact is wrong: its relation is not there, or a place has an object that does not suit
 unfoldable pub factBad : Schema → TypedObjects → Fact → Bool
 factBad sch ob f =
     outOfRange (sch .relations) (f .relation .0)

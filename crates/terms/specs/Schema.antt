@@ -12,7 +12,7 @@ use Rattle.terms.specs.declared.Move.{Move}
 use Rattle.terms.specs.declared.Sections.{Sections}
 use Rattle.terms.specs.declared.Objects.{Objects}
 
--- a number that counts from 1, over its count
+-- a number that counts from 1 is 0, or over its count
 unfoldable pub outOfRange : ℕ → ℕ → Bool
 outOfRange count n = ltb n 1 || ltb count n
 
@@ -60,13 +60,13 @@ pub record TypedObjects : Type 0 where
 unfoldable pub typedObjects : Objects → List ℕ → TypedObjects
 typedObjects o s = record { count = o .count; kind = λ x. byteAt s (o .at + (x .0 - 1)) }
 
--- the kind named is among so many: a kind, its parent, the parent's parent, and on
+-- the kind named is one of the first n of these: a kind, its parent, the parent's parent, and so on
 unfoldable pub suitsWithin : Schema → ℕ → ℕ → ℕ → Bool
 suitsWithin sch zero named kind = false
 suitsWithin sch (suc n) named kind = eqb kind named || ltb 0 (sch .parent kind) && suitsWithin sch n named (sch .parent kind)
 
--- whether a kind suits a place or a parameter of the kind named: it is that kind, or lies below it by any number of parents. Parents fall, so
--- that no more kinds stand above one another than there may be
+-- whether a kind suits a place or a parameter of the kind named: it is that kind, or lies below it by any number of parents. In a book of good form a
+-- parent is a smaller kind, so it is enough to look at as many kinds as a book may have
 unfoldable pub kindSuits : Schema → ℕ → ℕ → Bool
 kindSuits sch named kind = suitsWithin sch maxKinds named kind
 

@@ -37,7 +37,7 @@ unfoldable pub argumentBad : Schema → TypedObjects → Step → ℕ → Bool
 argumentBad sch ob st i =
     objectBad sch ob (leb i (sch .params (st .action))) (sch .paramKind (st .action) (record { 0 = i })) (objectOf (st .binding) (record { 0 = i }))
 
--- row 9: the move is there, and its parameters have objects that suit
+-- row 9: the move is not there, or a parameter has an object that does not suit
 unfoldable pub stepBad : Schema → TypedObjects → Step → Bool
 stepBad sch ob st =
     outOfRange (sch .moves) (st .action .0)

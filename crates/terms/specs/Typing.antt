@@ -1,4 +1,4 @@
--- What good form gives of kinds: parents fall, and what is typed is of a kind that is there. And what it is for a kind to lie below another.
+-- What good form gives of kinds: a parent is a smaller kind; parameters and objects are of kinds that are there. And when a kind lies below another.
 use Prim.Native.Nat.{ℕ, _≤_, _<_}
 use mathlib.Core.Path.{_≡_}
 use mathlib.Core.Logic.{_↔_}
@@ -23,13 +23,13 @@ pub record RightSchema (sch : Schema) : Type 0 where
   pub falling : Falling sch
   pub params : (m : Move) → 1 ≤ m .0 → m .0 ≤ sch .moves → (p : Param) → 1 ≤ p .0 → p .0 ≤ sch .params m → IsKind sch (sch .paramKind m p)
 
--- and so are objects
+-- parents are smaller kinds, and each object is of a kind that is there
 pub record RightObjects (sch : Schema) (ob : TypedObjects) : Type 0 where
   pub falling : Falling sch
   pub known : (x : Object) → 1 ≤ x .0 → x .0 ≤ ob .count → IsKind sch (ob .kind x)
 
--- a kind is the one named, or lies below it by any number of parents. Where parents fall this is what `kindSuits` says, which looks at so many
--- kinds as there may be (`SuitsBelow`)
+-- a kind is the one named, or lies below it by any number of parents. Where parents are smaller kinds this is what `kindSuits` says, which looks at
+-- no more kinds than a book may have (`SuitsBelow`)
 pub data Below (sch : Schema) (named : ℕ) : ℕ → Type 0 where
   own : Below sch named named
   under : {kind : ℕ} → 1 ≤ sch .parent kind → Below sch named (sch .parent kind) → Below sch named kind

@@ -147,7 +147,8 @@ pub fn atom_second(n: usize) -> Param
     Param((n % 4 + 1) as u8)
 }
 
-// 1, but 0 of 0: what `index` subtracts. Compiled, that is shorter than a choice between 0 and n - 1, and each fact that turns asks it three times.
+// What `index` subtracts from n: 1, or 0 if n is 0. Compiled, that is shorter than a choice between 0 and n - 1, and each fact that turns asks it
+// three times.
 fn one_at_most(n: u8) -> usize
     ensures { λ r. ⌜ (r ≤ n) × (n - r ≡ n - 1) ⌝ }
 {
@@ -171,7 +172,7 @@ pub fn out_of_range(count: u16, n: u16) -> bool
 }
 
 impl Fact {
-    // A fact whose bytes are there: none is tested, which counts in a loop over facts.
+    // A fact whose bytes are all there: no offset is tested, which saves time in a loop over facts.
     pub fn read(s: &[u8], at: usize) -> Fact
         requires { ⌜ (at ≤ farCeiling) × (at + factSize ≤ length (now s)) ⌝ }
         ensures { λ r. ⌜ r ≡ factAt (now (s .entry)) at ⌝ }

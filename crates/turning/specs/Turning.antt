@@ -29,12 +29,13 @@ pub record Turnable (s : List ℕ) (at : ℕ) : Type 0 where
   pub within : listEnd s at ≤ length s
   pub numbered : Numbered (listAt s at)
 
--- from a mask to a mask over the list at an offset, and the number afterwards
+-- what the list at an offset does to the mask: in a short book its facts turn, and `count` is how many facts hold then; in a full book nothing, and
+-- `count` is 0
 pub record Carried (form : Form) (s : List ℕ) (at : ℕ) (old new : List ℕ) (count : ℕ) : Type 0 where
   pub turned : form ≡ true → (new ≡ flipped (listAt s at) old) × (count ≡ cardinality new)
   pub nothing : form ≡ false → (new ≡ old) × (count ≡ 0)
 
--- what is carried where the facts hold: in a short book their mask and how many they are, in a full book nothing, and 0
+-- what is kept of a state in which the facts fs hold: in a short book their mask, and how many they are; in a full book no mask, and the number 0
 pub record Carries (form : Form) (fs : List Fact) (m : List ℕ) (count : ℕ) : Type 0 where
   pub mask : form ≡ true → m ≡ maskOf stateSize (holding fs)
   pub size : form ≡ true → count ≡ length fs

@@ -40,8 +40,8 @@ fn turn_list(s: &[u8], from: usize, state: &mut [u8], held: usize) -> usize
     count
 }
 
-// What is carried on over the list at an offset, by the form of the book: in a short one the state and how many facts hold in it, in a full one
-// nothing, and the number is 0.
+// What the list at an offset does to the state that is kept, by the form of the book: in a short one its facts turn in `state`, and the number of
+// facts that hold then is returned; in a full one nothing changes, and 0 is returned.
 pub fn carry(s: &[u8], short: bool, at: usize, state: &mut [u8], held: usize) -> usize
     requires { ⌜ (length (now state) ≡ stateSize) × (short ≡ true → Turnable (now s) at × (held ≡ cardinality (now state))) ⌝ }
     ensures { λ r. ⌜ (length (now (state .exit)) ≡ stateSize) × Carried short (now (s .entry)) at (now (state .entry)) (now (state .exit)) r ⌝ }
