@@ -25,7 +25,7 @@ use Rattle.factsets.specs.Holding.{holding}
 
 -- whether bound fact n, with the objects of the recorded step in, holds among the facts given
 abbrev pub valueIn : List ℕ → RecordedStep → List Fact → ℕ → Bool
-valueIn s f fs n = holding fs (ground (schemaOf s) (f .step .binding) n)
+valueIn s x fs n = holding fs (ground (schemaOf s) (x .step .binding) n)
 
 -- what the bit of bound fact n of move a says in a set of needs, `b` being the value that is needed
 pub record NeedBit (form : Form) (s : List ℕ) (set : ℕ) (b : Bool) (a n : ℕ) : Type 0 where
@@ -33,7 +33,7 @@ pub record NeedBit (form : Form) (s : List ℕ) (set : ℕ) (b : Bool) (a n : �
   pub by-some : sheetBit (ruleSheet form s) set a n ≡ true ↔ ((M : Model) × FitsBook form s M × (M .precondition b a n ≡ true))
   -- exactly if n is a bound fact of the move that had the value before every recorded step of it (formula 1).
   pub by-record : sheetBit (ruleSheet form s) set a n ≡ true
-      ↔ ((isAtom (schemaOf s) a n ≡ true) × ((f : RecordedStep) → Mem f (stepsOfBook form s) → f .step .action .0 ≡ a → valueIn s f (f .pre) n ≡ b))
+      ↔ ((isAtom (schemaOf s) a n ≡ true) × ((x : RecordedStep) → Mem x (stepsOfBook form s) → x .step .action .0 ≡ a → valueIn s x (x .pre) n ≡ b))
 
 -- and in a set of effects, `b` being the value that is given
 pub record EffectBit (form : Form) (s : List ℕ) (set : ℕ) (b : Bool) (a n : ℕ) : Type 0 where
@@ -42,7 +42,7 @@ pub record EffectBit (form : Form) (s : List ℕ) (set : ℕ) (b : Bool) (a n : 
   -- exactly if n is a bound fact of the move that some recorded step of it changed to the value (formula 2).
   pub by-record : sheetBit (ruleSheet form s) set a n ≡ true
       ↔ ((isAtom (schemaOf s) a n ≡ true)
-      × ((f : RecordedStep) × Mem f (stepsOfBook form s) × (f .step .action .0 ≡ a) × (valueIn s f (f .pre) n ≡ not b) × (valueIn s f (f .post) n ≡ b)))
+      × ((x : RecordedStep) × Mem x (stepsOfBook form s) × (x .step .action .0 ≡ a) × (valueIn s x (x .pre) n ≡ not b) × (valueIn s x (x .post) n ≡ b)))
 
 -- what the four bits of bound fact n of move a say
 pub record Bits (form : Form) (s : List ℕ) (a n : ℕ) : Type 0 where

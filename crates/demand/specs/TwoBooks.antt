@@ -1,5 +1,5 @@
 -- Two books side by side, each in its form: when they show the same of a move, and the two sentences that say what follows for the rule sheet. `s` is of
--- form `f`, `t` of form `g`.
+-- form `F`, `t` of form `G`.
 use Prim.Native.Nat.{ℕ, _+_, _-_, _*_, _≤_, _<_}
 use mathlib.Core.Path.{_≡_}
 use mathlib.Core.List.{List, [], _∷_}
@@ -29,31 +29,31 @@ pub record SameSections (s t : List ℕ) : Type 0 where
 
 -- Books of good form with such sections have schemas that say the same, which is what the two sentences below ask: bytes are one way to it.
 abbrev pub SameSectionsSameSchema : Type 0
-SameSectionsSameSchema = (f g : Form) (s t : List ℕ) (m n : ℕ) → lookOver f s ≡ Good m → lookOver g t ≡ Good n → SameSections s t
+SameSectionsSameSchema = (F G : Form) (s t : List ℕ) (m n : ℕ) → lookOver F s ≡ Good m → lookOver G t ≡ Good n → SameSections s t
     → SameSchema (schemaOf s) (schemaOf t)
 
 -- ---- the same steps of one move
 
 -- the same step, states included, wherever each is recorded
-pub record SameStep (f g : RecordedStep) : Type 0 where
-  pub step : f .step ≡ g .step
-  pub pre : f .pre ≡ g .pre
-  pub post : f .post ≡ g .post
+pub record SameStep (x y : RecordedStep) : Type 0 where
+  pub step : x .step ≡ y .step
+  pub pre : x .pre ≡ y .pre
+  pub post : x .post ≡ y .post
 
 -- each step of move a that the one book holds, the other holds too, however often and wherever
-pub record SameSteps (f g : Form) (s t : List ℕ) (a : ℕ) : Type 0 where
-  pub forth : (x : RecordedStep) → Mem x (stepsOfBook f s) → x .step .action .0 ≡ a → (y : RecordedStep) × Mem y (stepsOfBook g t) × SameStep x y
-  pub back : (y : RecordedStep) → Mem y (stepsOfBook g t) → y .step .action .0 ≡ a → (x : RecordedStep) × Mem x (stepsOfBook f s) × SameStep x y
+pub record SameSteps (F G : Form) (s t : List ℕ) (a : ℕ) : Type 0 where
+  pub forth : (x : RecordedStep) → Mem x (stepsOfBook F s) → x .step .action .0 ≡ a → (y : RecordedStep) × Mem y (stepsOfBook G t) × SameStep x y
+  pub back : (y : RecordedStep) → Mem y (stepsOfBook G t) → y .step .action .0 ≡ a → (x : RecordedStep) × Mem x (stepsOfBook F s) × SameStep x y
 
 -- the 128 bytes of move a
 abbrev pub blockOf : Form → List ℕ → ℕ → List ℕ
-blockOf f s a = take ruleSize (drop (ruleSize * (a - 1)) (ruleSheet f s))
+blockOf F s a = take ruleSize (drop (ruleSize * (a - 1)) (ruleSheet F s))
 
 -- Two books with equal relations and moves that hold the same steps of one move, states included, give that move the same 128 bytes.
 -- Asked is good form alone: accepted books, which learning does not refuse, are among these.
 abbrev pub SameStepsSameBlock : Type 0
-SameStepsSameBlock = (f g : Form) (s t : List ℕ) (m n : ℕ) → lookOver f s ≡ Good m → lookOver g t ≡ Good n → SameSchema (schemaOf s) (schemaOf t)
-    → (a : ℕ) → 1 ≤ a → a ≤ schemaOf s .moves → SameSteps f g s t a → blockOf f s a ≡ blockOf g t a
+SameStepsSameBlock = (F G : Form) (s t : List ℕ) (m n : ℕ) → lookOver F s ≡ Good m → lookOver G t ≡ Good n → SameSchema (schemaOf s) (schemaOf t)
+    → (a : ℕ) → 1 ≤ a → a ≤ schemaOf s .moves → SameSteps F G s t a → blockOf F s a ≡ blockOf G t a
 
 -- ---- objects renumbered
 
@@ -71,23 +71,23 @@ pub record RenumberedFacts (to : ℕ → ℕ) (fs gs : List Fact) : Type 0 where
   pub back : (g : Fact) → Mem g gs → (f : Fact) × Mem f fs × (renumbered to f ≡ g)
 
 -- a recorded step with its states, renumbered
-pub record RenumberedStep (f g : RecordedStep) : Type 0 where
+pub record RenumberedStep (x y : RecordedStep) : Type 0 where
   pub to : ℕ → ℕ
   pub numbering : Renumbering to
-  pub action : f .step .action ≡ g .step .action
+  pub action : x .step .action ≡ y .step .action
   pub objects : (p : ℕ) → 1 ≤ p → p ≤ maxParams
-      → to (objectOf (f .step .binding) (record { 0 = p }) .0) ≡ objectOf (g .step .binding) (record { 0 = p }) .0
-  pub pre : RenumberedFacts to (f .pre) (g .pre)
-  pub post : RenumberedFacts to (f .post) (g .post)
+      → to (objectOf (x .step .binding) (record { 0 = p }) .0) ≡ objectOf (y .step .binding) (record { 0 = p }) .0
+  pub pre : RenumberedFacts to (x .pre) (y .pre)
+  pub post : RenumberedFacts to (x .post) (y .post)
 
 -- step by step, each with a renumbering of its own; the steps of one record may share theirs
 abbrev pub RenumberedSteps : List RecordedStep → List RecordedStep → Type 0
 RenumberedSteps [] [] = Unit {0}
-RenumberedSteps [] (g ∷ gs) = ⊥
-RenumberedSteps (f ∷ fs) [] = ⊥
-RenumberedSteps (f ∷ fs) (g ∷ gs) = RenumberedStep f g × RenumberedSteps fs gs
+RenumberedSteps [] (y ∷ ys) = ⊥
+RenumberedSteps (x ∷ xs) [] = ⊥
+RenumberedSteps (x ∷ xs) (y ∷ ys) = RenumberedStep x y × RenumberedSteps xs ys
 
 -- Two books with equal relations and moves whose records differ by the numbers of their objects alone give the same rule sheet.
 abbrev pub RenumberedSameSheet : Type 0
-RenumberedSameSheet = (f g : Form) (s t : List ℕ) (m n : ℕ) → lookOver f s ≡ Good m → lookOver g t ≡ Good n → SameSchema (schemaOf s) (schemaOf t)
-    → RenumberedSteps (stepsOfBook f s) (stepsOfBook g t) → ruleSheet f s ≡ ruleSheet g t
+RenumberedSameSheet = (F G : Form) (s t : List ℕ) (m n : ℕ) → lookOver F s ≡ Good m → lookOver G t ≡ Good n → SameSchema (schemaOf s) (schemaOf t)
+    → RenumberedSteps (stepsOfBook F s) (stepsOfBook G t) → ruleSheet F s ≡ ruleSheet G t

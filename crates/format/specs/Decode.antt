@@ -47,11 +47,11 @@ recordedSteps form h s = stepsOfRecords form s (h .records .count) (h .records .
 -- ---- the same steps at other offsets
 
 unfoldable pub placedAt : ℕ → RecordedStep → RecordedStep
-placedAt at f = record { place = at; step = f .step; pre = f .pre; post = f .post }
+placedAt at x = record { place = at; step = x .step; pre = x .pre; post = x .post }
 
 -- each step at the offset that `to` makes of its own
 unfoldable pub placedBy : (ℕ → ℕ) → List RecordedStep → List RecordedStep
-placedBy to = map (λ f. placedAt (to (f .place)) f)
+placedBy to = map (λ x. placedAt (to (x .place)) x)
 
 -- each step k bytes further on
 unfoldable pub movedBy : ℕ → List RecordedStep → List RecordedStep

@@ -41,15 +41,15 @@ stepBytes st =
 
 -- a recorded step: what `filedStepAt` reads is written back as the bytes that were there (proofs/Bytes)
 unfoldable pub filedStepBytes : RecordedStep → List ℕ
-filedStepBytes f = stepBytes (f .step)
+filedStepBytes x = stepBytes (x .step)
 
 -- the list after a step in a form: the facts that turn, or those that hold
 unfoldable pub listed : Form → RecordedStep → List Fact
-listed form f = cond form (toggled (f .pre) (f .post)) (f .post)
+listed form x = cond form (toggled (x .pre) (x .post)) (x .post)
 
 unfoldable pub stepsBytes : Form → List RecordedStep → List ℕ
 stepsBytes form [] = []
-stepsBytes form (f ∷ fs) = filedStepBytes f ++ listBytes (listed form f) ++ stepsBytes form fs
+stepsBytes form (x ∷ xs) = filedStepBytes x ++ listBytes (listed form x) ++ stepsBytes form xs
 
 -- ---- a book in the form `to`, which `s` is not in
 

@@ -21,7 +21,7 @@ use Rattle.jobs.specs.Planning.{domain, transition, schemaOf, stepsOfBoo
 
 -- row 11: the first step that changed a fact that is no bound fact of it
 unfoldable pub unboundEffects : Schema → List RecordedStep → Answer
-unboundEffects sch fs = firstRefused (λ f. unboundEffect (domain sch) (transition sch f)) 11 (λ f. f .place) fs
+unboundEffects sch xs = firstRefused (λ x. unboundEffect (domain sch) (transition sch x)) 11 (λ x. x .place) xs
 
 -- row 12: the smallest move with a bound fact changed to one value and left with the other
 unfoldable pub conflictAnswer : ℕ → Answer

@@ -22,7 +22,7 @@ unfoldable pub groundAction : Schema → Step → GroundAction
 groundAction sch st = record { action = st .action .0; ground = ground sch (st .binding) }
 
 unfoldable pub transition : Schema → RecordedStep → Transition
-transition sch f = record { step = groundAction sch (f .step); pre = holding (f .pre); post = holding (f .post) }
+transition sch x = record { step = groundAction sch (x .step); pre = holding (x .pre); post = holding (x .post) }
 
 unfoldable pub goalEntry : GoalEntry → GoalLiteral
 goalEntry e = record { wanted = e .wanted; fact = factNumber (e .fact) }

@@ -22,10 +22,10 @@ Found sch st fs =
     (n : ℕ) → n < maxAtoms
     → testBit (atomsIn (atomSet sch (st .action .0)) (st .binding) fs) n ≡ (isAtom sch (st .action .0) n && holding fs (ground sch (st .binding) n))
 
-pub record Faithful (sch : Schema) (f : RecordedStep) : Type 0 where
-  pub counted : 1 ≤ f .step .action .0
-  pub known : f .step .action .0 ≤ sch .moves
-  pub placed : 1 ≤ f .place
-  pub was : Found sch (f .step) (f .pre)
-  pub got : Found sch (f .step) (f .post)
-  pub unboundEffects : unboundChanged (atomSet sch (f .step .action .0)) (f .step .binding) (f .pre) (f .post) ≡ unboundEffect (domain sch) (transition sch f)
+pub record Faithful (sch : Schema) (x : RecordedStep) : Type 0 where
+  pub counted : 1 ≤ x .step .action .0
+  pub known : x .step .action .0 ≤ sch .moves
+  pub placed : 1 ≤ x .place
+  pub was : Found sch (x .step) (x .pre)
+  pub got : Found sch (x .step) (x .post)
+  pub unboundEffects : unboundChanged (atomSet sch (x .step .action .0)) (x .step .binding) (x .pre) (x .post) ≡ unboundEffect (domain sch) (transition sch x)

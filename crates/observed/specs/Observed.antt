@@ -117,29 +117,29 @@ firstNamed named unbound at = cond (eqb named 0) (cond unbound at 0) named
 
 -- what is observed after one step more of a move whose bound facts are `atoms`
 unfoldable pub observeBy : List ℕ → RecordedStep → Observed → Observed
-observeBy atoms f h =
+observeBy atoms x seen =
     record {
       masks =
-          noted (f .step .action .0) (atomsIn atoms (f .step .binding) (f .pre)) (atomsIn atoms (f .step .binding) (f .post)) (h .masks);
-      named = firstNamed (h .named) (unboundChanged atoms (f .step .binding) (f .pre) (f .post)) (f .place);
+          noted (x .step .action .0) (atomsIn atoms (x .step .binding) (x .pre)) (atomsIn atoms (x .step .binding) (x .post)) (seen .masks);
+      named = firstNamed (seen .named) (unboundChanged atoms (x .step .binding) (x .pre) (x .post)) (x .place);
     }
 
 -- the bound facts being those that were made before any record
 unfoldable pub observe : RecordedStep → Observed → Observed
-observe f h = observeBy (observedSet (h .masks) (f .step .action .0) bound) f h
+observe x seen = observeBy (observedSet (seen .masks) (x .step .action .0) bound) x seen
 
 unfoldable pub observeAll : List RecordedStep → Observed → Observed
-observeAll [] h = h
-observeAll (f ∷ fs) h = observeAll fs (observe f h)
+observeAll [] seen = seen
+observeAll (x ∷ xs) seen = observeAll xs (observe x seen)
 
 -- what is held after a record: made from what was held before, the record's bytes `r` and its offset
 unfoldable pub observedAfter : Form → List ℕ → ℕ → Observed → Observed
-observedAfter form r at h = observeAll (movedBy at (stepsOfRecord form r 0)) h
+observedAfter form r at seen = observeAll (movedBy at (stepsOfRecord form r 0)) seen
 
 -- after records in a row, the first at an offset, each next one where the one before it ends
 unfoldable pub observedAfterAll : Form → List (List ℕ) → ℕ → Observed → Observed
-observedAfterAll form [] at h = h
-observedAfterAll form (r ∷ rs) at h = observedAfterAll form rs (at + length r) (observedAfter form r at h)
+observedAfterAll form [] at seen = seen
+observedAfterAll form (r ∷ rs) at seen = observedAfterAll form rs (at + length r) (observedAfter form r at seen)
 
 -- number n in set k of move a before any record. No step has been seen that lacks a bound fact, so the two sets of what held at every step begin with all
 -- bound facts; the sets of what held, was added or was removed at some step begin empty

@@ -12,10 +12,10 @@ use Rattle.jobs.specs.Learn.{unboundEffects, conflictingMove, ruleBlocks}
 use Rattle.observed.specs.Observed.{Observed}
 use Rattle.observed.specs.Rules.{sheetObserved, unboundAnswer, conflictAmong}
 
--- `h` is what is observed after the steps `fs`
-pub record Taught (sch : Schema) (fs : List RecordedStep) (h : Observed) : Type 0 where
-  pub sized : length (h .masks) ≡ observedSize
-  pub bytes : Bytes (h .masks)
-  pub row11 : unboundAnswer (h .named) ≡ unboundEffects sch fs
-  pub row12 : conflictAmong (h .masks) (sch .moves) ≡ conflictingMove sch (map (transition sch) fs)
-  pub sheet : sheetObserved (h .masks) (sch .moves) 1 ≡ ruleBlocks (learnedRules (domain sch) (map (transition sch) fs)) (sch .moves) 1
+-- `seen` is what is observed after the steps `xs`
+pub record Taught (sch : Schema) (xs : List RecordedStep) (seen : Observed) : Type 0 where
+  pub sized : length (seen .masks) ≡ observedSize
+  pub bytes : Bytes (seen .masks)
+  pub row11 : unboundAnswer (seen .named) ≡ unboundEffects sch xs
+  pub row12 : conflictAmong (seen .masks) (sch .moves) ≡ conflictingMove sch (map (transition sch) xs)
+  pub sheet : sheetObserved (seen .masks) (sch .moves) 1 ≡ ruleBlocks (learnedRules (domain sch) (map (transition sch) xs)) (sch .moves) 1

@@ -34,9 +34,9 @@ unfoldable pub observedStep : Form → List ℕ → List Fact → ℕ → List �
 observedStep form s before at masks named = observe (recordedStep form s before at) (record { masks = masks; named = named })
 
 -- bytes and an offset that are what is observed
-pub record IsObserved (h : Observed) (bytes : List ℕ) (offset : ℕ) : Type 0 where
-  pub masks : bytes ≡ h .masks
-  pub named : offset ≡ h .named
+pub record IsObserved (seen : Observed) (bytes : List ℕ) (offset : ℕ) : Type 0 where
+  pub masks : bytes ≡ seen .masks
+  pub named : offset ≡ seen .named
 
 -- the sets of a move before any record, made from empty ones: no step has been seen that lacks a bound fact, so the two sets of what held at every
 -- step begin with all bound facts, and so does the set of these

@@ -25,30 +25,30 @@ use Rattle.observed.specs.Rules.{sheetObserved, unboundAnswer, conflictAmong}
 
 -- the masks, and in two bytes the offset that row 11 needs
 unfoldable pub heldBytes : Observed → List ℕ
-heldBytes h = h .masks ++ twoBytes (h .named)
+heldBytes seen = seen .masks ++ twoBytes (seen .named)
 
 abbrev pub heldSize : ℕ
 heldSize = observedSize + 2
 
 -- it is within its limit, and nothing else is held: both parts are read back from the bytes
-pub record Small (h : Observed) : Type 0 where
-  pub size : length (heldBytes h) ≡ heldSize
-  pub limit : length (heldBytes h) ≤ maxHeld
-  pub bytes : Bytes (heldBytes h)
-  pub masks : take observedSize (heldBytes h) ≡ h .masks
-  pub named : two (heldBytes h) observedSize ≡ h .named
+pub record Small (seen : Observed) : Type 0 where
+  pub size : length (heldBytes seen) ≡ heldSize
+  pub limit : length (heldBytes seen) ≤ maxHeld
+  pub bytes : Bytes (heldBytes seen)
+  pub masks : take observedSize (heldBytes seen) ≡ seen .masks
+  pub named : two (heldBytes seen) observedSize ≡ seen .named
 
 -- ---- what comes of it
 
 -- rows 11 and 12, from the bytes of the sections and what is held at the end
 unfoldable pub heldRows : List ℕ → Observed → Answer
-heldRows sec h = do
-  _ ← unboundAnswer (h .named)
-  conflictAmong (h .masks) (schemaOf sec .moves)
+heldRows sec seen = do
+  _ ← unboundAnswer (seen .named)
+  conflictAmong (seen .masks) (schemaOf sec .moves)
 
 -- and the rule sheet
 unfoldable pub heldSheet : List ℕ → Observed → List ℕ
-heldSheet sec h = sheetObserved (h .masks) (schemaOf sec .moves) 1
+heldSheet sec seen = sheetObserved (seen .masks) (schemaOf sec .moves) 1
 
 -- ---- the walk
 

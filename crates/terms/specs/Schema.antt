@@ -58,7 +58,7 @@ pub record TypedObjects : Type 0 where
   pub kind : Object → ℕ
 
 unfoldable pub typedObjects : Objects → List ℕ → TypedObjects
-typedObjects o s = record { count = o .count; kind = λ x. byteAt s (o .at + (x .0 - 1)) }
+typedObjects objects s = record { count = objects .count; kind = λ x. byteAt s (objects .at + (x .0 - 1)) }
 
 -- the kind named is one of the first n of these: a kind, its parent, the parent's parent, and so on
 unfoldable pub suitsWithin : Schema → ℕ → ℕ → ℕ → Bool

@@ -1,5 +1,5 @@
 -- Two good books that hold the same transitions (steps, with their states), each in its form, get the same sheet, the same answers apart from the
--- places of 11, and the same verdicts. `s` is of form `f`, `t` of form `g`. A book and its converted twin are such books.
+-- places of 11, and the same verdicts. `s` is of form `F`, `t` of form `G`. A book and its converted twin are such books.
 use Prim.Native.Nat.{ℕ, _≤_}
 use mathlib.Core.Path.{_≡_}
 use mathlib.Core.Logic.{_↔_}
@@ -27,22 +27,22 @@ use Rattle.jobs.specs.Judge.{FitsBook, StartVerdict}
 use Rattle.converted.specs.Converted.{unplaced}
 
 -- the two books can be compared: both are of good form with as many steps, and their schemas say the same, with as many kinds
-pub record Comparable (f g : Form) (s t : List ℕ) (n : ℕ) : Type 0 where
-  pub good : lookOver f s ≡ Good n
-  pub good′ : lookOver g t ≡ Good n
+pub record Comparable (F G : Form) (s t : List ℕ) (n : ℕ) : Type 0 where
+  pub good : lookOver F s ≡ Good n
+  pub good′ : lookOver G t ≡ Good n
   pub schema : SameSchema (schemaOf s) (schemaOf t)
   pub kinds : schemaOf s .kinds ≡ schemaOf t .kinds
 
 -- they say the same: their steps are the same in the same sequence, states included, wherever each is recorded
-pub record SameBooks (f g : Form) (s t : List ℕ) (n : ℕ) : Type 0 where
-  pub comparable : Comparable f g s t n
-  pub steps : unplaced (stepsOfBook f s) ≡ unplaced (stepsOfBook g t)
+pub record SameBooks (F G : Form) (s t : List ℕ) (n : ℕ) : Type 0 where
+  pub comparable : Comparable F G s t n
+  pub steps : unplaced (stepsOfBook F s) ≡ unplaced (stepsOfBook G t)
 
 -- they have the same transitions: a step, states included, that is recorded in the one is recorded in the other. The sequence may differ, and how often
 -- a step is recorded; but both books have as many steps in all, since the place of success is their number
-pub record SameTransitions (f g : Form) (s t : List ℕ) (n : ℕ) : Type 0 where
-  pub comparable : Comparable f g s t n
-  pub steps : (x : RecordedStep) → Mem x (unplaced (stepsOfBook f s)) ↔ Mem x (unplaced (stepsOfBook g t))
+pub record SameTransitions (F G : Form) (s t : List ℕ) (n : ℕ) : Type 0 where
+  pub comparable : Comparable F G s t n
+  pub steps : (x : RecordedStep) → Mem x (unplaced (stepsOfBook F s)) ↔ Mem x (unplaced (stepsOfBook G t))
 
 -- no model fits, and the place is an offset in the book: the number is 11
 abbrev pub placedApart : ℕ → Bool
@@ -55,23 +55,23 @@ pub record SameAnswer (a b : Answer) : Type 0 where
 
 -- what the calls and the judge say of the one book, they say of the other: learning into a sheet of any size, checking any order, whatever the
 -- bytes lent; the judge holds the same models, and says the same of any order's plan, right or not, from any start
-pub record SameAnswers (f g : Form) (s t : List ℕ) : Type 0 where
-  pub sheet : ruleSheet f s ≡ ruleSheet g t
-  pub learning : (size : ℕ) → SameAnswer (learn f s size) (learn g t size)
-  pub learned-bytes : (lent : List ℕ) → learnBytes f s lent ≡ learnBytes g t lent
-  pub checking : (o : List ℕ) (size : ℕ) → SameAnswer (check f s o size .answer) (check g t o size .answer)
-  pub position : (o : List ℕ) (size : ℕ) → check f s o size .position ≡ check g t o size .position
-  pub checked-bytes : (o lent : List ℕ) → checkBytes f s o lent ≡ checkBytes g t o lent
-  pub fitting : (M : Model) → FitsBook f s M ↔ FitsBook g t M
-  pub verdicts : (o : List ℕ) (start : State) (v : Verdict) → StartVerdict f s o start v ↔ StartVerdict g t o start v
+pub record SameAnswers (F G : Form) (s t : List ℕ) : Type 0 where
+  pub sheet : ruleSheet F s ≡ ruleSheet G t
+  pub learning : (size : ℕ) → SameAnswer (learn F s size) (learn G t size)
+  pub learned-bytes : (lent : List ℕ) → learnBytes F s lent ≡ learnBytes G t lent
+  pub checking : (o : List ℕ) (size : ℕ) → SameAnswer (check F s o size .answer) (check G t o size .answer)
+  pub position : (o : List ℕ) (size : ℕ) → check F s o size .position ≡ check G t o size .position
+  pub checked-bytes : (o lent : List ℕ) → checkBytes F s o lent ≡ checkBytes G t o lent
+  pub fitting : (M : Model) → FitsBook F s M ↔ FitsBook G t M
+  pub verdicts : (o : List ℕ) (start : State) (v : Verdict) → StartVerdict F s o start v ↔ StartVerdict G t o start v
 
 -- Books with the same transitions get the same answers,
 abbrev pub SameTransitionsSameAnswers : Type 0
-SameTransitionsSameAnswers = (f g : Form) (s t : List ℕ) (n : ℕ) → SameTransitions f g s t n → SameAnswers f g s t
+SameTransitionsSameAnswers = (F G : Form) (s t : List ℕ) (n : ℕ) → SameTransitions F G s t n → SameAnswers F G s t
 
 -- and so do books that say the same.
 abbrev pub SameBooksSameAnswers : Type 0
-SameBooksSameAnswers = (f g : Form) (s t : List ℕ) (n : ℕ) → SameBooks f g s t n → SameAnswers f g s t
+SameBooksSameAnswers = (F G : Form) (s t : List ℕ) (n : ℕ) → SameBooks F G s t n → SameAnswers F G s t
 
 -- A good book and the same book converted, where that does not pass 60,000 bytes, say the same,
 abbrev pub EitherForm : Type 0

@@ -14,14 +14,14 @@ use Rattle.quantify.specs.Quantify.{Mem}
 use Rattle.factsets.specs.Right.{RightStep, RightState}
 
 -- a recorded step with the states before and after it
-pub record Right (sch : Schema) (ob : TypedObjects) (f : RecordedStep) : Type 0 where
-  pub step : RightStep sch ob (f .step)
-  pub pre : RightState sch ob (f .pre)
-  pub post : RightState sch ob (f .post)
+pub record Right (sch : Schema) (ob : TypedObjects) (x : RecordedStep) : Type 0 where
+  pub step : RightStep sch ob (x .step)
+  pub pre : RightState sch ob (x .pre)
+  pub post : RightState sch ob (x .post)
 
 -- the same over some typed objects, at most 16: those of the record that has the step
 abbrev pub RightSomewhere : Schema → RecordedStep → Type 0
-RightSomewhere sch f = (ob : TypedObjects) × (ob .count ≤ maxObjects) × Right sch ob f
+RightSomewhere sch x = (ob : TypedObjects) × (ob .count ≤ maxObjects) × Right sch ob x
 
 -- the objects of an order
 abbrev pub orderTyped : List ℕ → TypedObjects
