@@ -19,8 +19,8 @@ use Rattle.format.specs.LookOver.{stepTotal, allRecords, lookOverBy, lookOver}
 use Rattle.format.proofs.Header.{sections-good, sections-place}
 use Rattle.answer.proofs.Bounds.{Bounded, bounded-of, bounded-good, bounded-then, bounded-row, bounded-wider}
 use Rattle.answer.proofs.Turns.{part-stays, part-follows}
-use Rattle.records.specs.declared.Head.{Head}
-use Rattle.records.specs.Head.{headOf}
+use Rattle.terms.specs.declared.Head.{Head}
+use Rattle.terms.specs.Head.{headOf}
 use Rattle.records.specs.Rows.{bookEnd}
 use Rattle.records.proofs.Bounds.{records-bounded, total-bounded}
 
@@ -75,5 +75,5 @@ module _ (form : Form) (h : Sections) (s : List ℕ) (at : ℕ) (read : h ≡ se
   last-refused e = part-stays _ rest a b is told e ∙ own
 
   pub last-ended : b ≡ false → (v : ℕ) → v ≡ valueOf a → (head : Head) → head ≡ headOf s at → bookEnd s v (head .steps) ≡ allRecords form (sectionsOf s) s 1 at
-  unfolding rest headOf
+  unfolding rest headOf stepsIn
   last-ended e v value head f = ap (λ (x : Head). bookEnd s v (x .steps)) f ∙ part-follows _ rest a b v is told e value ∙ own

@@ -16,14 +16,14 @@ use Rattle.format.specs.Filed.{filedFact}
 use Rattle.format.specs.Lists.{listAt, listEnd}
 use Rattle.format.specs.Form.{Form}
 use Rattle.format.specs.States.{state}
-use Rattle.format.specs.Records.{object, steps, trajectory, closed, recordAt}
+use Rattle.format.specs.Records.{objectsIn, stepsIn, lengthIn, object, steps, trajectory, closed, recordAt}
 use Rattle.format.specs.Decode.{recordedStepsAt, stepsOfRecord}
 use Rattle.format.proofs.States.{list-ends}
 use Rattle.format.proofs.Typing.{objects-known}
 use Rattle.answer.specs.Walk.{walk}
-use Rattle.records.specs.declared.Head.{Head}
+use Rattle.terms.specs.declared.Head.{Head}
 use Rattle.records.specs.declared.Scope.{Scope}
-use Rattle.records.specs.Head.{headOf}
+use Rattle.terms.specs.Head.{headOf}
 use Rattle.records.specs.Readable.{schemaIn, scopeOf, Readable}
 use Rattle.observed.specs.Observed.{Observed, observeAll}
 use Rattle.observed.proofs.Records.{observed-record}
@@ -79,7 +79,7 @@ module _ (form : Form) (h : Sections) (s : List ℕ) (at end : ℕ) (head : Head
       → ((k : ℕ) → t ≡ Good k → IsObserved (observeAll (recordedStepsAt (c .short) s (c .steps) (listAt s v) (listEnd s v)) before) bytes named × Begun (schema (c .h) s) bytes)
       → a ≡ closed at end t
       → (k : ℕ) → a ≡ Good k → IsObserved (observeAll (stepsOfRecord form s at) before) bytes named × Begun (schema h s) bytes
-  unfolding scopeOf stepsOfRecord headOf closed
+  unfolding scopeOf stepsOfRecord headOf objectsIn stepsIn lengthIn closed
   body-observes before bytes v a t named place seen e k good =
       let (last, ended, rest) = parted t k _ (sym e ∙ good) in
       let o = rw (place, is, read) at (seen last ended) in

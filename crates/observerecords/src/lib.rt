@@ -6,8 +6,8 @@ pub mod walk; // the records of a book, one after the other
 
 use answer::Answer;
 use observestep::Noted;
-use records::Head;
 use records::Scope;
+use terms::Head;
 use terms::Sections;
 ghost use mathlib.Core.Path.{_≡_};
 ghost use Prim.Native.Nat.{ℕ, _+_, _≤_};
@@ -23,7 +23,7 @@ ghost use Rattle.format.specs.Records.{steps, trajectory, body};
 ghost use Rattle.format.specs.Decode.{recordedStepsAt, stepsOfRecord};
 ghost use Rattle.states.specs.Looked.{ListLooked};
 ghost use Rattle.observed.specs.Observed.{observeAll};
-ghost use Rattle.records.specs.Head.{headOf};
+ghost use Rattle.terms.specs.Head.{headOf};
 ghost use Rattle.records.specs.Readable.{schemaIn, typedIn, stepListed};
 ghost use Rattle.lifting.specs.Pairs.{noDigits};
 ghost use Rattle.observerecords.specs.Observing.{Begun, CanObserve, Observable, ObservableBy, Ready, Whole, DoneReady, Observes, RecordObserved};

@@ -1,10 +1,10 @@
 // The learner's walk over the records of a book, once and in file order: each looked over to its end, rows 6 to 10, and observed on the way.
-// Uses this crate's root for one record, reader for where the walk stands, records for a head and the book's tail, answer, terms, and the definitions of format and
+// Uses this crate's root for one record, reader for where the walk stands, records for the book's tail, answer, terms, and the definitions of format and
 // observed. Where a book is looked over alone, lookover walks, with nothing lent.
 use super::Walked;
 use answer::Answer;
 use reader::Reader;
-use records::Head;
+use terms::Head;
 use terms::Sections;
 ghost use Prim.Native.Nat.{_≤_};
 ghost use Rattle.limits.specs.Limits.{maxRecords};

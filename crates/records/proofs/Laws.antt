@@ -19,12 +19,12 @@ use Rattle.terms.specs.Schema.{schema, typedObjects}
 use Rattle.limits.specs.Limits.{maxLength, maxObjects, maxRelations, headSize}
 use Rattle.tables.specs.Tables.{RightByKind, RightByPlace}
 use Rattle.format.specs.Form.{Form}
-use Rattle.format.specs.Records.{stepsIn, lengthIn, headBad, recordHead, object, objectsOf, trajectory, body, recordAt, closed}
+use Rattle.format.specs.Records.{objectsIn, stepsIn, lengthIn, headBad, recordHead, object, objectsOf, trajectory, body, recordAt, closed}
 use Rattle.format.specs.LookOver.{stepTotal, allRecords}
 use Rattle.answer.proofs.Turns.{part-stays, part-follows}
-use Rattle.records.specs.declared.Head.{Head}
+use Rattle.terms.specs.declared.Head.{Head}
 use Rattle.records.specs.declared.Scope.{Scope}
-use Rattle.records.specs.Head.{headOf}
+use Rattle.terms.specs.Head.{headOf}
 use Rattle.records.specs.Readable.{scopeOf, Readable}
 use Rattle.records.specs.Rows.{bookEnd}
 
@@ -51,7 +51,7 @@ module _ (form : Form) (h : Sections) (s : List ℕ) (at end : ℕ) (head : Head
       → b ≡ isRefused a
       → b ≡ true
       → a ≡ body form h s at end
-  unfolding body headOf
+  unfolding body headOf objectsIn stepsIn lengthIn
   body-stays a b p q r = part-stays _ _ a b (rw (objects-at, read) at p) q r
 
   -- after good objects
@@ -62,7 +62,7 @@ module _ (form : Form) (h : Sections) (s : List ℕ) (at end : ℕ) (head : Head
       → v ≡ valueOf a
       → t ≡ trajectory (c .short) (schema (c .h) s) (typedObjects (c .objects) s) s (c .end) (c .steps) v
       → closed at end t ≡ body form h s at end
-  unfolding body objectsOf closed headOf scopeOf
+  unfolding body objectsOf closed headOf objectsIn stepsIn lengthIn scopeOf
   body-rest v a b t p q r u w =
       rw (w, is, read)
       (part-follows _
@@ -90,11 +90,11 @@ module _ (s : List ℕ) (at : ℕ) (b : Bool) (is : b ≡ headBad s at) where
 
   module _ (head : Head) (read : head ≡ headOf s at) (right : b ≡ false) where
     pub head-stepless : eqb (head .steps) 0 ≡ true → Refused 24 at ≡ recordHead s at
-    unfolding recordHead headOf
+    unfolding recordHead headOf objectsIn stepsIn lengthIn
     head-stepless e = sym (refuse-unmet _ _ _ _ (sym is ∙ right) ∙ refuse-met _ _ _ _ (rw read at e))
 
     pub head-right : eqb (head .steps) 0 ≡ false → Good (at + head .length) ≡ recordHead s at
-    unfolding recordHead headOf
+    unfolding recordHead headOf objectsIn stepsIn lengthIn
     head-right e = rw read (sym (refuse-unmet _ _ _ _ (sym is ∙ right) ∙ refuse-unmet _ _ _ _ (rw read at e)))
 
 -- a record, by its head
@@ -143,6 +143,6 @@ module _ (s : List ℕ) (whole : ℕ) where
       → head ≡ headOf s at
       → next ≡ at + lengthIn s at
       → total + head .steps + stepTotal s (n - 1) next ≡ whole
-  unfolding stepTotal headOf
+  unfolding stepTotal headOf objectsIn stepsIn lengthIn
   total-more zero at next total head i h e f = absurd (omega arith)
   total-more (suc n) at next total head i h e f = rw (sub-one, e, f) (omega arith)

@@ -14,7 +14,7 @@ use Rattle.format.specs.Form.{Form, mostListed}
 use Rattle.format.specs.States.{list}
 use Rattle.format.specs.Records.{stepRefused}
 use Rattle.tables.specs.Tables.{RightByKind, RightByPlace}
-use Rattle.records.specs.declared.Head.{Head}
+use Rattle.terms.specs.declared.Head.{Head}
 use Rattle.records.specs.declared.Scope.{Scope}
 
 -- what a trajectory is read within, by the record's head

@@ -1,6 +1,7 @@
 // Rows 6 to 10 of the refusal table, row 24 among them: one record of a book, to its end. In a short book the state is carried on from step to step.
 // Uses answer, input, limits, mask, terms, filed, tables, states, turning, and the definitions of format.
 use answer::Answer;
+use terms::Head;
 use terms::Objects;
 use terms::Sections;
 ghost use mathlib.Core.Path.{_≡_};
@@ -8,6 +9,7 @@ ghost use mathlib.Core.Bool.{false};
 ghost use Prim.Native.Nat.{_+_, _≤_};
 ghost use lib.ListN.{length};
 ghost use Rattle.answer.specs.Walk.{walk};
+ghost use Rattle.terms.specs.Head.{headOf};
 ghost use Rattle.terms.specs.Schema.{schema, typedObjects};
 ghost use Rattle.limits.specs.Limits.{maxLength, maxObjects, maxRelations, maxTurns, stepSize, nearCeiling};
 ghost use Rattle.format.specs.Filed.{filedFact};
@@ -17,29 +19,8 @@ ghost use Rattle.format.specs.States.{state};
 ghost use Rattle.format.specs.Records.{headBad, recordHead, object, stepRefused, steps, trajectory, closed, body, recordAt};
 ghost use Rattle.answer.specs.declared.Answer.the-variants.{Good};
 ghost use Rattle.tables.specs.Tables.{ForRightByKind};
-ghost use Rattle.records.specs.Head.{headOf};
 ghost use Rattle.records.specs.Readable.{scopeOf, Readable, stepAlone, stepListed};
 ghost use Rattle.records.specs.Rows.{stepAfter, bookEnd};
-
-// A record's head: how many objects it has, how many steps, and how many bytes.
-pub struct Head {
-    pub objects: u8,
-    pub steps: u8,
-    pub length: u16,
-}
-
-impl Head {
-    pub fn read(s: &[u8], at: usize) -> Head
-        requires { ⌜ at ≤ maxLength ⌝ }
-        ensures { λ r. ⌜ r ≡ headOf (now (s .entry)) at ⌝ }
-    {
-        Head {
-            objects: input::byte_at(s, at),
-            steps: input::byte_at(s, at + 1),
-            length: input::two_at(s, at + 2),
-        }
-    }
-}
 
 // Row 6, of a head.
 fn head_bad(s: &[u8], head: Head, at: usize) -> bool

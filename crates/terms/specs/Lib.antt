@@ -1,5 +1,6 @@
--- What the bytes of a book and an order say, item by item: sections, typed numbers, facts, steps, and whether each is right.
+-- What the bytes of a book and an order say, item by item: sections, a record's head, typed numbers, facts, steps, and whether each is right.
 pub mod Sections
+pub mod Head
 pub mod Schema
 pub mod Facts
 pub mod Steps

@@ -1,11 +1,12 @@
-// The words of the formats as values: typed numbers, sections, facts and steps, each read from bytes, and the tests that need no table.
+// The words of the formats as values: typed numbers, sections, a record's head, facts and steps, each read from bytes, and the tests that need no table.
 // Uses input, limits, and objectset for the tables that tell whether a fact suits; crate `tables` makes these. Every test is one Bool definition of specs/.
 use objectset::Asked;
 ghost use mathlib.Core.Path.{_≡_};
 ghost use Prim.Native.Nat.{_+_, _-_, _≤_, _<_};
 ghost use lib.ListN.{length};
-ghost use Rattle.limits.specs.Limits.{maxParams, maxAtoms, factSize, stepSize, nearCeiling, farCeiling};
+ghost use Rattle.limits.specs.Limits.{maxLength, maxParams, maxAtoms, factSize, stepSize, nearCeiling, farCeiling};
 ghost use Rattle.terms.specs.Sections.{sectionsOf};
+ghost use Rattle.terms.specs.Head.{headOf};
 ghost use Rattle.terms.specs.Schema.{schema, outOfRange, relationAt, moveAt};
 ghost use Rattle.terms.specs.Facts.{factAt, precedes, noFact, factNumber};
 ghost use Rattle.terms.specs.Told.{suits, factKey};
@@ -34,6 +35,13 @@ pub struct Sections {
     pub end: u16,
 }
 
+// A record's head: how many objects it has, how many steps, and how many bytes.
+pub struct Head {
+    pub objects: u8,
+    pub steps: u8,
+    pub length: u16,
+}
+
 // The kind bytes of the objects of a record or an order: how many, from which offset.
 pub struct Objects {
     pub count: u8,
@@ -53,6 +61,19 @@ pub struct Binding {
 pub struct Step {
     pub action: Move,
     pub binding: Binding,
+}
+
+impl Head {
+    pub fn read(s: &[u8], at: usize) -> Head
+        requires { ⌜ at ≤ maxLength ⌝ }
+        ensures { λ r. ⌜ r ≡ headOf (now (s .entry)) at ⌝ }
+    {
+        Head {
+            objects: input::byte_at(s, at),
+            steps: input::byte_at(s, at + 1),
+            length: input::two_at(s, at + 2),
+        }
+    }
 }
 
 impl Sections {

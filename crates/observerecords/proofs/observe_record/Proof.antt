@@ -2,9 +2,10 @@
 use mathlib.Core.Path.{sym, ap, _∙_}
 use native.Mathlib.Omega.{arith}
 use Rattle.answer.proofs.Turns.{is-good}
+use Rattle.format.specs.Records.{objectsIn, stepsIn, lengthIn}
 use Rattle.format.proofs.Records.{head-limits, head-end, head-objects}
-use Rattle.records.specs.declared.Head.{Head}
-use Rattle.records.specs.Head.{headOf}
+use Rattle.terms.specs.declared.Head.{Head}
+use Rattle.terms.specs.Head.{headOf}
 use Rattle.records.proofs.Laws.{record-stays, record-body}
 use Rattle.observerecords.proofs.Record.{stays-observes, record-observes}
 use borrow.Author.Needs.{needs}
@@ -20,7 +21,7 @@ returns c =
     (record-stays _ _ _ _ _ _ (d .before .record-head .ensures) (d .is-refused .ensures) (i .if1 .taken)))
 
 observe-body-requires : tie.Need-observe-body-requires
-unfolding headOf
+unfolding headOf objectsIn stepsIn lengthIn
 observe-body-requires c κs =
     let v = c .before in
     let i = v .before in

@@ -2,9 +2,10 @@
 use mathlib.Core.Path.{sym, ap, _∙_}
 use native.Mathlib.Omega.{arith}
 use Rattle.answer.proofs.Turns.{is-good}
+use Rattle.format.specs.Records.{objectsIn, stepsIn, lengthIn}
 use Rattle.format.proofs.Records.{head-limits, head-end, head-objects}
-use Rattle.records.specs.declared.Head.{Head}
-use Rattle.records.specs.Head.{headOf}
+use Rattle.terms.specs.declared.Head.{Head}
+use Rattle.terms.specs.Head.{headOf}
 use Rattle.records.proofs.Laws.{record-stays, record-body}
 use borrow.Author.Needs.{needs}
 use Rattle.records.proofs.record_at.Statement.{statement}
@@ -16,7 +17,7 @@ returns c =
     record-stays _ _ _ _ _ _ (d .before .record-head .ensures) (d .is-refused .ensures) (c .if1 .taken)
 
 body-requires : tie.Need-body-requires
-unfolding headOf
+unfolding headOf objectsIn stepsIn lengthIn
 body-requires c κs =
     let i = c .before in
     let d = i .before in

@@ -1,12 +1,11 @@
 -- `Head::read` meets its contract: each number by the bytes that it is.
 use borrow.Author.Needs.{needs}
-use Rattle.format.specs.Records.{objectsIn, stepsIn, lengthIn}
-use Rattle.records.specs.Head.{headOf}
-use Rattle.records.proofs.Head.read.Statement.{statement}
-use Rattle.records.proofs.Head.read.Tie as tie
+use Rattle.terms.specs.Head.{headOf}
+use Rattle.terms.proofs.Head.read.Statement.{statement}
+use Rattle.terms.proofs.Head.read.Tie as tie
 
 pub read-spec : {M : Type 1} → statement M
-unfolding headOf objectsIn stepsIn lengthIn
+unfolding headOf
 read-spec =
     tie.close
     (tie.spec (λ c κs. search needs) (λ c. search needs) (λ c κs. search needs) (λ c. search needs) (λ c κs. search needs)
