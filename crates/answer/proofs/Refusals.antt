@@ -59,8 +59,8 @@ module _ (m : ℕ) where
   pub from-bind : (a : Answer) (k : ℕ → Answer) → MetFrom m a → ((n : ℕ) → MetFrom m (k n)) → MetFrom m (a >>= k)
   from-bind a k first rest num p e = refused-cases a k num p e (first num p) (λ n good. rest n num p)
 
-  pub from-block : (b : Bool) (n p : ℕ) (k : ℕ → Answer) → upTo m n ≡ true → MetFrom m (k 0) → MetFrom m (refuse b n p >>= k)
-  from-block b n p k h rest num q e = row-cases b n p k num q e (λ same place. rw same h) (λ unmet. rest num q)
+  pub from-row : (b : Bool) (n p : ℕ) (k : ℕ → Answer) → upTo m n ≡ true → MetFrom m (k 0) → MetFrom m (refuse b n p >>= k)
+  from-row b n p k h rest num q e = row-cases b n p k num q e (λ same place. rw same h) (λ unmet. rest num q)
 
 -- ---- rows that are alike
 

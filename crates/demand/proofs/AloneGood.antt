@@ -34,6 +34,7 @@ use Rattle.jobs.specs.Alone.{startSize, goalAlone, aloneAt}
 use Rattle.demand.proofs.Alone.{StartIn, start-end, goal-alone-is, length-alone, starts-one, goal-at, objects-there, start-there, rest-there}
 use Rattle.demand.proofs.AloneRead.{objects-same, goals-same, steps-same, start-at, steps-at, end-is, header}
 use Rattle.answer.proofs.Walks.{walk-none, walk-last}
+use Rattle.format.specs.Filed.{asWritten}
 
 -- ---- facts and steps over objects that are as many and of the same kinds
 
@@ -96,7 +97,7 @@ module _ (sch : Schema) (o : List ℕ) (n : ℕ) (good : OrderGood sch o n) (at 
 
   -- ---- the start
 
-  module _ (right : state 16 sch H o (goalAt o) at ≡ Good (listEnd o at)) where
+  module _ (right : state asWritten 16 sch H o (goalAt o) at ≡ Good (listEnd o at)) where
     -- it stands where the starts do
     face : Facing at (startAt o) at (startAt p)
     face = record { low = omega arith; level = omega (arith, start-at o at start) }
@@ -117,11 +118,11 @@ module _ (sch : Schema) (o : List ℕ) (n : ℕ) (good : OrderGood sch o n) (at 
         fact-copied (start-there o at start) (at + countSize + factSize * i) (startAt p + countSize + factSize * i) (facing-on (facing-on face countSize) (factSize * i))
         (omega (arith, size-is))
 
-    fact-kept : (i : ℕ) → i < two o at → (last : Fact) → factRefused sch H o (goalAt o) last (at + countSize + factSize * i) ≡ false
-        → factRefused sch K p (goalAt p) last (startAt p + countSize + factSize * i) ≡ false
+    fact-kept : (i : ℕ) → i < two o at → (last : Fact) → factRefused asWritten sch H o (goalAt o) last (at + countSize + factSize * i) ≡ false
+        → factRefused asWritten sch K p (goalAt p) last (startAt p + countSize + factSize * i) ≡ false
     unfolding factRefused cut
     fact-kept i l last e =
-        let (reach, suits, order) = fact-good sch H o (goalAt o) last (at + countSize + factSize * i) e in
+        let (reach, suits, order) = fact-good asWritten sch H o (goalAt o) last (at + countSize + factSize * i) e in
         rw (
           fact-there i l,
           le-ltb (goalAt p) (startAt p + countSize + factSize * i + factSize) (omega (arith, ends)),
@@ -135,18 +136,18 @@ module _ (sch : Schema) (o : List ℕ) (n : ℕ) (good : OrderGood sch o n) (at 
     count-kept =
         rw (count-there, le-ltb (goalAt p) (startAt p + countSize) (omega (arith, ends)), le-ltb maxFacts (two o at) (start .few))
 
-    start-good : state 16 sch K p (goalAt p) (startAt p) ≡ Good (goalAt p)
+    start-good : state asWritten 16 sch K p (goalAt p) (startAt p) ≡ Good (goalAt p)
     unfolding list
     start-good =
-        let (reach, few, facts) = list-good maxFacts 16 sch H o (goalAt o) at (listEnd o at) right in
+        let (reach, few, facts) = list-good asWritten maxFacts 16 sch H o (goalAt o) at (listEnd o at) right in
         refuse-unmet _ _ _ _ count-kept
         ∙ rw count-there
-        (chain-beside (facts-chain 16 sch H o (goalAt o)) (facts-chain 16 sch K p (goalAt p)) (two o at) noFact (at + countSize) (startAt p + countSize) (listEnd o at) fact-kept fact-there facts)
+        (chain-beside (facts-chain asWritten 16 sch H o (goalAt o)) (facts-chain asWritten 16 sch K p (goalAt p)) (two o at) noFact (at + countSize) (startAt p + countSize) (listEnd o at) fact-kept fact-there facts)
         ∙ ap Good (sym ends)
 
-    starts-good : walk (state 16 sch K p (goalAt p)) (startCount p) (startAt p) ≡ Good (goalAt p)
+    starts-good : walk (state asWritten 16 sch K p (goalAt p)) (startCount p) (startAt p) ≡ Good (goalAt p)
     starts-good =
-        let item = state 16 sch K p (goalAt p) in
+        let item = state asWritten 16 sch K p (goalAt p) in
         rw (starts-one o at start) (walk-last item 0 (startAt p) (startAt p) (walk-none item 0 (startAt p) refl) ∙ start-good)
 
     -- ---- goal entries and steps

@@ -15,7 +15,7 @@ use Rattle.truth.specs.Bools.{clash, decide, is-true}
 use Rattle.answer.proofs.Laws.{kept-same, bind-good, bind-refused, bind-assoc, refuse-unmet}
 use Rattle.answer.proofs.Positions.{then-refused, then-by, then-answer}
 use Rattle.answer.specs.Table.{table, rowFrom, row, upTo, MetFrom, isImpossible}
-use Rattle.answer.proofs.Refusals.{from-earlier, from-good, from-block, from-bind, impossible-early, impossible-refused}
+use Rattle.answer.proofs.Refusals.{from-earlier, from-good, from-row, from-bind, impossible-early, impossible-refused}
 use Rattle.mask.proofs.Whole.{length-maskOf, test-maskOf}
 use Rattle.format.specs.Form.{Form}
 use Rattle.format.specs.LookOver.{lookOver}
@@ -74,14 +74,14 @@ module _ (form : Form) (s : List ℕ) (n : ℕ) (good : lookOver form s ≡ Good
 
   learning : (size : ℕ) → Impossible (learn form s size) ↔ NoneFits form s
   unfolding learn table rowFrom row upTo
-  learning size = exactly (learn form s size) _ refl (from-block 13 _ 13 0 _ refl (from-good 13 n))
+  learning size = exactly (learn form s size) _ refl (from-row 13 _ 13 0 _ refl (from-good 13 n))
 
   module _ (o : List ℕ) (size : ℕ) where
     checking : Impossible (check form s o size .answer) ↔ NoneFits form s
     unfolding check beforePlan startsAnswer startAnswer table rowFrom row upTo
     checking =
         exactly (check form s o size .answer) _ (then-answer (beforePlan form s o size) (startsAnswer form s o) ∙ bind-assoc (learnable form s) _ _)
-        (from-bind 13 _ _ (from-block 13 _ 13 0 _ refl (from-earlier 13 14 _ refl (order-met (schemaOf s) o)))
+        (from-bind 13 _ _ (from-row 13 _ 13 0 _ refl (from-earlier 13 14 _ refl (order-met (schemaOf s) o)))
         (λ y. from-failing (stepCount o) (goalOf o) (orderRun form s o) 1 (startStates o)))
 
     -- and where checking answers so, it answers as learning does, about no start

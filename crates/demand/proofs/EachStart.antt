@@ -40,12 +40,13 @@ use Rattle.demand.proofs.AloneRead.{objects-same, steps-same, starts-al
 use Rattle.demand.proofs.AloneGood.{alone-good}
 use Rattle.factsets.specs.Holding.{holding}
 use Rattle.answer.proofs.Walks.{walk-parted}
+use Rattle.format.specs.Filed.{asWritten}
 
 -- ---- the starts of an order of good form
 
 module _ (sch : Schema) (o : List ℕ) (m : ℕ) (good : OrderGood sch o m) where
   abbrev item : ℕ → Answer
-  item = state 16 sch (typedObjects (orderObjects o) o) o (goalAt o)
+  item = state asWritten 16 sch (typedObjects (orderObjects o) o) o (goalAt o)
 
   -- so many good starts, the first of which is at the offset
   abbrev GoodFrom : ℕ → ℕ → Type 0
@@ -58,8 +59,8 @@ module _ (sch : Schema) (o : List ℕ) (m : ℕ) (good : OrderGood sch o m) wher
   start-parted : (n at : ℕ) → GoodFrom (suc n) at → StartIn o at × (item at ≡ Good (listEnd o at)) × GoodFrom n (listEnd o at)
   start-parted n at (low, e) =
       let (next, one, rest) = walk-parted item n at (goalAt o) e in
-      let (place, within) = list-ends maxFacts 16 sch (typedObjects (orderObjects o) o) o (goalAt o) at next one in
-      let few = list-good maxFacts 16 sch (typedObjects (orderObjects o) o) o (goalAt o) at next one .1 in (
+      let (place, within) = list-ends asWritten maxFacts 16 sch (typedObjects (orderObjects o) o) o (goalAt o) at next one in
+      let few = list-good asWritten maxFacts 16 sch (typedObjects (orderObjects o) o) o (goalAt o) at next one .1 in (
         record { header = good .header; low = low; high = within; few = few },
         one ∙ ap Good place,
         (omega (arith, start-end o at), subst (λ (x : ℕ). walk item n x ≡ Good (goalAt o)) place rest),

@@ -3,7 +3,6 @@ use Prim.Native.Nat.{ℕ, zero, suc, _*_, _<_}
 use native.Mathlib.Decide.{decLt}
 use native.Mathlib.Omega.{arith}
 use mathlib.Core.Path.{_≡_, refl, sym, _∙_, subst}
-use mathlib.Core.Logic.{⊎-elim}
 use mathlib.Core.Bool.{Bool, true, false, not}
 use mathlib.Core.List.{List, [], _∷_}
 use lib.Dec.{eqb}
@@ -44,6 +43,8 @@ use Rattle.wellformed.proofs.Learnable.{inconsistentIn, learnable-clean, learna
 use Rattle.demand.specs.EndSheet.{RightNumber, RightBits, EndSheetRight}
 use Rattle.demand.proofs.EachStart.{only-answer, ready, check-ready, refused-check}
 use Rattle.factsets.specs.Holding.{holding}
+use Rattle.answer.specs.Table.{isImpossible}
+use Rattle.answer.proofs.Refusals.{impossible-refused}
 
 -- a run whose answer has number 0 ends, and its answer is good
 run-passes : (steps : ℕ) (goal : List GoalLiteral) (r : Run) → number (runAnswer steps goal r) ≡ 0 → (end : State) × (r ≡ ended end) × (runAnswer steps goal r ≡ Good steps)
@@ -93,7 +94,7 @@ module _ (form : Form) (s : List ℕ) (k : ℕ) (looked : lookOver form s ≡ Go
         (λ e.
         let (num, p, q, h) = learnable-inconsistent form s k looked e in
         let z : num ≡ 0 = rw (refused-check form s o num p q (length lent)) at pass in
-        ⊎-elim (λ (x : num ≡ 11). omega arith) (λ (x : num ≡ 12). omega arith) h)
+        clash (isImpossible 0) (rw z at h) impossible-refused)
 
     end-within : (start : State) → Mem start (startStates o) → (end : State) → orderRun form s o start ≡ ended end → Within (RightNumber s o) end
     unfolding orderRun planRun learnedFrom

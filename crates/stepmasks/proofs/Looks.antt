@@ -44,7 +44,7 @@ module _ (s : List ℕ) (c : FactCursor) (size : c .size ≡ factSize) where
       λ i. record { at = p i; left = g .1 i }
 
   module _ (ahead : FactsWithin s (plain c)) (some : 0 < c .left) where
-    pub item-ahead : c .key ≡ factKey (c .last) → states.Ahead s c
+    pub item-ahead : c .key ≡ factKey (c .last) → states.ItemWithin s c
     unfolding plain
     item-ahead key = record { whole = omega arith; within = omega (arith, ahead .within); near = omega (arith, ahead .near); key = key }
 
