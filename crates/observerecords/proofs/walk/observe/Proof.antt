@@ -55,9 +55,9 @@ use Rattle.observerecords.proofs.Walked.Laws as R′
 use Rattle.observerecords.proofs.Lent.{Tokens, Last, Given-up}
 use Rattle.observerecords.proofs.observe_record as work
 use Rattle.observerecords.proofs.observe_record.Symbol as work-def
-use Rattle.observerecords.proofs.observe_record.Symbol.{name as #observing·observe-record}
+use Rattle.observerecords.proofs.observe_record.Symbol.{name as #observerecords·observe-record}
 use Rattle.observerecords.proofs.observe_record.Met as work-thm
-use Rattle.observerecords.proofs.walk.observe.Key.{name as #observing·walk·observe}
+use Rattle.observerecords.proofs.walk.observe.Key.{name as #observerecords·walk·observe}
 use Rattle.observerecords.proofs.walk.observe as observe
 use Rattle.observerecords.proofs.walk.observe.Statement as stated
 use Rattle.observerecords.proofs.walk.observe.Code as code
@@ -157,7 +157,7 @@ module _ {M : Type 1} (𝓤 : URA M) (H : Heap 𝓤) (A : Atoms 𝓤) (W : Given
       move ! (2 ∷ []) $ frame ! $ nothing ! $ owned ! usize (Is usize) (uint-makes 𝓤 H A W w64) n _ (refl, ok) $ fjoin ! $ move ! (1 ∷ 0 ∷ []) $ fjoin ! $
       owned ! N.the-row (Is N.the-row) (LL.makes N.the-type N′.the-plain 𝓤 H A) h _ h-is $ fjoin ! $ owned ! bool (Is bool) (bool-makes 𝓤 H A W) short _ refl $ fjoin ! $ move ! (2 ∷ 0 ∷ []) $ fjoin ! $ frame ! $ done !
 
-  module _ (C : Calls 𝓤 H) (Λ : Loops 𝓤 H) (fm : FmC 𝓤 H (W .laws) C) (known : Triple 𝓤 (C #observing·observe-record) (Work 𝓤 H A mem run)) where
+  module _ (C : Calls 𝓤 H) (Λ : Loops 𝓤 H) (fm : FmC 𝓤 H (W .laws) C) (known : Triple 𝓤 (C #observerecords·observe-record) (Work 𝓤 H A mem run)) where
     walk : Holds (hasTy (T′.mir (named 0)) mach) × WT mach → Is N.the-row h (hv ∷ []) → Room u8 (length (now x)) → Met → ent 𝓤 (onEntry 𝓤 H A observe.signature κs (q, (q′, tt)) a at) (WpFn 𝓤 H C Λ code.function (mach ∷ vbool short ∷ hv ∷ xv ∷ vint w64 n ∷ []) Post)
     walk wt h-is room met =
         qed W (raw (onEntry 𝓤 H A observe.signature κs (q, (q′, tt)) a at) ∷ []) ∵ enter ! C Λ code.function (mach ∷ vbool short ∷ hv ∷ xv ∷ vint w64 n ∷ []) _ $
@@ -179,7 +179,7 @@ module _ {M : Type 1} (𝓤 : URA M) (H : Heap 𝓤) (A : Atoms 𝓤) (W : Given
         move ! (8 ∷ 9 ∷ []) $ free1 ! $ move ! (6 ∷ 7 ∷ []) $ free1 ! $ move ! (4 ∷ 5 ∷ []) $ free1 ! $ free0 ! $ by ! (exits h-is w u last))))))))))))))
 
 module _ {M : Type 1} (𝓤 : URA M) (H : Heap 𝓤) (A : Atoms 𝓤) (W : Given 𝓤 H A) (mem : Memory → SProp 𝓤) (run : Routine → Fun 𝓤) where
-  observe-walks : (C : Calls 𝓤 H) (Λ : Loops 𝓤 H) → FmC 𝓤 H (W .laws) C → Triple 𝓤 (C #observing·observe-record) (Work 𝓤 H A mem run)
+  observe-walks : (C : Calls 𝓤 H) (Λ : Loops 𝓤 H) → FmC 𝓤 H (W .laws) C → Triple 𝓤 (C #observerecords·observe-record) (Work 𝓤 H A mem run)
       → Walks 𝓤 H A observe.ended stayed (WpFn 𝓤 H C Λ code.function) (observe.clauses 𝓤 H A mem run)
   observe-walks C Λ fm known = walked 𝓤 H A observe.ended stayed (observe.clauses 𝓤 H A mem run) (WpFn 𝓤 H C Λ code.function)
       (λ κs. (LL.vals (Held (κs .0, tt)) (held-laws (κs .0, tt)), (bool-vals, (LL.vals N.the-type N′.the-laws, (slice-vals, (uint-vals w64, tt))))))
@@ -189,7 +189,7 @@ module _ {M : Type 1} (𝓤 : URA M) (H : Heap 𝓤) (A : Atoms 𝓤) (W : Given
       (LL.lawful (Held (κs .0, tt)) (held-laws (κs .0, tt)) 𝓤 H A W .typed (a .0) _ (are .0) .0) (are .1 .1 .0) (are .1 .1 .1 .0 .0 .1)))
 
 observe-meets : {M : Type 1} (𝓤 : URA M) (H : Heap 𝓤) (A : Atoms 𝓤) (W : Given 𝓤 H A) (mem : Memory → SProp 𝓤) (run : Routine → Fun 𝓤) (𝓣 : Tables 𝓤 H)
-    → Triple 𝓤 (𝓣 .C #observing·observe-record) (Work 𝓤 H A mem run)
+    → Triple 𝓤 (𝓣 .C #observerecords·observe-record) (Work 𝓤 H A mem run)
     → Meets 𝓤 H A observe.signature (WpFn 𝓤 H (𝓣 .C) (𝓣 .Λ) code.function) (observe.spec 𝓤 H A mem run)
 observe-meets 𝓤 H A W mem run 𝓣 known-work =
     walk-meets 𝓤 H A observe.ended stayed W
@@ -200,6 +200,6 @@ pub observe-spec : {M : Type 1} → stated.statement M
 unfolding code.routine tablesOf
 observe-spec 𝓤 H 𝓜 𝓖 𝓡 =
     entered 𝓤 H (tripleOf 𝓤 H (𝓖 .A) observe.signature (observe.spec 𝓤 H (𝓖 .A) (𝓜 .mem) (𝓡 .run)))
-    (tables 𝓤 H 𝓜 𝓡 code.env .C) (tables 𝓤 H 𝓜 𝓡 code.env .Λ) #observing·walk·observe code.function (code.unfolded 𝓤 H 𝓜 𝓡)
+    (tables 𝓤 H 𝓜 𝓡 code.env .C) (tables 𝓤 H 𝓜 𝓡 code.env .Λ) #observerecords·walk·observe code.function (code.unfolded 𝓤 H 𝓜 𝓡)
     (observe-meets 𝓤 H (𝓖 .A) (givenOf 𝓤 H 𝓜 𝓖) (𝓜 .mem) (𝓡 .run) (tablesOf 𝓤 H 𝓜 (tables 𝓤 H 𝓜 𝓡 code.env))
-    (cited 𝓤 H (Work 𝓤 H (𝓖 .A) (𝓜 .mem) (𝓡 .run)) 𝓜 𝓡 code.env #observing·observe-record work-def.routine code.calls-observing·observe-record (work-thm.met 𝓤 H 𝓜 𝓖 𝓡)))
+    (cited 𝓤 H (Work 𝓤 H (𝓖 .A) (𝓜 .mem) (𝓡 .run)) 𝓜 𝓡 code.env #observerecords·observe-record work-def.routine code.calls-observerecords·observe-record (work-thm.met 𝓤 H 𝓜 𝓖 𝓡)))

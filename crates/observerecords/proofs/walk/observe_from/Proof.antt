@@ -60,9 +60,9 @@ use Rattle.observerecords.proofs.Walked.Laws as R′
 use Rattle.observerecords.proofs.Lent.{Tokens, Last, Given-up}
 use Rattle.observerecords.proofs.walk.observe as observe
 use Rattle.observerecords.proofs.walk.observe.Symbol as observe-def
-use Rattle.observerecords.proofs.walk.observe.Symbol.{name as #observing·walk·observe}
+use Rattle.observerecords.proofs.walk.observe.Symbol.{name as #observerecords·walk·observe}
 use Rattle.observerecords.proofs.walk.observe.Met as observe-thm
-use Rattle.observerecords.proofs.walk.observe_from.Key.{name as #observing·walk·observe-from}
+use Rattle.observerecords.proofs.walk.observe_from.Key.{name as #observerecords·walk·observe-from}
 use Rattle.observerecords.proofs.walk.observe_from as from-book
 use Rattle.observerecords.proofs.walk.observe_from.Statement as stated
 use Rattle.observerecords.proofs.walk.observe_from.Code as code
@@ -202,7 +202,7 @@ module _ {M : Type 1} (𝓤 : URA M) (H : Heap 𝓤) (A : Atoms 𝓤) (W : Given
       owned ! N.the-row (Is N.the-row) (LL.makes N.the-type N′.the-plain 𝓤 H A) h _ h-is $ fjoin ! $ owned ! bool (Is bool) (bool-makes 𝓤 H A W) short _ refl $ fjoin ! $
       owned ! usize (Is usize) (uint-makes 𝓤 H A W w64) k _ (refl, k-fits) $ fjoin ! $ move ! (2 ∷ 0 ∷ []) $ fjoin ! $ frame ! $ done !
 
-  module _ (C : Calls 𝓤 H) (Λ : Loops 𝓤 H) (fm : FmC 𝓤 H (W .laws) C) (known-new : Triple 𝓤 (C #reader·new) (New 𝓤 H A mem run)) (known-moved : Triple 𝓤 (C #reader·moved) (Moved 𝓤 H A mem run)) (known-observe : Triple 𝓤 (C #observing·walk·observe) (Observe 𝓤 H A mem run)) where
+  module _ (C : Calls 𝓤 H) (Λ : Loops 𝓤 H) (fm : FmC 𝓤 H (W .laws) C) (known-new : Triple 𝓤 (C #reader·new) (New 𝓤 H A mem run)) (known-moved : Triple 𝓤 (C #reader·moved) (Moved 𝓤 H A mem run)) (known-observe : Triple 𝓤 (C #observerecords·walk·observe) (Observe 𝓤 H A mem run)) where
     walk : Is (ShrSlice (named 0) κ u8) s (v ∷ []) → Is N.the-row h (hv ∷ []) → Room u8 (length (now x)) → Met
         → ent 𝓤 (onEntry 𝓤 H A from-book.signature κs (q, (q′, tt)) a at) (WpFn 𝓤 H C Λ code.function (v ∷ vint w64 k ∷ vbool short ∷ hv ∷ xv ∷ vint w64 n ∷ []) Post)
     walk p h-is room met =
@@ -233,7 +233,7 @@ module _ {M : Type 1} (𝓤 : URA M) (H : Heap 𝓤) (A : Atoms 𝓤) (W : Given
         move ! (10 ∷ 11 ∷ []) $ free1 ! $ move ! (8 ∷ 9 ∷ []) $ free1 ! $ move ! (6 ∷ 7 ∷ []) $ free1 ! $ move ! (4 ∷ 5 ∷ []) $ free1 ! $ free0 ! $ by ! (exits h-is w u″ last)))))))))))))))))))
 
 module _ {M : Type 1} (𝓤 : URA M) (H : Heap 𝓤) (A : Atoms 𝓤) (W : Given 𝓤 H A) (mem : Memory → SProp 𝓤) (run : Routine → Fun 𝓤) where
-  observe-from-walks : (C : Calls 𝓤 H) (Λ : Loops 𝓤 H) → FmC 𝓤 H (W .laws) C → Triple 𝓤 (C #reader·new) (New 𝓤 H A mem run) → Triple 𝓤 (C #reader·moved) (Moved 𝓤 H A mem run) → Triple 𝓤 (C #observing·walk·observe) (Observe 𝓤 H A mem run)
+  observe-from-walks : (C : Calls 𝓤 H) (Λ : Loops 𝓤 H) → FmC 𝓤 H (W .laws) C → Triple 𝓤 (C #reader·new) (New 𝓤 H A mem run) → Triple 𝓤 (C #reader·moved) (Moved 𝓤 H A mem run) → Triple 𝓤 (C #observerecords·walk·observe) (Observe 𝓤 H A mem run)
       → Walks 𝓤 H A from-book.ended stayed (WpFn 𝓤 H C Λ code.function) (from-book.clauses 𝓤 H A mem run)
   observe-from-walks C Λ fm known-new known-moved known-observe = walked 𝓤 H A from-book.ended stayed (from-book.clauses 𝓤 H A mem run) (WpFn 𝓤 H C Λ code.function)
       (λ κs. (slice-vals, (uint-vals w64, (bool-vals, (LL.vals N.the-type N′.the-laws, (slice-vals, (uint-vals w64, tt)))))))
@@ -243,7 +243,7 @@ module _ {M : Type 1} (𝓤 : URA M) (H : Heap 𝓤) (A : Atoms 𝓤) (W : Given
       (are .0) (are .1 .1 .1 .0) (are .1 .1 .1 .1 .0 .0 .1)))
 
 observe-from-meets : {M : Type 1} (𝓤 : URA M) (H : Heap 𝓤) (A : Atoms 𝓤) (W : Given 𝓤 H A) (mem : Memory → SProp 𝓤) (run : Routine → Fun 𝓤) (𝓣 : Tables 𝓤 H)
-    → Triple 𝓤 (𝓣 .C #reader·new) (New 𝓤 H A mem run) → Triple 𝓤 (𝓣 .C #reader·moved) (Moved 𝓤 H A mem run) → Triple 𝓤 (𝓣 .C #observing·walk·observe) (Observe 𝓤 H A mem run)
+    → Triple 𝓤 (𝓣 .C #reader·new) (New 𝓤 H A mem run) → Triple 𝓤 (𝓣 .C #reader·moved) (Moved 𝓤 H A mem run) → Triple 𝓤 (𝓣 .C #observerecords·walk·observe) (Observe 𝓤 H A mem run)
     → Meets 𝓤 H A from-book.signature (WpFn 𝓤 H (𝓣 .C) (𝓣 .Λ) code.function) (from-book.spec 𝓤 H A mem run)
 observe-from-meets 𝓤 H A W mem run 𝓣 known-new known-moved known-observe =
     walk-meets 𝓤 H A from-book.ended stayed W (
@@ -266,8 +266,8 @@ pub observe-from-spec : {M : Type 1} → stated.statement M
 unfolding code.routine tablesOf
 observe-from-spec 𝓤 H 𝓜 𝓖 𝓡 =
     entered 𝓤 H (tripleOf 𝓤 H (𝓖 .A) from-book.signature (from-book.spec 𝓤 H (𝓖 .A) (𝓜 .mem) (𝓡 .run)))
-    (tables 𝓤 H 𝓜 𝓡 code.env .C) (tables 𝓤 H 𝓜 𝓡 code.env .Λ) #observing·walk·observe-from code.function (code.unfolded 𝓤 H 𝓜 𝓡)
+    (tables 𝓤 H 𝓜 𝓡 code.env .C) (tables 𝓤 H 𝓜 𝓡 code.env .Λ) #observerecords·walk·observe-from code.function (code.unfolded 𝓤 H 𝓜 𝓡)
     (observe-from-meets 𝓤 H (𝓖 .A) (givenOf 𝓤 H 𝓜 𝓖) (𝓜 .mem) (𝓡 .run) (tablesOf 𝓤 H 𝓜 (tables 𝓤 H 𝓜 𝓡 code.env))
     (cited 𝓤 H (New 𝓤 H (𝓖 .A) (𝓜 .mem) (𝓡 .run)) 𝓜 𝓡 code.env #reader·new new-def.routine code.calls-reader·new (new-thm.met 𝓤 H 𝓜 𝓖 𝓡))
     (cited 𝓤 H (Moved 𝓤 H (𝓖 .A) (𝓜 .mem) (𝓡 .run)) 𝓜 𝓡 code.env #reader·moved moved-def.routine code.calls-reader·moved (moved-thm.met 𝓤 H 𝓜 𝓖 𝓡))
-    (cited 𝓤 H (Observe 𝓤 H (𝓖 .A) (𝓜 .mem) (𝓡 .run)) 𝓜 𝓡 code.env #observing·walk·observe observe-def.routine code.calls-observing·walk·observe (observe-thm.met 𝓤 H 𝓜 𝓖 𝓡)))
+    (cited 𝓤 H (Observe 𝓤 H (𝓖 .A) (𝓜 .mem) (𝓡 .run)) 𝓜 𝓡 code.env #observerecords·walk·observe observe-def.routine code.calls-observerecords·walk·observe (observe-thm.met 𝓤 H 𝓜 𝓖 𝓡)))
