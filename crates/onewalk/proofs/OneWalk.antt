@@ -29,7 +29,7 @@ use Rattle.format.proofs.Parts.{parts-joined}
 use Rattle.quantify.specs.Quantify.{Mem, here, there}
 use Rattle.quantify.proofs.Members.{mem-left}
 use Rattle.jobs.specs.Planning.{schemaOf, stepsOfBook, transitionsOf}
-use Rattle.jobs.specs.Learn.{conflictingMove, inconsistency, ruleSheet, rulesFrom}
+use Rattle.jobs.specs.Learn.{conflictingMove, inconsistency, ruleSheet, rulesFrom, learnable}
 use Rattle.observed.specs.Observed.{Observed, observe, observeBy, firstNamed, observeAll, observedAfter, nothingSeen, heldAfter, observedOf}
 use Rattle.observed.specs.Rules.{conflictAmong}
 use Rattle.observed.specs.Seen.{Seen}
@@ -167,6 +167,12 @@ learns-in-one-walk form s n good =
       rows = rows form s n good;
       sheet = sheet form s n good;
     }
+
+-- So learning answers what looking over answers, then rows 11 and 12 as they come of the sections and what is held at the end.
+pub learnable-held : (form : Form) (s : List ℕ) (n : ℕ) → lookOver form s ≡ Good n
+    → learnable form s ≡ (lookOver form s >>= λ total. heldRows (sectionsPart s) (observedOf form s) >>= λ _. Good total)
+unfolding learnable
+learnable-held form s n good = ap (λ (a : Answer). lookOver form s >>= λ total. a >>= λ _. Good total) (learns-in-one-walk form s n good .rows)
 
 -- What is held after a record is a function of what was held before it, its bytes and its offset.
 pub same-record-same-held : SameRecordSameHeld
