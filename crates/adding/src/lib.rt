@@ -39,8 +39,8 @@ fn room_behind(book: &[u8]) -> usize
     limits::MAX_LENGTH - book.len()
 }
 
-// The job, by way of memory in which the new book is formed: it is long enough for the new book, or for the longest. Behind a good old book only the
-// record count and the record itself can be refused.
+// The job, by way of memory in which the new book is formed. The memory is long enough for the new book or, if that would be too long, for the longest:
+// a - (a - b) is the smaller of a and b. Behind a good old book only the record count and the record itself can be refused.
 fn add_by(new: &mut [u8], book: &[u8], short: bool, bytes: &[u8], out: &mut [u8]) -> Answer
     requires { ⌜ (length (now book) + length (now bytes)) - ((length (now book) + length (now bytes)) - maxLength) ≤ length (now new) ⌝ }
     ensures { λ r. ⌜ AddOutcome short (now (book .entry)) (now (bytes .entry)) (now (out .entry)) (now (out .exit)) r ⌝ }

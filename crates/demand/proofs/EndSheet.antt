@@ -38,7 +38,7 @@ use Rattle.quantify.proofs.Mapped.{mem-map-out}
 use Rattle.factsets.proofs.Holding.{holding-out}
 use Rattle.wellformed.proofs.Atoms.{ground-number, fact-right}
 use Rattle.wellformed.proofs.Orders.{order-right}
-use Rattle.wellformed.proofs.Ends.{Within, run-within}
+use Rattle.wellformed.proofs.Ends.{HoldsOnly, run-holds-only}
 use Rattle.wellformed.proofs.Learnable.{inconsistentIn, learnable-clean, learnable-inconsistent}
 use Rattle.demand.specs.EndSheet.{RightNumber, RightBits, EndSheetRight}
 use Rattle.demand.proofs.EachStart.{only-answer, ready, check-ready, refused-check}
@@ -68,11 +68,11 @@ module _ (form : Form) (s : List ℕ) (k : ℕ) (looked : lookOver form s ≡ Go
 
   -- ---- right facts
 
-  start-within : (start : State) → Mem start (startStates o) → Within (RightNumber s o) start
+  start-within : (start : State) → Mem start (startStates o) → HoldsOnly (RightNumber s o) start
   unfolding startStates
   start-within start i =
       let (fs, j, q) = mem-map-out holding (starts o) i in
-      subst (λ (st : State). Within (RightNumber s o) st) q
+      subst (λ (st : State). HoldsOnly (RightNumber s o) st) q
       (λ n e.
       let (f, mem, number) = holding-out fs n e in
       (f, right .starts fs j .suits f mem, number))
@@ -96,11 +96,11 @@ module _ (form : Form) (s : List ℕ) (k : ℕ) (looked : lookOver form s ≡ Go
         let z : num ≡ 0 = rw (refused-check form s o num p q (length lent)) at pass in
         clash (isImpossible 0) (rw z at h) impossible-refused)
 
-    end-within : (start : State) → Mem start (startStates o) → (end : State) → orderRun form s o start ≡ ended end → Within (RightNumber s o) end
+    end-within : (start : State) → Mem start (startStates o) → (end : State) → orderRun form s o start ≡ ended end → HoldsOnly (RightNumber s o) end
     unfolding orderRun planRun learnedFrom
     end-within start i end e =
         let valid = learned-valid (domain (schemaOf s)) (transitionsOf form s) (formed form s k looked) clean in
-        run-within (domain (schemaOf s)) (learnedFrom form s) valid (RightNumber s o) (planOf (schemaOf s) o) plan-within start (start-within start i) 1 end e
+        run-holds-only (domain (schemaOf s)) (learnedFrom form s) valid (RightNumber s o) (planOf (schemaOf s) o) plan-within start (start-within start i) 1 end e
 
     module _ (start : State) (only : startStates o ≡ start ∷ []) where
       -- only rows 13, 19 and 20 are left
@@ -115,7 +115,7 @@ module _ (form : Form) (s : List ℕ) (k : ℕ) (looked : lookOver form s ≡ Go
       mask-is end good ends = rw (good, only, ends)
 
       -- the sheet is the mask of a state that has right facts alone
-      sheet-is : (end : State) × Within (RightNumber s o) end × (checkBytes form s o lent ≡ maskOf stateSize end)
+      sheet-is : (end : State) × HoldsOnly (RightNumber s o) end × (checkBytes form s o lent ≡ maskOf stateSize end)
       unfolding startAnswer
       sheet-is =
           let same = answer-is ∙ not-refused (not (eqb (length lent) endSheetSize)) (startAnswer form s o start) (rw answer-is at pass) in
@@ -128,7 +128,7 @@ module _ (form : Form) (s : List ℕ) (k : ℕ) (looked : lookOver form s ≡ Go
           let set : (n : ℕ) → testBit (checkBytes form s o lent) n ≡ true → RightNumber s o n = λ n e. go end within n (rw is at e) in
           record { set = set; others = λ n none. is-false _ (λ e. none (set n e)) }
         where
-          go : (end : State) → Within (RightNumber s o) end → (n : ℕ) → testBit (maskOf stateSize end) n ≡ true → RightNumber s o n
+          go : (end : State) → HoldsOnly (RightNumber s o) end → (n : ℕ) → testBit (maskOf stateSize end) n ≡ true → RightNumber s o n
           go end within n e = by (decLt n (8 * stateSize))
             where
               by : Dec (n < 8 * stateSize) → RightNumber s o n

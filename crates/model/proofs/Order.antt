@@ -29,11 +29,11 @@ module _ (D : Domain) (ts us : List Transition) (same : SameMembers ts us) where
   unfolding learned
   learned-alike = ap modelOf rules-alike
 
-  -- meet shown 12 for the same actions,
+  -- meet row 12 for the same actions,
   pub conflicting-alike : (a : ℕ) → conflicting D ts a ≡ conflicting D us a
   conflicting-alike a = conflicting-same D a ts us (shown a)
 
-  -- meet shown 11 together,
+  -- meet row 11 together,
   pub unbound-alike : any (unboundEffect D) ts ≡ any (unboundEffect D) us
   unbound-alike = any-alike (unboundEffect D) ts us same
 

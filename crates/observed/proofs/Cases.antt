@@ -12,7 +12,7 @@ use Rattle.terms.specs.declared.Fact.{Fact}
 use Rattle.terms.specs.Facts.{precedes}
 use Rattle.terms.specs.Steps.{objectOf}
 use Rattle.observed.specs.Observed.{everBefore, added, deleted, setAt, observedSet, noted, setsOf, encoded, withSets, afterStep}
-use Rattle.observed.specs.Inverse.{gives, paramOf, placeBound, factBound, atomOf, mark, marks, atomsIn, unbound, alone, inOneAlone, someFact, unboundChanged}
+use Rattle.observed.specs.Inverse.{gives, paramOf, placeBound, factBound, atomOf, mark, marks, atomsIn, unbound, mergeFrom, inOneAlone, someFact, unboundChanged}
 
 abbrev roll : ℕ → ℕ → ℕ → Binding
 roll bank from to = record { objects = record { 0 = bank } ∷ record { 0 = from } ∷ record { 0 = to } ∷ record { 0 = 0 } ∷ [] }
@@ -38,12 +38,12 @@ roll-right :
     × (atomsIn lacking (roll 1 2 3) (fact 1 1 2 ∷ fact 2 3 0 ∷ []) ≡ (2 ∷ []) ++ replicate 31 0)
     × (unboundChanged lacking (roll 1 2 3) (fact 1 1 2 ∷ fact 2 3 0 ∷ []) (fact 1 1 3 ∷ fact 2 2 0 ∷ []) ≡ true)
     × (unboundChanged lacking (roll 1 2 3) (fact 1 1 2 ∷ fact 2 3 0 ∷ []) (fact 1 1 3 ∷ fact 2 2 0 ∷ fact 2 3 0 ∷ []) ≡ false)
-unfolding objectOf bitOf testBit setBit empty gives paramOf placeBound factBound atomOf mark marks atomsIn unbound precedes alone inOneAlone someFact unboundChanged
+unfolding objectOf bitOf testBit setBit empty gives paramOf placeBound factBound atomOf mark marks atomsIn unbound precedes mergeFrom inOneAlone someFact unboundChanged
 roll-right = (refl, refl, refl, refl, refl, refl, refl)
 
 -- a fact that stands in one list alone does not end the comparison
 alone-right : inOneAlone (fact 1 1 2 ∷ fact 2 3 0 ∷ fact 2 4 0 ∷ []) (fact 1 1 3 ∷ fact 2 3 0 ∷ []) ≡ fact 1 1 2 ∷ fact 1 1 3 ∷ fact 2 4 0 ∷ []
-unfolding precedes alone inOneAlone
+unfolding precedes mergeFrom inOneAlone
 alone-right = refl
 
 -- ---- two steps, in either sequence

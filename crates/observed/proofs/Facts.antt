@@ -8,7 +8,7 @@ use Rattle.truth.specs.Bools.{and-out}
 use Rattle.terms.specs.declared.Fact.{Fact}
 use Rattle.terms.specs.Facts.{precedes}
 use Rattle.terms.proofs.Atoms.{fact-path}
-use Rattle.observed.specs.Inverse.{sameFact, alone, inOneAlone}
+use Rattle.observed.specs.Inverse.{sameFact, mergeFrom, inOneAlone}
 
 pub same-fact : (f g : Fact) → sameFact f g ≡ true → f ≡ g
 unfolding sameFact
@@ -25,13 +25,13 @@ fact-same f = rw (eq-eqb (f .relation .0) _ refl, eq-eqb (f .first .0) _ refl, e
 
 module _ (f : Fact) (fs : List Fact) (g : Fact) (gs : List Fact) where
   pub alone-before : precedes f g ≡ true → inOneAlone (f ∷ fs) (g ∷ gs) ≡ f ∷ inOneAlone fs (g ∷ gs)
-  unfolding inOneAlone alone
+  unfolding inOneAlone mergeFrom
   alone-before e = rw e
 
   pub alone-after : precedes f g ≡ false → precedes g f ≡ true → inOneAlone (f ∷ fs) (g ∷ gs) ≡ g ∷ inOneAlone (f ∷ fs) gs
-  unfolding inOneAlone alone
+  unfolding inOneAlone mergeFrom
   alone-after e d = rw (e, d)
 
 pub alone-both : (f : Fact) (fs gs : List Fact) → precedes f f ≡ false → inOneAlone (f ∷ fs) (f ∷ gs) ≡ inOneAlone fs gs
-unfolding inOneAlone alone
+unfolding inOneAlone mergeFrom
 alone-both f fs gs e = rw e

@@ -57,15 +57,15 @@ sameFact f g = eqb (f .relation .0) (g .relation .0) && eqb (f .first .0) (g .fi
 
 -- the facts that are in f ∷ fs or in a second list but not in both; both are in order, and `more` gives the same for fs and a second list. Of the
 -- first facts of the two, if they differ, the one that precedes is in its list alone, and the other is compared with the facts that follow
-unfoldable pub alone : Fact → List Fact → (List Fact → List Fact) → List Fact → List Fact
-alone f fs more [] = f ∷ fs
-alone f fs more (g ∷ gs) = cond (precedes f g) (f ∷ more (g ∷ gs)) (cond (precedes g f) (g ∷ alone f fs more gs) (more gs))
+unfoldable pub mergeFrom : Fact → List Fact → (List Fact → List Fact) → List Fact → List Fact
+mergeFrom f fs more [] = f ∷ fs
+mergeFrom f fs more (g ∷ gs) = cond (precedes f g) (f ∷ more (g ∷ gs)) (cond (precedes g f) (g ∷ mergeFrom f fs more gs) (more gs))
 
 -- the facts that stand in one alone of two lists in order (symmetric difference), by a merge. It is `toggled` of format where the second list is in order, which
 -- is not known of a list that is still being looked over.
 unfoldable pub inOneAlone : List Fact → List Fact → List Fact
 inOneAlone [] gs = gs
-inOneAlone (f ∷ fs) gs = alone f fs (λ l. inOneAlone fs l) gs
+inOneAlone (f ∷ fs) gs = mergeFrom f fs (λ hs. inOneAlone fs hs) gs
 
 unfoldable pub someFact : List Fact → Bool
 someFact [] = false

@@ -10,7 +10,7 @@ use Rattle.terms.specs.declared.Fact.{Fact}
 use Rattle.terms.specs.Facts.{precedes, noFact}
 use Rattle.format.specs.Toggled.{toggled}
 use Rattle.quantify.specs.Quantify.{Mem, here, there}
-use Rattle.observed.specs.Inverse.{factBound, unbound, alone, inOneAlone, someFact, unboundChanged}
+use Rattle.observed.specs.Inverse.{factBound, unbound, mergeFrom, inOneAlone, someFact, unboundChanged}
 use Rattle.observed.proofs.Facts.{alone-before, alone-after, alone-both}
 use Rattle.factsets.specs.Right.{Increasing}
 use Rattle.factsets.proofs.Sorted.{precedes-self, precedes-not-back, compare, mem-cons, mem-none}
@@ -30,7 +30,7 @@ some-out (f ∷ fs) e = (f, here)
 
 module _ (f : Fact) (fs : List Fact) (shorter : (last : Fact) (gs : List Fact) → Increasing last gs → inOneAlone fs gs ≡ toggled fs gs) where
   alone-longer : (last : Fact) (gs : List Fact) → Increasing last gs → inOneAlone (f ∷ fs) gs ≡ toggled (f ∷ fs) gs
-  unfolding inOneAlone alone toggled
+  unfolding inOneAlone mergeFrom toggled
   alone-longer last [] h = refl
   alone-longer last (g ∷ gs) h = go (compare f g) (alone-longer g gs (h .1))
     where

@@ -8,7 +8,7 @@ use Rattle.truth.specs.Bools.{is-true, and-out}
 use Rattle.terms.specs.declared.Binding.{Binding}
 use Rattle.terms.specs.declared.Fact.{Fact}
 use Rattle.terms.specs.Facts.{precedes}
-use Rattle.observed.specs.Inverse.{factBound, unbound, alone, inOneAlone, someFact, unboundChanged}
+use Rattle.observed.specs.Inverse.{factBound, unbound, mergeFrom, inOneAlone, someFact, unboundChanged}
 use Rattle.observed.proofs.Facts.{alone-before, alone-after, alone-both}
 use Rattle.factsets.proofs.Sorted.{precedes-self, precedes-neither}
 
@@ -23,7 +23,7 @@ module _ (atoms : List ℕ) (b : Binding) where
       go false = refl
 
   pub none-after : (fs : List Fact) → unboundChanged atoms b [] fs ≡ unboundChanged atoms b fs []
-  unfolding unboundChanged unbound inOneAlone alone
+  unfolding unboundChanged unbound inOneAlone mergeFrom
   none-after fs = go (unbound atoms b fs)
     where
       go : (gs : List Fact) → someFact (inOneAlone [] gs) ≡ someFact (inOneAlone gs [])
