@@ -5,7 +5,8 @@
  * their bytes:
  *   book    book_begin, book_parents if kinds have any, relations, moves, records,
  *           book_end
- *   record  record_begin, a state, then a step and a state in turn, record_end
+ *   record  record_begin, a state, then a step and a state in turn, record_end; a
+ *           step that did not go is put by record_failed_step
  *   order   order_begin, order_start for each start, order_goal, steps, order_end
  * A record is made in a book, or alone for changeover_add.
  *
@@ -189,6 +190,15 @@ static inline void record_begin(struct builder *b, const uint8_t *kinds, size_t 
 static inline void record_state(struct builder *b, const struct fact *facts, size_t count)
 {
     builder_put_state(b, facts, count);
+}
+
+/* A step that did not go: 128 is added to its move. The state after it is that before it. */
+static inline void record_failed_step(struct builder *b, uint8_t move, uint8_t first,
+                                      uint8_t second, uint8_t third, uint8_t fourth)
+{
+    if (move >= 128)
+        b->overflow = 1;
+    builder_step(b, (uint8_t)(move | 128), first, second, third, fourth);
 }
 
 /* The length of the record, 0 if it did not fit. */

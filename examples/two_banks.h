@@ -120,6 +120,30 @@ static size_t lifting_bank(struct builder *b)
     return record_end(b);
 }
 
+static size_t roll_onto_raised(struct builder *b)
+{
+    static const uint8_t objects[] = {BANK, SPOT, SPOT, LIFT};
+    static const struct fact raised[] = {{AT, 1, 2}, {CLEAR, 3, 0}, {UNDER, 4, 3}, {RAISED, 3, 0}};
+
+    record_begin(b, objects, COUNT(objects));
+    record_state(b, raised, COUNT(raised));
+    record_failed_step(b, ROLL, 1, 2, 3, 0);
+    record_state(b, raised, COUNT(raised));
+    return record_end(b);
+}
+
+static size_t roll_to_clear(struct builder *b)
+{
+    static const uint8_t objects[] = {BANK, SPOT, SPOT};
+    static const struct fact clear[] = {{AT, 1, 2}, {CLEAR, 3, 0}};
+
+    record_begin(b, objects, COUNT(objects));
+    record_state(b, clear, COUNT(clear));
+    record_failed_step(b, ROLL, 1, 2, 3, 0);
+    record_state(b, clear, COUNT(clear));
+    return record_end(b);
+}
+
 struct record {
     const char *words;
     size_t (*make)(struct builder *b);
@@ -130,6 +154,8 @@ static const struct record records[] = {
     {"a bank is turned and rolls, another rolls", rolling_turned},
     {"a lift with no bank on it is raised and lowered, a bank rolls onto it", lifting},
     {"a lift with a bank on it is raised, the bank is turned, the lift is lowered", lifting_bank},
+    {"a bank does not roll to a spot that is raised", roll_onto_raised},
+    {"a bank does not roll to a spot that is clear and not raised", roll_to_clear},
 };
 
 #endif

@@ -41,6 +41,18 @@
  * sources in docs. Beside them, in examples, are programs and builder.h, which
  * makes the bytes of books and orders.
  *
+ * Steps that did not go. A record may also have a step that was tried and did not
+ * go. Its move byte is 128 higher, so 129 or more; its move is the byte less 128
+ * (128 is move 0, and 9). The state after it must equal the state before it, else
+ * 27; in a short book that is so exactly if the list behind the step is empty.
+ * Such steps count in all totals, and a record may have them alone. They teach no
+ * need and no effect: 11 and 12 pass them over, and a move of which only such steps
+ * are filed is a move never recorded. But a rule list, which says what each move
+ * needs and changes, fits such a step only if some need is unmet before it. So no
+ * list fits the book if all needs that are learned from it, to hold and not to
+ * hold, are met before such a step: 28. Wherever some list fits, plans pass just as
+ * if such steps were absent. A plan has none: in an order such a byte is 18.
+ *
  * Forms. A book is full or short. In a full book each state lists the facts that
  * hold. In a short one a record's first state does so too, and each later one
  * lists the facts whose value turns: those that hold in it and not in the state
@@ -50,24 +62,26 @@
  * short one. The bytes do not say it, and a book that is read in the wrong form
  * may be good and mean something else. A good book and what it converts to have
  * the same rule sheet, and the same answers and end sheets of learning and
- * checking, but for the place of 11, which is an offset in the book that was read.
+ * checking, but for the places of 11 and 28, which are offsets in the book that was
+ * read.
  *
  * Sequence. The records of a good book make a good book in any sequence, behind
  * the same bytes and each as often. It has the same rule sheet, and the same
- * answers and end sheets of learning and checking, but for the place of 11.
+ * answers and end sheets of learning and checking, but for the places of 11 and 28.
  *
  * The answer packs three numbers:
  *   bits 48 to 63   number: 0 success, else the refusal below
  *   bits 32 to 47   by 19 and 20 the position of the start, from 1; else 0
  *   bits  0 to 31   place
  * A refusal leaves all lent memory as it was. The answer is the first row of the
- * table that is met. The table is in the order of the tests: 21, 24, 23 and 22
- * stand where they are tested, and "rows 1 to 10" are those from 1 to 10 in it, 21
- * and 24 among them. A row is tested for all that it speaks of, in file order,
- * before the next row is, except that
+ * table that is met. The table is in the order of the tests: 21, 24, 27, 28, 23 and
+ * 22 stand where they are tested. "Rows 1 to 10" are all that stand above 11 in it,
+ * 21, 24 and 27 among them, and "rows 1 to 13" all above 14, 28 too. A row is tested
+ * for all that it speaks of, in file order, before the next row is, except that
  *   - the records are read one after the other, each to its end: its head (6, then
- *     24), its objects (7), a state (8), a step (9, then 10), a state and so on,
- *     and bytes left in it (6); then come bytes left after the last record (6)
+ *     24), its objects (7), a state (8), a step (9, then 10), the state after it (8),
+ *     27 of the step, the next step and so on, and bytes left in it (6); then come
+ *     bytes left after the last record (6)
  *   - the starts are tried one after the other, each by 19, then by 20
  *
  *   No.  met when                                          place
@@ -89,12 +103,16 @@
  *    9   step cut; no such move; an object wrong in number its offset
  *        or kind; an unused byte not 0
  *   10   step with an object twice                         its offset
+ *   27   step that did not go: the state after it is not   its offset
+ *        the state before it
  *    6   bytes left in a record                            the record's offset
  *    6   bytes left after the last record                  first such byte
  *   11   a changed fact is no bound fact of its step       first such step's
  *                                                          offset
  *   12   a bound fact was changed to one value, and after  smallest such move
  *        another step of the move has the other
+ *   28   step that did not go: all learned needs were met  first such step's
+ *        before it                                         offset
  *   23   the converted book would pass 60,000 bytes        0
  *   13   a lent output of wrong length                     0
  *   14   order header: length under 16, or objects, goal   0
@@ -134,9 +152,9 @@
  * answer mean; the shared library's soname has its number.
  */
 #define CHANGEOVER_VERSION_MAJOR 4
-#define CHANGEOVER_VERSION_MINOR 1
+#define CHANGEOVER_VERSION_MINOR 2
 #define CHANGEOVER_VERSION_PATCH 0
-#define CHANGEOVER_VERSION_STRING "4.1.0"
+#define CHANGEOVER_VERSION_STRING "4.2.0"
 /* One number that grows with the version, for #if. */
 #define CHANGEOVER_VERSION                                                    \
     (CHANGEOVER_VERSION_MAJOR * 1000000 + CHANGEOVER_VERSION_MINOR * 1000 +   \
@@ -180,7 +198,9 @@ enum changeover_numbers {
     CHANGEOVER_PARENT = 21,
     CHANGEOVER_START_COUNT = 22,
     CHANGEOVER_CONVERTED_LENGTH = 23,
-    CHANGEOVER_NO_STEPS = 24
+    CHANGEOVER_NO_STEPS = 24,
+    CHANGEOVER_STATES_DIFFER = 27,
+    CHANGEOVER_ALL_NEEDS_MET = 28
 };
 
 /* What a call is told of its book; any number but 0 says that it is short. */
@@ -256,7 +276,7 @@ uint64_t changeover_check(const uint8_t *book, size_t book_len, uint32_t form,
  * book_len. Then 13 if the output is shorter than the new length, which is
  * book_len + record_len. On success the new book is written to the front of the
  * output, the bytes beyond it stay, and the place is the new length. The old book
- * is not changed. Whether the new book learns (11, 12) is left to
+ * is not changed. Whether the new book learns (11, 12, 28) is left to
  * changeover_learn.
  */
 uint64_t changeover_add(const uint8_t *book, size_t book_len, uint32_t form,
@@ -268,10 +288,10 @@ uint64_t changeover_add(const uint8_t *book, size_t book_len, uint32_t form,
  * 13 if the output is shorter than the converted book; CHANGEOVER_BOOK_MAX bytes
  * are enough for any. On success the converted book is written to the front of
  * the output, the bytes beyond it stay, and the place is its length. It is good
- * in its form, and converted back it is the old book, byte by byte. The old book
- * is not changed. Whether it learns (11, 12) is left to changeover_learn. The
- * short book is the longer one if more facts turn with its steps than hold after
- * them.
+ * in its form, and converted back it is the old book, byte by byte. Steps keep
+ * their bytes, those that did not go their 128. The old book is not changed. Whether
+ * it learns (11, 12, 28) is left to changeover_learn. The short book is the longer
+ * one if more facts turn with its steps than hold after them.
  */
 uint64_t changeover_to_short(const uint8_t *book, size_t book_len, uint8_t *out, size_t out_len);
 uint64_t changeover_to_full(const uint8_t *book, size_t book_len, uint8_t *out, size_t out_len);
@@ -353,6 +373,11 @@ static inline const char *changeover_words(enum changeover_numbers number)
         return "the converted book would pass 60,000 bytes";
     case CHANGEOVER_NO_STEPS:
         return "record without steps";
+    case CHANGEOVER_STATES_DIFFER:
+        return "a step did not go, and the state after it is not the state before it; "
+               "the book may be of the other form";
+    case CHANGEOVER_ALL_NEEDS_MET:
+        return "a step did not go, though all learned needs were met before it";
     }
     return "no such number";
 }
@@ -383,7 +408,9 @@ static inline const char *changeover_place_words_(enum changeover_numbers number
     case CHANGEOVER_STATE:
     case CHANGEOVER_STEP:
     case CHANGEOVER_OBJECT_TWICE:
+    case CHANGEOVER_STATES_DIFFER:
     case CHANGEOVER_UNBOUND_CHANGE:
+    case CHANGEOVER_ALL_NEEDS_MET:
         return ", offset # in the book";
     case CHANGEOVER_CONFLICT:
         return ", move #";

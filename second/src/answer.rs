@@ -11,7 +11,7 @@ pub struct Answer {
 
 /// The rows of the paper's table, by number. 21 stands between 3 and 4, 22 between
 /// the counts and the offsets of 14, 23 directly before 13, 24 between 6 of a record's
-/// head and 7.
+/// head and 7, 27 behind the 8 of the state after its step, 28 between 12 and 13.
 #[derive(Clone, Copy, Debug, PartialEq, Eq, PartialOrd, Ord, Hash)]
 #[repr(u32)]
 pub enum Refusal {
@@ -39,6 +39,8 @@ pub enum Refusal {
     StartCount = 22,
     ConvertedLength = 23,
     NoSteps = 24,
+    StatesDiffer = 27,
+    NeedsMet = 28,
 }
 
 impl Refusal {
@@ -58,6 +60,13 @@ impl Answer {
     #[must_use]
     pub const fn from_start(self, position: usize) -> Self {
         Self { position: position as u32, ..self }
+    }
+
+    /// Whether the place is the offset of a recorded step by which learning refuses: it is
+    /// another one in the book's other form, and may be in another sequence of its records.
+    #[must_use]
+    pub const fn is_at_step(self) -> bool {
+        matches!(self.number, 11 | 28)
     }
 
     /// The form in which the C calls return it: number·2^48 + position·2^32 +

@@ -95,11 +95,11 @@ impl Job {
     /// The numbers that this call can answer with.
     pub fn numbers(self) -> Vec<u32> {
         match self {
-            Self::LookOver => (0..=10).chain([21, 24]).collect(),
-            Self::Learn => (0..=13).chain([21, 24]).collect(),
-            Self::Check => (0..=22).chain([24]).collect(),
-            Self::Add => (0..=10).chain([13, 21, 24]).collect(),
-            Self::ToShort | Self::ToFull => (0..=10).chain([13, 21, 23, 24]).collect(),
+            Self::LookOver => (0..=10).chain([21, 24, 27]).collect(),
+            Self::Learn => (0..=13).chain([21, 24, 27, 28]).collect(),
+            Self::Check => (0..=22).chain([24, 27, 28]).collect(),
+            Self::Add => (0..=10).chain([13, 21, 24, 27]).collect(),
+            Self::ToShort | Self::ToFull => (0..=10).chain([13, 21, 23, 24, 27]).collect(),
         }
     }
 

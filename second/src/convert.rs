@@ -15,7 +15,7 @@ pub fn to_full(book: &[u8], output: &mut [u8]) -> Answer {
     convert(book, Form::Short, output)
 }
 
-/// Rows 1 to 10, 21 and 24, then 23 and 13; success has the new length as its place.
+/// Rows 1 to 10, 21, 24 and 27, then 23 and 13; success has the new length as its place.
 fn convert(book: &[u8], form: Form, output: &mut [u8]) -> Answer {
     let mut records = Records::default();
     let front = match form::walk(book, form, &mut records) {

@@ -1,8 +1,9 @@
-//! Learning the action model of a book: rows 11 and 12, and the rule sheet.
+//! Learning the action model of a book: rows 11, 12 and 28, and the rule sheet.
 //!
 //! The records are walked once. What is held of an action is the mask of its
 //! lifted atoms, made before the first record, and six masks more, met or joined
-//! with those of each of its transitions.
+//! with those of each of its transitions. For row 28 alone the records that have steps
+//! which did not go are walked again.
 
 use crate::answer::{Answer, Refusal};
 use crate::calls::Form;
@@ -29,7 +30,7 @@ pub struct ActionModel {
 }
 
 impl ActionModel {
-    /// Rows 1 to 12, 21 and 24.
+    /// Rows 1 to 12, 21, 24, 27 and 28.
     pub fn learn(book: &[u8], form: Form) -> Result<Self, Answer> {
         let mut trajectories = Trajectories::new();
         let front = form::walk(book, form, &mut trajectories)?;
@@ -40,13 +41,23 @@ impl ActionModel {
         if let Some(index) = observed.iter().position(Observed::conflict) {
             return Err(Refusal::EffectConflict.at(index + 1));
         }
-        let actions = observed.iter().map(Observed::rules).collect();
+        let actions: Vec<Rules> = observed.iter().map(Observed::rules).collect();
+        if let Some(step_at) = trajectories.needs_met(book, form, &front, &actions) {
+            return Err(Refusal::NeedsMet.at(step_at));
+        }
         Ok(Self { front, actions })
     }
 }
 
-/// Rows 1 to 13, 21 and 24; on success the sheet is written and the place is the
-/// step total.
+impl Rules {
+    /// Whether the learned needs are met where just these of the atoms hold.
+    fn are_met(&self, held: AtomMask) -> bool {
+        self.pre_pos.without(held).is_empty() && self.pre_neg.and(held).is_empty()
+    }
+}
+
+/// Rows 1 to 13, 21, 24, 27 and 28; on success the sheet is written and the place is
+/// the step total.
 pub fn learn(book: &[u8], form: Form, sheet: &mut [u8]) -> Answer {
     let model = match ActionModel::learn(book, form) {
         Ok(model) => model,
@@ -123,12 +134,32 @@ struct Trajectories {
     observed: [Observed; MOVE_LIMIT],
     /// The first step that changed a fact which is none of its atoms.
     unbound_change: Option<usize>,
+    /// How many records were walked to their end, and the bits of those, from 0, that
+    /// have steps which did not go.
+    walked: usize,
+    inapplicable: u64,
 }
 
 impl Trajectories {
     fn new() -> Self {
         let observed = [Observed::NOTHING; MOVE_LIMIT];
-        Self { places: Vec::new(), observed, unbound_change: None }
+        Self { places: Vec::new(), observed, unbound_change: None, walked: 0, inapplicable: 0 }
+    }
+
+    /// Row 28: the first step that did not go although all learned needs were met. It
+    /// changed nothing, so that what it kept is what held before it.
+    fn needs_met(
+        &self,
+        book: &[u8],
+        form: Form,
+        front: &Front,
+        actions: &[Rules],
+    ) -> Option<usize> {
+        form::find_inapplicable(book, form, &front.header, self.inapplicable, |transition| {
+            let rules = &actions[transition.action()];
+            let change = Change::of(transition, rules.atoms, &self.places);
+            change.is_some_and(|change| rules.are_met(change.kept))
+        })
     }
 }
 
@@ -141,6 +172,10 @@ impl Observer for Trajectories {
     }
 
     fn observe(&mut self, transition: &Transition<'_>) {
+        if !transition.went() {
+            self.inapplicable |= 1 << self.walked;
+            return;
+        }
         // Row 11 stands before 12, so nothing after such a step matters.
         if self.unbound_change.is_some() {
             return;
@@ -150,5 +185,9 @@ impl Observer for Trajectories {
             Some(change) if change.is_of(observed.atoms) => observed.join(&change),
             _ => self.unbound_change = Some(transition.step_at),
         }
+    }
+
+    fn end_record(&mut self) {
+        self.walked += 1;
     }
 }

@@ -27,6 +27,9 @@ pub const FACT_LENGTH: usize = 3;
 pub const STEP_LENGTH: usize = 5;
 pub const GOAL_LENGTH: usize = 4;
 
+/// Added to the move of a recorded step that did not go.
+pub const INAPPLICABLE: u8 = 128;
+
 /// One of the four sets that a rule sheet holds for a move.
 pub const SET_LENGTH: usize = 32;
 /// The four sets of one move.

@@ -24,7 +24,7 @@ fn defined() -> impl Calls {
 
 #[test]
 fn the_definition_gives_the_vectors_answers() {
-    for (job, numbers) in [(Job::Learn, [0, 11, 12]), (Job::Check, [0, 19, 20])] {
+    for (job, numbers) in [(Job::Learn, &[0, 11, 12, 28][..]), (Job::Check, &[0, 19, 20])] {
         let of_job: Vec<vectors::Vector> = vectors::all()
             .into_iter()
             .filter(|vector| vector.jobs.contains(&job) && numbers.contains(&vector.answer.number))
@@ -49,7 +49,7 @@ fn this_implementation_does_as_defined() {
 #[test]
 fn wrong_ones_are_found() {
     type Change = fn(Answer, &mut [u8]) -> Answer;
-    let wrongs: [(&str, Job, Change); 7] = [
+    let wrongs: [(&str, Job, Change); 9] = [
         ("no fact is needed not to hold", Job::Learn, |answer, sheet| {
             if answer.number == 0 && !sheet.is_empty() {
                 sheet[32..64].fill(0);
@@ -62,6 +62,14 @@ fn wrong_ones_are_found() {
         }),
         ("12 by the first move", Job::Check, |answer, _| match answer.number {
             12 => Refusal::EffectConflict.at(1),
+            _ => answer,
+        }),
+        ("28 at the step's state", Job::Learn, |answer, _| match answer.number {
+            28 => Answer { place: answer.place + 5, ..answer },
+            _ => answer,
+        }),
+        ("28 is 12", Job::Check, |answer, _| match answer.number {
+            28 => Refusal::EffectConflict.at(1),
             _ => answer,
         }),
         ("stops at step 1", Job::Check, |answer, _| match answer.number {

@@ -4,6 +4,7 @@
 mod shared;
 
 use second::calls::Form;
+use second::gen::draft::action;
 use second::gen::extreme::fullbook;
 use second::gen::hall::{book, Dynamics, Rule, World};
 use second::gen::plan::tiny;
@@ -83,7 +84,7 @@ impl Met {
 }
 
 fn is_below(book: &BookDraft, objects: &[u8], step: &Step) -> bool {
-    let entry = book.moves[usize::from(step[0]) - 1];
+    let entry = book.moves[action(step)];
     let kind = |parameter: usize| objects[usize::from(step[parameter]) - 1];
     (1..=usize::from(entry[0])).any(|parameter| kind(parameter) != entry[parameter])
 }

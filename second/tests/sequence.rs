@@ -1,6 +1,6 @@
 //! The sequence of a book's records does not matter, in either form: the same sheet and
 //! the same verdict, and of an impossible book the same refusal, by 12 with its move.
-//! The place of 11 is an offset, and may be another. The comparison finds others to
+//! The place of 11 and of 28 is an offset, and may be another. The comparison finds others to
 //! which the sequence matters.
 
 use std::cell::RefCell;
@@ -32,9 +32,9 @@ fn checked(book: &[u8], form: Form, order: &[u8]) -> (Answer, Vec<u8>) {
     (answer, end)
 }
 
-/// Both must be the same but for the place of 11; answers whether that is another.
+/// Both must be the same but for the place of 11 and 28; answers whether that is another.
 fn assert_alike(one: &(Answer, Vec<u8>), other: &(Answer, Vec<u8>), case: &str) -> bool {
-    let place = if one.0.number == 11 { other.0.place } else { one.0.place };
+    let place = if one.0.is_at_step() { other.0.place } else { one.0.place };
     assert_eq!(Answer { place, ..one.0 }, other.0, "{case}");
     assert!(one.1 == other.1, "{case}: other bytes");
     one.0.place != place
@@ -62,8 +62,8 @@ fn learning_in_another_sequence() {
             let dynamics = *rng.pick(&DYNAMICS).expect("there are four");
             (book::any_size(form, dynamics, rng).1.bytes(), ())
         };
-        // Learned, refused by 11 at the same place and elsewhere, and by 12.
-        let mut met = [0; 4];
+        // Learned, refused by 11 at the same place and elsewhere, by 12, and by 28 likewise.
+        let mut met = [0; 6];
         for (index, books, ()) in in_two_sequences(21, 6_000, draw) {
             let [looked, other] = [0, 1].map(|n| form::look_over(&books[n], form));
             assert_eq!(looked, other, "{form:?} {index}");
@@ -72,11 +72,13 @@ fn learning_in_another_sequence() {
             met[match one.0.number {
                 0 => 0,
                 11 => 1 + usize::from(elsewhere),
-                _ => 3,
+                12 => 3,
+                _ => 4 + usize::from(elsewhere),
             }] += 1;
         }
-        println!("{form:?}: learned, 11, 11 elsewhere, 12: {met:?}");
+        println!("{form:?}: learned, 11, 11 elsewhere, 12, 28, 28 elsewhere: {met:?}");
         assert!(met[0].min(met[2]).min(met[3]) > 500 && met[1] > 50, "{form:?} {met:?}");
+        assert!(met[4] > 5 && met[5] > 100, "{form:?} {met:?}");
     }
 }
 
@@ -126,7 +128,7 @@ fn the_judge_in_another_sequence() {
             let [one, other] = books.map(|book| checked(&book, form, &order));
             assert_alike(&one, &other, &format!("{form:?} hall {index}"));
             let impossible = said[0] == Verdict::Impossible;
-            assert_eq!(impossible, matches!(one.0.number, 11 | 12), "{form:?} hall {index}");
+            assert_eq!(impossible, matches!(one.0.number, 11 | 12 | 28), "{form:?} hall {index}");
             met[match said[0] {
                 Verdict::Impossible => 0,
                 Verdict::Stops { .. } => 1,
@@ -174,7 +176,7 @@ fn unsequenced(book: &[u8]) -> (&[u8], Vec<&[u8]>) {
 
 #[test]
 fn the_comparison_finds_another_sequence() {
-    let wrongs: [(&str, Job, Again); 6] = [
+    let wrongs: [(&str, Job, Again); 7] = [
         ("a step more looked over", Job::LookOver, |_, answer, _| add_to_place(0, answer)),
         ("a bit of the sheet", Job::Learn, |_, answer, sheet| {
             if answer.number == 0 && !sheet.is_empty() {
@@ -188,6 +190,10 @@ fn the_comparison_finds_another_sequence() {
         ("what was said before", Job::Learn, |before, _, _| before),
         ("what was said before by 11", Job::Check, |before, answer, _| match answer.number {
             11 => before,
+            _ => answer,
+        }),
+        ("what was said before by 28", Job::Learn, |before, answer, _| match answer.number {
+            28 => before,
             _ => answer,
         }),
     ];

@@ -123,7 +123,7 @@ fn drawn_books_there_and_back() {
     for form in Form::BOTH {
         // Shorter, longer, too long; and books that do not learn.
         let mut met = [0; 4];
-        for index in 0..3_000 {
+        for index in 0..4_000 {
             let draft = draw(form, index);
             let (book, twin) = (draft.bytes(), draft.twin());
             if twin.length() > 60_000 {

@@ -1,8 +1,8 @@
 /*
  * The calls as the header declares them, on the smallest books and orders: that
- * each links, both forms of a book, the converters, several starts, and what the
- * header says of lent memory. The file is C11 and C++17 at once; it is built as
- * both.
+ * each links, both forms of a book, the converters, steps that did not go, several
+ * starts, and what the header says of lent memory. The file is C11 and C++17 at
+ * once; it is built as both.
  */
 #include "changeover.h"
 #include "expect.h"
@@ -141,6 +141,94 @@ static void test_converters(void)
 }
 
 /*
+ * The relation and the move of one_fact. In a full book the first step removes the
+ * fact, so that the move needs it, and the second, tried without it, did not go. In
+ * a short one the fact holds throughout, and the second step did not go with it.
+ */
+static const uint8_t one_failed[49] = {
+    0, 0, 0, 1, 0, 1, 0, 1, 0, 16, 0, 20, 0, 26, 0, 49, /* header */
+    0, 0, 0, 0, 0, 0, 0, 0, 0, 0,                       /* relation, move */
+    0, 2, 0, 23, 0, 1, 1, 0, 0,                         /* a record: head, state */
+    1, 0, 0, 0, 0, 0, 0,                                /* step, state */
+    129, 0, 0, 0, 0, 0, 0,                              /* step that did not go, state */
+};
+enum { FAILED_AT = 42, ONE_FACT_SECOND_AT = 45 };
+
+static void test_failed_steps(void)
+{
+    const uint64_t needs_met = refusal(CHANGEOVER_ALL_NEEDS_MET, FAILED_AT);
+    const size_t len = sizeof one_failed;
+    uint8_t book[49], sheet[CHANGEOVER_RULES_LEN], end[CHANGEOVER_END_LEN];
+
+    expect(changeover_look_over(one_failed, len, CHANGEOVER_FULL) == 2, "such a step counts");
+    expect(changeover_learn(one_failed, len, CHANGEOVER_FULL, sheet, sizeof sheet) == 2,
+           "such a step with a need unmet");
+    expect(changeover_in_rules(sheet, 1, CHANGEOVER_NEEDED_TO_HOLD, 1, 0, 0) &&
+               !changeover_in_rules(sheet, 1, CHANGEOVER_NEEDED_NOT_TO_HOLD, 1, 0, 0) &&
+               !changeover_in_rules(sheet, 1, CHANGEOVER_ADDED, 1, 0, 0) &&
+               changeover_in_rules(sheet, 1, CHANGEOVER_REMOVED, 1, 0, 0),
+           "such a step teaches nothing");
+    expect(changeover_look_over(one_failed, len, CHANGEOVER_SHORT) == 2, "such a step, short");
+    expect(changeover_learn(one_failed, len, CHANGEOVER_SHORT, NULL, 0) == needs_met,
+           "28 before 13");
+    expect(changeover_check(one_failed, len, CHANGEOVER_SHORT, NULL, 0, end, sizeof end) ==
+               needs_met,
+           "28 of a check");
+    memcpy(book, one_failed, len);
+    book[FAILED_AT] = 128;
+    expect(changeover_look_over(book, len, CHANGEOVER_FULL) ==
+               refusal(CHANGEOVER_STEP, FAILED_AT),
+           "move 0");
+}
+
+/* The states before and after one_fact's second step: equal in a full book, not in a short one. */
+static void test_states_differ(void)
+{
+    const uint64_t differ = refusal(CHANGEOVER_STATES_DIFFER, ONE_FACT_SECOND_AT);
+    const size_t len = sizeof one_fact;
+    uint8_t book[55], out[110], back[55], sheet[CHANGEOVER_RULES_LEN];
+
+    memcpy(book, one_fact, len);
+    book[ONE_FACT_SECOND_AT] = 129;
+    expect(changeover_look_over(book, len, CHANGEOVER_FULL) == 2, "equal states");
+    expect(changeover_look_over(book, len, CHANGEOVER_SHORT) == differ, "look over, 27");
+    expect(changeover_learn(book, len, CHANGEOVER_SHORT, sheet, sizeof sheet) == differ,
+           "learn, 27");
+    expect(changeover_to_full(book, len, out, sizeof out) == differ, "to full, 27");
+    expect(changeover_add(one_fact, len, CHANGEOVER_SHORT, book + 26, 29, out, sizeof out) ==
+               refusal(CHANGEOVER_STATES_DIFFER, 55 - 26 + ONE_FACT_SECOND_AT),
+           "add, 27 at its offset in the new book");
+    expect(changeover_add(one_fact, len, CHANGEOVER_FULL, book + 26, 29, out, sizeof out) ==
+               len + 29,
+           "add such a step");
+    expect(changeover_to_short(book, len, out, sizeof out) == 49, "to short");
+    expect(out[FAILED_AT] == 129, "converting keeps the 128");
+    expect(changeover_to_full(out, 49, back, sizeof back) == len, "back to full");
+    expect(memcmp(back, book, len) == 0, "there and back");
+}
+
+/*
+ * A record of such a step alone, which is no record without steps. The move has no
+ * bound facts, so no need can be unmet. In an order such a byte is no move.
+ */
+static void test_failed_alone(void)
+{
+    static const uint8_t order[23] = {0,  0, 0,  1, 0, 0, 0,   1, 0, 16, 0, 16,
+                                      0, 18, 0, 18, 0, 0, 129, 0, 0, 0,  0};
+    uint8_t book[35], end[CHANGEOVER_END_LEN];
+
+    memcpy(book, one_step, sizeof book);
+    book[28] = 129;
+    expect(changeover_look_over(book, sizeof book, CHANGEOVER_FULL) == 1, "such a step alone");
+    expect(changeover_learn(book, sizeof book, CHANGEOVER_FULL, NULL, 0) ==
+               refusal(CHANGEOVER_ALL_NEEDS_MET, 28),
+           "no need that could be unmet");
+    expect(changeover_check(one_step, sizeof one_step, CHANGEOVER_FULL, order, sizeof order, end,
+                            sizeof end) == refusal(CHANGEOVER_PLAN_STEP, 18),
+           "such a step in an order");
+}
+
+/*
  * A relation without places, so there is one fact. The order has two starts, the
  * fact holding in the first alone, no steps, and the goal that the fact holds.
  */
@@ -231,6 +319,9 @@ int main(void)
     test_records();
     test_forms();
     test_converters();
+    test_failed_steps();
+    test_states_differ();
+    test_failed_alone();
     test_starts();
     test_overlap();
     test_impossible_lengths();

@@ -20,7 +20,10 @@ static void expect_text(uint64_t answer, const char *text)
     expect(strcmp(message, text) == 0, text);
 }
 
-/* By number, each with an answer that it may have, and the number's words behind the text. */
+/*
+ * By number, each with an answer that it may have, and the number's words behind the
+ * text. There is no 25 and no 26; their words say so.
+ */
 static const struct {
     uint32_t place;
     unsigned position;
@@ -51,13 +54,17 @@ static const struct {
     {0, 0, "refused 22: "},
     {0, 0, "refused 23: "},
     {30, 0, "refused 24, offset 30 in the book: "},
+    {7, 0, "refused 25, place 7: "},
+    {0, 0, "refused 26, place 0: "},
+    {45, 0, "refused 27, offset 45 in the book: "},
+    {59993, 0, "refused 28, offset 59993 in the book: "},
 };
 
 static void test_numbers(void)
 {
     const unsigned count = sizeof numbers / sizeof *numbers;
 
-    expect(count == CHANGEOVER_NO_STEPS + 1, "a text for every number");
+    expect(count == CHANGEOVER_ALL_NEEDS_MET + 1, "a text for every number");
     for (unsigned number = 0; number < count; number++) {
         char text[CHANGEOVER_MESSAGE_MAX];
 
@@ -70,7 +77,8 @@ static void test_numbers(void)
 /* Numbers of another version, and places that no answer of this one has. */
 static void test_others(void)
 {
-    expect_text(answer_of(25, 0, 7), "refused 25, place 7: no such number");
+    expect_text(answer_of(26, 0, 6), "refused 26, place 6: no such number");
+    expect_text(answer_of(999, 0, 7), "refused 999, place 7: no such number");
     expect_text(answer_of(65535, 65535, UINT32_MAX),
                 "refused 65535, place 4294967295, start 65535: no such number");
     expect_text(0, "success, 0");

@@ -28,7 +28,7 @@ use Rattle.adding.proofs.NewBook.{byte-kept, byte-added, bytes-behind}
 use Rattle.adding.proofs.Kept.{header, kinds-kept, schema-kept, steps-last}
 use Rattle.adding.proofs.OneRecord.{only-the-record}
 
--- what a success says: no row from 1 to 10 is met by either book, and neither are 1 and 13 by the new length
+-- what a success says: no row from 1 to 10 nor 27 is met by either book, and neither are 1 and 13 by the new length
 record Success (form : Form) (s r : List ℕ) (size n : ℕ) : Type 0 where
   old : ℕ
   was : lookOver form s ≡ Good old

@@ -33,7 +33,7 @@ pub record ReadBack (form : Form) (s r : List ℕ) (n : ℕ) : Type 0 where
   -- the record's bytes stand after them, unchanged, and are one record of good form to their end
   pub behind : drop (length s) (added s r) ≡ r
   pub whole : recordAt form (sectionsOf (added s r)) (added s r) (length s) ≡ Good n
-  -- all recorded steps are the old book's, then the record's ..
+  -- all recorded steps, those that did not go among them, are the old book's, then the record's ..
   pub steps : recordedSteps form (sectionsOf (added s r)) (added s r) ≡ recordedSteps form (sectionsOf s) s ++ stepsOfRecord form (added s r) (length s)
   -- .. and these are what the record's bytes say by themselves, with their places in the new book
   pub asRecorded : stepsOfRecord form (added s r) (length s) ≡ movedBy (length s) (stepsOfRecord form r 0)

@@ -15,7 +15,7 @@ use Rattle.format.specs.Records.{stepsIn, recordAt}
 use Rattle.format.specs.LookOver.{lookOver}
 use Rattle.jobs.specs.Add.{added}
 
--- row 2, then rows 6 to 10 of the record alone, then the book's tail; `n` is the count of the old book's steps
+-- row 2, then rows 6 to 10 and 27 of the record alone, then the book's tail; `n` is the count of the old book's steps
 unfoldable pub lookRecord : Form → List ℕ → List ℕ → ℕ → Answer
 lookRecord form s r n = do
   _ ← refuse (ltb maxRecords (sectionsOf s .records .count + 1)) 2 0

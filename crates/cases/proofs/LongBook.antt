@@ -28,8 +28,8 @@ use Rattle.format.specs.Lists.{factsAt, listAt}
 use Rattle.format.specs.Toggled.{toggle, toggled}
 use Rattle.format.specs.Form.{full, mostListed, stateAfter}
 use Rattle.format.specs.States.{cut, countBad, factRefused, facts, list, nextState}
-use Rattle.format.specs.Filed.{filedStepAt, filedFact}
-use Rattle.format.specs.Records.{objectsIn, stepsIn, lengthIn, headBad, recordHead, object, stepRefused, step, steps, objectsOf, trajectory, closed, body, recordAt}
+use Rattle.format.specs.Filed.{wentAt, unmarked, filedStepAt, filedFact}
+use Rattle.format.specs.Records.{objectsIn, stepsIn, lengthIn, headBad, recordHead, object, stepRefused, failedChanges, step, steps, objectsOf, trajectory, closed, body, recordAt}
 use Rattle.format.specs.LookOver.{stepTotal, lookOverBy, lookOver}
 use Rattle.format.proofs.Header.{sections-in}
 use Rattle.format.proofs.Records.{head-limits, record-good, record-within}
@@ -82,7 +82,7 @@ abbrev single : List ℕ
 single = longHeader 1 969 ++ (longSections ++ (longRecord ++ []))
 
 one-good : recordAt full (sectionsOf single) single 32 ≡ Good 969
-unfolding _>>=_ refuse walk byteAt two sectionsOf outOfRange relationAt moveAt schema typedObjects suitsWithin kindSuits objectBad factAt factBad precedes noFact objectOf stepAt filedStepAt filedFact argumentBad stepBad samePair repeats cut countBad factRefused facts list mostListed stateAfter toggle toggled factsAt listAt nextState objectsIn stepsIn lengthIn headBad recordHead object stepRefused step steps objectsOf trajectory closed body recordAt
+unfolding _>>=_ refuse walk byteAt two sectionsOf outOfRange relationAt moveAt schema typedObjects suitsWithin kindSuits objectBad factAt factBad precedes noFact objectOf stepAt wentAt unmarked filedStepAt filedFact argumentBad stepBad samePair repeats cut countBad factRefused facts list mostListed stateAfter toggle toggled factsAt listAt nextState objectsIn stepsIn lengthIn headBad recordHead object stepRefused failedChanges step steps objectsOf trajectory closed body recordAt
 one-good = refl
 
 -- neither book has parents

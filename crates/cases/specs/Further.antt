@@ -104,9 +104,9 @@ roll = 0x01 ∷ 0x01 ∷ 0x02 ∷ 0x03 ∷ 0x00 ∷ []
 abbrev pub rollTwice : List ℕ
 rollTwice = roll ++ (0x01 ∷ 0x01 ∷ 0x03 ∷ 0x04 ∷ 0x00 ∷ [])
 
--- The same order with another byte at an offset of its header.
-abbrev withByte : ℕ → ℕ → List ℕ → List ℕ
-withByte at byte o = take at o ++ (byte ∷ drop (suc at) o)
+-- The same bytes with another one at an offset.
+abbrev pub withByte : ℕ → ℕ → List ℕ → List ℕ
+withByte at byte s = take at s ++ (byte ∷ drop (suc at) s)
 
 -- one plan, several starts: two that pass leave the lent sheet alone; the second fails by 19; the first fails by 20 before a second that fails
 -- at step 1, and the other way round; no start and 17 of them, with an offset that is wrong too, and after a count that is; a count that is

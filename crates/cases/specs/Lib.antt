@@ -7,4 +7,5 @@ pub mod Stepless
 pub mod Sequences
 pub mod EachStart
 pub mod EndSheet
+pub mod NotGone
 pub mod Cases

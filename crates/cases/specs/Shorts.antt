@@ -42,7 +42,7 @@ rulesAsFull = (0x02 ∷ 0x00 ∷ 0x00 ∷ 0x01 ∷ replicate 60 0) ++ (0x04 ∷ 
 
 -- A book of relations 1 of no places, 2 and 3 of two places over 16 objects, and 4 of no places; a move of no parameters; and one record with a
 -- first state of `n` facts, and one step with a list of `m`.
-abbrev crowd : ℕ → List ℕ → ℕ → List ℕ → List ℕ
+abbrev pub crowd : ℕ → List ℕ → ℕ → List ℕ → List ℕ
 crowd n first m turned =
     (0 ∷ 1 ∷ 0 ∷ 4 ∷ 0 ∷ 1 ∷ 0 ∷ 1 ∷ 0 ∷ 16 ∷ 0 ∷ 32 ∷ 0 ∷ 38 ∷ (67 + 3 * (n + m)) / 256 ∷ (67 + 3 * (n + m)) % 256 ∷ [])
     ++ (0 ∷ 0 ∷ 0 ∷ 0 ∷ 2 ∷ 1 ∷ 1 ∷ 0 ∷ 2 ∷ 1 ∷ 1 ∷ 0 ∷ 0 ∷ 0 ∷ 0 ∷ 0 ∷ [])
@@ -52,10 +52,10 @@ crowd n first m turned =
     ++ (1 ∷ 0 ∷ 0 ∷ 0 ∷ 0 ∷ m / 256 ∷ m % 256 ∷ turned)
 
 -- all facts of relation 2, of relation 3, and the fact of relation 1 or 4
-abbrev all : ℕ → List ℕ
+abbrev pub all : ℕ → List ℕ
 all relation = pairs relation 16 256 0
 
-abbrev single : ℕ → List ℕ
+abbrev pub single : ℕ → List ℕ
 single relation = relation ∷ 0 ∷ 0 ∷ []
 
 -- The small hall converted, there and back, into an output that is longer, just long enough and too short; learned and checked from in both forms;

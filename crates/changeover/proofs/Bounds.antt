@@ -14,17 +14,13 @@ use Rattle.answer.specs.declared.Positioned.{Positioned}
 use Rattle.answer.specs.Answer.{isRefused, number, unpositioned, thenAt}
 use Rattle.answer.proofs.Laws.{passed, parted, bind-assoc}
 use Rattle.answer.proofs.Positions.{then-answer}
-use Rattle.terms.specs.Sections.{sectionsOf}
 use Rattle.terms.specs.Schema.{Schema}
 use Rattle.limits.specs.Limits.{maxLength, maxMoves, maxSteps, maxStarts, maxEntries, entrySize}
 use Rattle.format.specs.LookOver.{lookOver}
 use Rattle.format.specs.Form.{Form}
-use Rattle.format.specs.Records.{lengthIn, steps}
-use Rattle.format.specs.Decode.{stepsOfRecord}
+use Rattle.format.specs.Records.{steps}
 use Rattle.format.specs.Order.{stepCount, goalCount, goal, goalFrom, orderForm}
 use Rattle.answer.proofs.Bounds.{Bounded, bounded-good, bounded-then, bounded-row, bounded-wider}
-use Rattle.format.proofs.Records.{head-limits, record-good}
-use Rattle.format.proofs.LookOver.{look-over-good}
 use Rattle.lookover.proofs.Laws.{look-over-bounded}
 use Rattle.quantify.specs.Quantify.{first, least}
 use Rattle.model.specs.Domain.{State, GroundAction, Transition, GoalLiteral}
@@ -33,15 +29,16 @@ use Rattle.model.specs.Judge.{wrong}
 use Rattle.model.specs.Learned.{conflicting}
 use Rattle.quantify.proofs.Quantify.{first-most, least-law}
 use Rattle.model.proofs.Lockstep.{run-within}
-use Rattle.jobs.specs.Planning.{domain, schemaOf, stepsOfBook, transitionsOf, startStates, goalOf, planOf}
-use Rattle.jobs.specs.Learn.{unboundEffects, conflictAnswer, conflictingMove, inconsistency, learnable, learn}
+use Rattle.jobs.specs.Planning.{domain, wentSteps, failedSteps, schemaOf, stepsOfBook, transitionsOf, startStates, goalOf, planOf}
+use Rattle.jobs.specs.Learn.{unboundEffects, conflictAnswer, conflictingMove, inconsistency, refutedSteps, refutation, learnable, learn}
 use Rattle.jobs.specs.Add.{add}
 use Rattle.jobs.specs.Convert.{converted, convert}
 use Rattle.jobs.specs.Check.{planRun, orderRun, goalAnswer, runAnswer, startAnswer, startsAnswer, beforePlan, check}
 use Rattle.jobs.proofs.FirstRefused.{first-refused-bounded}
+use Rattle.jobs.proofs.Parted.{went-out, failed-out}
 use Rattle.jobs.proofs.Starts.{failing-all, failing-some, failing-position}
 use Rattle.wellformed.proofs.Headers.{moves-few}
-use Rattle.wellformed.proofs.Records.{recorded-somewhere, steps-before}
+use Rattle.wellformed.proofs.Records.{recorded-placed}
 use Rattle.wellformed.proofs.Orders.{length-plan, length-start-states}
 use Rattle.format.proofs.OrderForm.{order-good, order-bounded}
 use Rattle.adding.proofs.Bounds.{add-bounded}
@@ -57,20 +54,18 @@ conflicting-bounded sch ts few = go (least (sch .moves) (conflicting (domain sch
     go (suc a) law = (omega arith, omega (arith, law .0))
 
 learnable-bounded : (form : Form) (s : List ℕ) → Bounded maxLength (learnable form s)
-unfolding learnable inconsistency unboundEffects stepsOfRecord
+unfolding learnable inconsistency unboundEffects refutation refutedSteps
 learnable-bounded form s =
     bounded-then maxLength _ _ (look-over-bounded form s)
     (λ total e l.
-    let g = look-over-good form s total e in
     bounded-then maxLength _ _
     (bounded-then maxLength _ _
-    (first-refused-bounded _ 11 _ maxLength (omega arith) (stepsOfBook form s)
-    (λ f m.
-    let (from, next, good, k) = recorded-somewhere form s total e m in
-    let r = record-good form (sectionsOf s) s from next good in
-    omega (arith, steps-before form _ _ s (from + lengthIn s from) _ _ _ (r .last) (r .steps) k, head-limits s from (r .head) .2, g .sections .size .most)))
+    (first-refused-bounded _ 11 _ maxLength (omega arith) (wentSteps (stepsOfBook form s)) (λ f m. recorded-placed form s total e f (went-out (stepsOfBook form s) m .0)))
     (λ n i j. conflicting-bounded (schemaOf s) (transitionsOf form s) (moves-few form s total e)))
-    (λ n i j. bounded-good maxLength total l))
+    (λ n i j.
+    bounded-then maxLength _ _
+    (first-refused-bounded _ 28 _ maxLength (omega arith) (failedSteps (stepsOfBook form s)) (λ f m. recorded-placed form s total e f (failed-out (stepsOfBook form s) m .0)))
+    (λ k h b. bounded-good maxLength total l)))
 
 learn-bounded : (form : Form) (s : List ℕ) (size : ℕ) → Bounded maxLength (learn form s size)
 unfolding learn
@@ -187,7 +182,7 @@ check-elsewhere form s o size not19 not20 = go (check-position form s o size .1)
 pub add-fits : (form : Form) (s r : List ℕ) (size : ℕ) → Fits (add form s r size) 0
 add-fits form s r size = fits-by maxLength _ 0 (add-bounded form s r size) (omega arith) (omega arith)
 
--- rows 1 to 10, then 23 and 13
+-- rows 1 to 10 and 27, then 23 and 13
 convert-bounded : (to : Form) (s : List ℕ) (size : ℕ) → Bounded maxLength (convert to s size)
 unfolding convert
 convert-bounded to s size =

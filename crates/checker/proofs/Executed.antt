@@ -1,15 +1,11 @@
 -- For a book that learning does not refuse, a plan executed over masks by the rule sheet comes to what it comes to under the learned model: a plan of
 -- any right steps, then that of an order of good form.
 use Prim.Native.Nat.{ℕ, zero, suc, _+_, _*_, _≤_, _<_}
-use mathlib.Core.Path.{_≡_, sym, _∙_}
-use mathlib.Core.Bool.{true, false}
-use mathlib.Core.Logic.{_⊎_, inl, inr}
+use mathlib.Core.Path.{_≡_}
 use mathlib.Core.List.{List, map}
 use native.Mathlib.Omega.{arith}
 use lib.ListN.{length}
 use Rattle.answer.specs.declared.Answer.the-variants.{Good}
-use Rattle.truth.specs.Bools.{decide}
-use Rattle.answer.proofs.Laws.{good-refused}
 use Rattle.terms.specs.declared.Fact.{Fact}
 use Rattle.terms.specs.declared.Param.{Param}
 use Rattle.terms.specs.declared.Step.{Step}
@@ -34,7 +30,7 @@ use Rattle.factsets.proofs.Suits.{object-most, move-known, argument-right}
 use Rattle.quantify.proofs.Mapped.{mem-map-in}
 use Rattle.wellformed.proofs.Orders.{order-right, start-under}
 use Rattle.wellformed.specs.Right.{orderTyped, RightOrder}
-use Rattle.wellformed.proofs.Learnable.{inconsistentIn, learnable-inconsistent}
+use Rattle.wellformed.proofs.Learnable.{fit-clean, learned-fit}
 use Rattle.statemask.specs.Statemask.{rulesIn, execute, startMask}
 use Rattle.statemask.specs.Executing.{AllInMask, Ruled, Executing, executedAnswer}
 use Rattle.statemask.proofs.Plan.{execute-start, execute-answer, agrees-sheet}
@@ -56,14 +52,6 @@ ruled form s a low high =
       added = added-set R a moves low high;
       removed = removed-set R a moves low high;
     }
-
--- a book that learns has no conflict
-clean : (form : Form) (s : List ℕ) (n m : ℕ) → lookOver form s ≡ Good n → learnable form s ≡ Good m → inconsistentIn form s ≡ false
-clean form s n m good e = go (decide (inconsistentIn form s))
-  where
-    go : (inconsistentIn form s ≡ true) ⊎ (inconsistentIn form s ≡ false) → inconsistentIn form s ≡ false
-    go (inl h) = let (num, p, q, r) = learnable-inconsistent form s n good h in good-refused m num p (sym e ∙ q)
-    go (inr h) = h
 
 -- a step of the plan is one of its members
 mem-plan : (o : List ℕ) (n at i : ℕ) → i < n → Mem (stepAt o (at + stepSize * i)) (planFrom o n at)
@@ -95,7 +83,7 @@ module _ (form : Form) (s : List ℕ) (n m : ℕ) (good : lookOver form s ≡ Go
         let size = relations-few form s n good in
         record {
           few = omega arith;
-          valid = learned-consistent (domain sch) (transitionsOf form s) (formed form s n good) (clean form s n m good learns) .valid;
+          valid = learned-consistent (domain sch) (transitionsOf form s) (formed form s n good) (fit-clean form s (learned-fit form s n good m learns)) .valid;
           ruled = λ st i. let (a, b) = moves-known st i in ruled form s (st .action .0) a b;
           inMask =
               λ st i.

@@ -1,4 +1,4 @@
--- The job: after rows 1 to 10 its answer is 23, 13 or the new length, by that length and the size of the lent output alone; and what the output
+-- The job: after rows 1 to 10 and 27 its answer is 23, 13 or the new length, by that length and the size of the lent output alone; and what the output
 -- holds afterwards.
 use Prim.Native.Nat.{ℕ, _≤_, _<_}
 use mathlib.Core.Path.{_≡_, sym, ap, _∙_}

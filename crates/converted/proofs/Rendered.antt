@@ -1,20 +1,22 @@
 -- Values rendered as bytes are read back where the bytes stand: a two-byte number, facts, a list of facts, a step.
 use Prim.Native.Nat.{ℕ, _+_, _*_, _<_}
-use mathlib.Core.Path.{_≡_, refl}
+use mathlib.Core.Path.{_≡_, refl, ap}
 use mathlib.Core.List.{List, [], _∷_}
 use native.Mathlib.Omega.{arith}
 use lib.ListN.{length}
-use Rattle.input.specs.Bytes.{two}
+use Rattle.input.specs.Bytes.{byteAt, two}
 use Rattle.output.specs.Written.{twoBytes}
 use Rattle.limits.specs.Limits.{countSize, factSize, stepSize}
 use Rattle.terms.specs.declared.Fact.{Fact}
+use Rattle.terms.specs.declared.Step.{Step}
 use Rattle.terms.specs.Facts.{factAt}
 use Rattle.terms.specs.Steps.{objectOf, stepAt}
 use Rattle.format.specs.Lists.{factsAt, listAt, listEnd}
-use Rattle.format.specs.Filed.{filedStepAt}
+use Rattle.format.specs.Filed.{wentAt, filedStepAt}
 use Rattle.format.specs.Form.{Form}
 use Rattle.format.specs.Decode.{recordedStep}
 use Rattle.jobs.specs.Convert.{factsBytes, listBytes, stepBytes, filedStepBytes}
+use Rattle.jobs.proofs.Bytes.{filed-as-read}
 use Rattle.converted.proofs.Stands.{Stands, stands-first, stands-rest, stands-left, stands-right}
 use Rattle.output.proofs.Two.{length-two}
 
@@ -96,10 +98,10 @@ pub length-filedStepBytes : (form : Form) (s : List ℕ) (before : List Fact) (a
 unfolding filedStepBytes stepBytes
 length-filedStepBytes form s before a = refl
 
-pub step-read : (form : Form) (s : List ℕ) (before : List Fact) (a : ℕ) (t : List ℕ) (at : ℕ) → Stands (filedStepBytes (recordedStep form s before a)) t at
-    → filedStepAt t at ≡ filedStepAt s a
-unfolding filedStepBytes recordedStep stepBytes filedStepAt stepAt objectOf
-step-read form s before a t at h =
+-- the step that bytes say, where these stand
+said-read : (s : List ℕ) (a : ℕ) (t : List ℕ) (at : ℕ) → Stands (stepBytes (stepAt s a)) t at → stepAt t at ≡ stepAt s a
+unfolding stepBytes stepAt objectOf
+said-read s a t at h =
     let h₁ = stands-rest _ _ t at h in
     let h₂ = stands-rest _ _ t (at + 1) h₁ in
     let h₃ = stands-rest _ _ t (at + 1 + 1) h₂ in
@@ -113,3 +115,16 @@ step-read form s before a t at h =
     let p₃ : at + 1 + 1 + 1 ≡ at + 3 = omega arith in
     let p₄ : at + 1 + 1 + 1 + 1 ≡ at + 4 = omega arith in
     rw (e₀, e₁, rw p₂ at e₂, rw p₃ at e₃, rw p₄ at e₄)
+
+move-read : (s : List ℕ) (a : ℕ) (t : List ℕ) (at : ℕ) → stepAt t at ≡ stepAt s a → byteAt t at ≡ byteAt s a
+unfolding stepAt
+move-read s a t at e = ap (λ (st : Step). st .action .0) e
+
+-- a recorded step is read back, and whether it went
+pub step-read : (form : Form) (s : List ℕ) (before : List Fact) (a : ℕ) (t : List ℕ) (at : ℕ) → Stands (filedStepBytes (recordedStep form s before a)) t at
+    → (filedStepAt t at ≡ filedStepAt s a) × (wentAt t at ≡ wentAt s a)
+unfolding filedStepBytes recordedStep filedStepAt wentAt
+step-read form s before a t at h =
+    let e = said-read s a t at (rw (filed-as-read s a) at h) in
+    let b = move-read s a t at e in
+    (rw (e, b), rw b)

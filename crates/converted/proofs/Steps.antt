@@ -16,13 +16,13 @@ use Rattle.terms.specs.Agree.{SameSchema}
 use Rattle.terms.proofs.Agree.{SameObjects, fact-over, step-over}
 use Rattle.limits.specs.Limits.{stepSize}
 use Rattle.format.specs.Lists.{listAt, listEnd}
-use Rattle.format.specs.Filed.{filedStepAt, filedFact}
+use Rattle.format.specs.Filed.{wentAt, filedStepAt, filedFact}
 use Rattle.format.specs.Form.{Form, mostListed, stateAfter}
 use Rattle.format.specs.States.{cut}
-use Rattle.format.specs.Records.{step, steps, stepRefused}
+use Rattle.format.specs.Records.{failedChanges, step, steps, stepRefused}
 use Rattle.format.specs.Decode.{RecordedStep, recordedStep, recordedStepsAt, placedAt, placedBy}
 use Rattle.format.proofs.States.{next-in}
-use Rattle.format.proofs.Records.{step-good, steps-parted}
+use Rattle.format.proofs.Records.{step-good, step-kept, steps-parted}
 use Rattle.jobs.specs.Convert.{listBytes, filedStepBytes, listed, stepsBytes}
 use Rattle.factsets.specs.Right.{RightState}
 use Rattle.factsets.proofs.States.{next-right}
@@ -47,7 +47,7 @@ module _ (form to : Form) (S T : Schema) (same : SameSchema S T) (fall : Falling
     after-right : RightState S H (stateAfter form s before (at + stepSize))
     after-right = next-right form S H s end before (at + stepSize) next right (step-good form S H s end before at next good .2)
 
-    step-again : filedStepAt t at′ ≡ filedStepAt s at
+    step-again : (filedStepAt t at′ ≡ filedStepAt s at) × (wentAt t at′ ≡ wentAt s at)
     step-again = step-read form s before at t at′ (stands-left _ (listBytes (listed to (recordedStep form s before at))) t at′ h)
 
     list-stands : Stands (listBytes (listed to (recordedStep form s before at))) t (at′ + stepSize)
@@ -65,6 +65,11 @@ module _ (form to : Form) (S T : Schema) (same : SameSchema S T) (fall : Falling
     unfolding recordedStep
     after-same = listed-after S H (recordedStep form s before at) right after-right to t (at′ + stepSize) list-told
 
+    -- so row 27 finds what it found,
+    kept-same : failedChanges to t before at′ ≡ false
+    unfolding failedChanges
+    kept-same = rw (step-again .1, after-same) (step-kept form S H s end before at next good)
+
     list-ends-told : listEnd t (at′ + stepSize) ≡ at′ + stepSize + length (listBytes (listed to (recordedStep form s before at)))
     list-ends-told = list-end-read _ t (at′ + stepSize) few list-stands
 
@@ -79,9 +84,10 @@ module _ (form to : Form) (S T : Schema) (same : SameSchema S T) (fall : Falling
         let list = list-in 8 T K t end′ (mostListed to) (listed to g) (at′ + stepSize) list-stands
         (λ f m. over f (listed-suits S H g right after-right to f m))
         (listed-increasing S H g right after-right to) (listed-few S H g right after-right to) (omega (arith, most-told to)) l in
-        refuse-unmet _ _ _ _ (rw (step-again, le-ltb end′ (at′ + stepSize) (omega arith), step-over S T same fall (S .kinds) (omega arith) (omega (arith, kinds)) H K typed (filedStepAt s at) suits))
-        ∙ refuse-unmet _ _ _ _ (rw step-again different)
-        ∙ next-in to T K t end′ before (at′ + stepSize) _ list (rw after-same (after-right .few))
+        refuse-unmet _ _ _ _ (rw (step-again .0, le-ltb end′ (at′ + stepSize) (omega arith), step-over S T same fall (S .kinds) (omega arith) (omega (arith, kinds)) H K typed (filedStepAt s at) suits))
+        ∙ refuse-unmet _ _ _ _ (rw (step-again .0) different)
+        ∙ bind-good _ _ _ (next-in to T K t end′ before (at′ + stepSize) _ list (rw after-same (after-right .few)))
+        ∙ refuse-unmet _ _ _ _ kept-same
 
   -- Steps of good form are so where they stand rendered in any form, and say the same but for places.
   pub steps-rendered : (n : ℕ) (before : List Fact) (at last at′ : ℕ) → steps form S H s end n before at ≡ Good last → RightState S H before
@@ -103,5 +109,5 @@ module _ (form to : Form) (S T : Schema) (same : SameSchema S T) (fall : Falling
       let after = after-same before at _ at′ good right first in
       let (deeper, told) = steps-rendered n (stateAfter form s before (at + stepSize)) (listEnd s (at + stepSize)) last (at′ + stepSize + length b) rest (after-right before at _ at′ good right first) others (omega arith) in (
         bind-good _ _ _ (step-in before at _ at′ good right first (omega arith)) ∙ rw after (deeper ∙ ap Good (omega arith)),
-        rw (step-again before at _ at′ good right first, after, list-ends-told before at _ at′ good right first, told),
+        rw (step-again before at _ at′ good right first .0, step-again before at _ at′ good right first .1, after, list-ends-told before at _ at′ good right first, told),
       )

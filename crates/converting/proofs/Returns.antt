@@ -1,4 +1,4 @@
--- Rows 1 to 10, then 23 and 13, by what the calls return, and what the lent output holds.
+-- Rows 1 to 10 and 27, then 23 and 13, by what the calls return, and what the lent output holds.
 use Prim.Native.Nat.{ℕ, _<_, _≤_}
 use mathlib.Core.Path.{_≡_, refl, sym, ap, _∙_}
 use mathlib.Core.Bool.{Bool, true, false, not}

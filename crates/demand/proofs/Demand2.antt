@@ -20,31 +20,31 @@ use Rattle.quantify.specs.Quantify.{Mem}
 use Rattle.model.specs.Learned.{learnedRules, modelOf, learned}
 use Rattle.model.proofs.Seen.{before-in, before-out, turned-in, turned-out, need-in, need-out, effect-in, effect-out}
 use Rattle.model.proofs.Bounds.{precondition-iff-some, effect-iff-every}
-use Rattle.jobs.specs.Planning.{domain, schemaOf, stepsOfBook, transitionsOf}
+use Rattle.jobs.specs.Planning.{domain, schemaOf, stepsOfBook, transitionsOf, failedOf}
 use Rattle.jobs.specs.Learn.{learnable, rulesFrom, learnedFrom, ruleSheet, learn, learnBytes}
 use Rattle.jobs.specs.SheetBits.{neededSet, neededNotSet, addedSet, removedSet, sheetBit, rulesOn}
 use Rattle.jobs.proofs.Sheet.{length-blocks, learned-bits}
 use Rattle.wellformed.proofs.Formed.{formed}
 use Rattle.demand.specs.Demand2.{valueIn, NeedBit, EffectBit, Bits, Demand2}
-use Rattle.wellformed.proofs.Learnable.{inconsistentIn, learnable-inconsistent}
+use Rattle.wellformed.proofs.Learnable.{unfitIn, learned-fit}
 use Rattle.demand.proofs.Demand3.{demand3}
 use Rattle.demand.proofs.Recorded.{sight-of-recorded, recorded-of-sight}
 
 module _ (form : Form) (s : List ℕ) (b : Bool) (a n : ℕ) where
   -- ---- what is learned, told of the steps as they are recorded
   need-recorded : learnedFrom form s .precondition b a n ≡ true
-      ↔ ((isAtom (schemaOf s) a n ≡ true) × ((f : RecordedStep) → Mem f (stepsOfBook form s) → f .step .action .0 ≡ a → valueIn s f (f .pre) n ≡ b))
+      ↔ ((isAtom (schemaOf s) a n ≡ true) × ((f : RecordedStep) → Mem f (stepsOfBook form s) → f .went ≡ true → f .step .action .0 ≡ a → valueIn s f (f .pre) n ≡ b))
   unfolding learnedFrom domain
   need-recorded = (
     λ e.
         let (atom, never) = need-out (domain (schemaOf s)) (transitionsOf form s) b a n e in (
           atom,
-          λ f m q.
+          λ f m went q.
               not-eq-not {a = valueIn s f (f .pre) n} {b = b} .0
               (λ w.
               clash _
               (before-in (transitionsOf form s) a n (not b) _
-              (sight-of-recorded form s a n (not b) _ (record { recordedSteps = f; member = m; action = q; was = w; got = refl })))
+              (sight-of-recorded form s a n (not b) _ (record { recordedSteps = f; member = m; went = went; action = q; was = w; got = refl })))
               never),
         ),
     λ (atom, always).
@@ -53,21 +53,21 @@ module _ (form : Form) (s : List ℕ) (b : Bool) (a n : ℕ) where
         (λ e.
         let (y, sight) = before-out (transitionsOf form s) a n (not b) e in
         let h = recorded-of-sight form s a n (not b) y sight in
-        not-self b (sym (always (h .recordedSteps) (h .member) (h .action)) ∙ h .was))),
+        not-self b (sym (always (h .recordedSteps) (h .member) (h .went) (h .action)) ∙ h .was))),
   )
 
   effect-recorded : learnedFrom form s .effect b a n ≡ true
       ↔ ((isAtom (schemaOf s) a n ≡ true)
-      × ((f : RecordedStep) × Mem f (stepsOfBook form s) × (f .step .action .0 ≡ a) × (valueIn s f (f .pre) n ≡ not b) × (valueIn s f (f .post) n ≡ b)))
+      × ((f : RecordedStep) × Mem f (stepsOfBook form s) × (f .went ≡ true) × (f .step .action .0 ≡ a) × (valueIn s f (f .pre) n ≡ not b) × (valueIn s f (f .post) n ≡ b)))
   unfolding learnedFrom domain
   effect-recorded = (
     λ e.
         let (atom, turns) = effect-out (domain (schemaOf s)) (transitionsOf form s) b a n e in
         let h = recorded-of-sight form s a n (not b) b (turned-out (transitionsOf form s) a n b turns) in
-        (atom, (h .recordedSteps, h .member, h .action, h .was, h .got)),
-    λ (atom, (f, m, q, w, g)).
+        (atom, (h .recordedSteps, h .member, h .went, h .action, h .was, h .got)),
+    λ (atom, (f, m, went, q, w, g)).
         effect-in (domain (schemaOf s)) (transitionsOf form s) b a n atom
-        (turned-in (transitionsOf form s) a n b (sight-of-recorded form s a n (not b) b (record { recordedSteps = f; member = m; action = q; was = w; got = g }))),
+        (turned-in (transitionsOf form s) a n b (sight-of-recorded form s a n (not b) b (record { recordedSteps = f; member = m; went = went; action = q; was = w; got = g }))),
   )
 
 -- ---- the bits
@@ -107,12 +107,12 @@ module _ (form : Form) (s : List ℕ) (a n : ℕ) (low : 1 ≤ a) (high : a ≤ 
   none e (suc (suc (suc zero))) l = removed-bit ∙ effect-none form s a n false e
   none e (suc (suc (suc (suc k)))) l = absurd (omega arith)
 
-  module _ (m : ℕ) (good : lookOver form s ≡ Good m) (clean : inconsistentIn form s ≡ false) (set : ℕ) (b : Bool) where
+  module _ (m : ℕ) (good : lookOver form s ≡ Good m) (fit : unfitIn form s ≡ false) (set : ℕ) (b : Bool) where
     need : sheetBit (ruleSheet form s) set a n ≡ learnedFrom form s .precondition b a n → NeedBit form s set b a n
     unfolding learnedFrom
     need bit =
         record {
-          by-some = rw bit (precondition-iff-some (domain (schemaOf s)) (transitionsOf form s) (formed form s m good) clean b a n);
+          by-some = rw bit (precondition-iff-some (domain (schemaOf s)) (transitionsOf form s) (failedOf form s) (formed form s m good) fit b a n);
           by-record = rw bit (need-recorded form s b a n);
         }
 
@@ -120,30 +120,22 @@ module _ (form : Form) (s : List ℕ) (a n : ℕ) (low : 1 ≤ a) (high : a ≤ 
     unfolding learnedFrom
     effect bit =
         record {
-          by-every = rw bit (effect-iff-every (domain (schemaOf s)) (transitionsOf form s) (formed form s m good) clean b a n);
+          by-every = rw bit (effect-iff-every (domain (schemaOf s)) (transitionsOf form s) (failedOf form s) (formed form s m good) fit b a n);
           by-record = rw bit (effect-recorded form s b a n);
         }
 
-  bits : (m : ℕ) → lookOver form s ≡ Good m → inconsistentIn form s ≡ false → Bits form s a n
-  bits m good clean =
+  bits : (m : ℕ) → lookOver form s ≡ Good m → unfitIn form s ≡ false → Bits form s a n
+  bits m good fit =
       record {
-        needed = need m good clean _ true needed-bit;
-        neededNot = need m good clean _ false needed-not-bit;
-        added = effect m good clean _ true added-bit;
-        removed = effect m good clean _ false removed-bit;
+        needed = need m good fit _ true needed-bit;
+        neededNot = need m good fit _ false needed-not-bit;
+        added = effect m good fit _ true added-bit;
+        removed = effect m good fit _ false removed-bit;
         of-none = none;
       }
 
 -- ---- the whole
 module _ (form : Form) (s : List ℕ) (n : ℕ) (good : lookOver form s ≡ Good n) (total : ℕ) (accepted : learnable form s ≡ Good total) where
-  accepted-clean : inconsistentIn form s ≡ false
-  accepted-clean =
-      is-false _
-      (λ e.
-      let (num, p, q, h) = learnable-inconsistent form s n good e in
-      let z : _≡_ {A = ℕ} 0 1 = cc in
-      omega arith)
-
   written : (lent : List ℕ) → length lent ≡ ruleSize * schemaOf s .moves → learnBytes form s lent ≡ ruleSheet form s
   unfolding learnBytes kept learn
   written lent long =
@@ -165,6 +157,6 @@ demand2 form s n good =
           record {
             long = long form s n good total accepted;
             written = written form s n good total accepted;
-            bits = λ a k low high small. bits form s a k low high small n good (accepted-clean form s n good total accepted);
+            bits = λ a k low high small. bits form s a k low high small n good (learned-fit form s n good total accepted);
           };
     }

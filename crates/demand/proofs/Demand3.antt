@@ -28,8 +28,9 @@ use Rattle.model.specs.Formed.{Grounded, Under}
 use Rattle.model.proofs.Judge.{unique}
 use Rattle.model.proofs.Impossible.{learned-valid}
 use Rattle.model.specs.Exact.{Exact}
-use Rattle.model.proofs.Exact.{checked-run, exact}
-use Rattle.jobs.specs.Planning.{domain, schemaOf, transitionsOf, startStates, planOf, goalOf}
+use Rattle.model.proofs.Exact.{checked-run}
+use Rattle.model.proofs.Failed.{exact}
+use Rattle.jobs.specs.Planning.{domain, schemaOf, transitionsOf, failedOf, startStates, planOf, goalOf}
 use Rattle.jobs.specs.Learn.{learnable, learnedFrom, learn}
 use Rattle.jobs.specs.Check.{planRun, orderRun, runAnswer, startAnswer, startsAnswer, beforePlan, check, endSheet, endAfter, checkBytes}
 use Rattle.jobs.proofs.Starts.{failing-none, failing-later}
@@ -39,7 +40,7 @@ use Rattle.wellformed.proofs.Headers.{right-schema, relations-few}
 use Rattle.wellformed.proofs.Formed.{formed}
 use Rattle.wellformed.proofs.Orders.{grounded, plan-under, length-start-states, start-under}
 use Rattle.wellformed.proofs.Ends.{run-under}
-use Rattle.wellformed.proofs.Learnable.{inconsistentIn, learnable-clean, learnable-inconsistent}
+use Rattle.wellformed.proofs.Learnable.{unfitIn, fit-clean, learnable-fit, learnable-unfit}
 use Rattle.demand.proofs.Failing.{comes, pass-comes, from-failing, failing-by}
 use Rattle.demand.specs.Demand3.{NoneFits, Impossible, Verdicts, none, more, answerBy, Shows, Demand3}
 
@@ -59,16 +60,16 @@ late (Good n) from h = not-passed (Good n) h refl
 late (Refused num p) from h = clash (not (upTo 13 num)) (impossible-early num h) (rw (from num p refl))
 
 module _ (form : Form) (s : List ℕ) (n : ℕ) (good : lookOver form s ≡ Good n) where
-  judge : Exact (domain (schemaOf s)) (FitsBook form s) (inconsistentIn form s) (checked (domain (schemaOf s)) (transitionsOf form s))
-  judge = exact (domain (schemaOf s)) (transitionsOf form s) (formed form s n good)
+  judge : Exact (domain (schemaOf s)) (FitsBook form s) (unfitIn form s) (checked (domain (schemaOf s)) (transitionsOf form s) (failedOf form s))
+  judge = exact (domain (schemaOf s)) (transitionsOf form s) (failedOf form s) (formed form s n good)
 
-  -- ---- 11 or 12
+  -- ---- 11, 12 or 28
   -- an answer that begins with learning, and has only later rows after it
   exactly : (a : Answer) (k : ℕ → Answer) → a ≡ (learnable form s >>= k) → MetFrom 13 (k n) → Impossible a ↔ NoneFits form s
   exactly a k e from = (
-    λ h. judge .unfit .0 (is-true _ (λ clean. late (k n) from (rw (e ∙ bind-good (learnable form s) k n (learnable-clean form s n good clean)) at h))),
+    λ h. judge .unfit .0 (is-true _ (λ fit. late (k n) from (rw (e ∙ bind-good (learnable form s) k n (learnable-fit form s n good fit)) at h))),
     λ none.
-        let (num, p, q, h) = learnable-inconsistent form s n good (judge .unfit .1 none) in
+        let (num, p, q, h) = learnable-unfit form s n good (judge .unfit .1 none) in
         refused-impossible a num p (e ∙ bind-refused (learnable form s) k num p q) h,
   )
 
@@ -85,34 +86,34 @@ module _ (form : Form) (s : List ℕ) (n : ℕ) (good : lookOver form s ≡ Good
         (λ y. from-failing (stepCount o) (goalOf o) (orderRun form s o) 1 (startStates o)))
 
     -- and where checking answers so, it answers as learning does, about no start
-    inconsistent-check : inconsistentIn form s ≡ true → check form s o size ≡ unpositioned (learnable form s)
+    unfit-check : unfitIn form s ≡ true → check form s o size ≡ unpositioned (learnable form s)
     unfolding check beforePlan isRefused
-    inconsistent-check e =
-        let (num, p, q, h) = learnable-inconsistent form s n good e in
+    unfit-check e =
+        let (num, p, q, h) = learnable-unfit form s n good e in
         let refused = bind-refused (learnable form s) _ num p q in
         sym (then-refused (beforePlan form s o size) (startsAnswer form s o) (rw refused)) ∙ ap unpositioned (refused ∙ sym q)
 
   -- ---- a plan from any start, with any goal
   module _ (start : State) (plan : List GroundAction) (goal : List GoalLiteral) (grounded : Grounded (domain (schemaOf s)) plan) where
     -- the judge's verdict is what the model's check says
-    says : (v : Verdict) → BookVerdict form s start plan goal v ↔ (checked (domain (schemaOf s)) (transitionsOf form s) plan start goal ≡ v)
+    says : (v : Verdict) → BookVerdict form s start plan goal v ↔ (checked (domain (schemaOf s)) (transitionsOf form s) (failedOf form s) plan start goal ≡ v)
     says = judge .verdict plan grounded start goal
 
     some-verdict : (v : Verdict) × BookVerdict form s start plan goal v
-    some-verdict = let v = checked (domain (schemaOf s)) (transitionsOf form s) plan start goal in (v, says v .1 refl)
+    some-verdict = let v = checked (domain (schemaOf s)) (transitionsOf form s) (failedOf form s) plan start goal in (v, says v .1 refl)
 
-    inconsistent-verdict : inconsistentIn form s ≡ true → (v : Verdict) → BookVerdict form s start plan goal v → impossible ≡ v
-    inconsistent-verdict e v h = sym (judge .refuses plan start goal .1 e) ∙ says v .0 h
+    unfit-verdict : unfitIn form s ≡ true → (v : Verdict) → BookVerdict form s start plan goal v → impossible ≡ v
+    unfit-verdict e v h = sym (judge .refuses plan start goal .1 e) ∙ says v .0 h
 
-    inconsistent-fails : inconsistentIn form s ≡ true → (end : State) → BookVerdict form s start plan goal (passes end) → ⊥
-    inconsistent-fails e end h = let q = inconsistent-verdict e (passes end) h in let z : _≡_ {A = ℕ} 0 1 = cc in omega arith
+    unfit-fails : unfitIn form s ≡ true → (end : State) → BookVerdict form s start plan goal (passes end) → ⊥
+    unfit-fails e end h = let q = unfit-verdict e (passes end) h in let z : _≡_ {A = ℕ} 0 1 = cc in omega arith
 
-    module _ (clean : inconsistentIn form s ≡ false) where
+    module _ (fit : unfitIn form s ≡ false) where
       -- with a model that fits, it is what the run of the learned one comes to
       run-verdict : (v : Verdict) → BookVerdict form s start plan goal v ↔ (judgedRun goal (planRun form s start plan) ≡ v)
       unfolding planRun learnedFrom checked
       run-verdict v =
-          let same = checked-run (inconsistentIn form s) (domain (schemaOf s)) (learnedFrom form s) plan start goal clean in
+          let same = checked-run (unfitIn form s) (domain (schemaOf s)) (learnedFrom form s) plan start goal fit in
           (λ h. sym same ∙ says v .0 h, λ e. says v .1 (same ∙ e))
 
       -- where neither the start nor a step's atoms have a fact from 4096 on, the sheet of a pass shows his end state
@@ -123,7 +124,7 @@ module _ (form : Form) (s : List ℕ) (n : ℕ) (good : lookOver form s ≡ Good
       unfolding planRun learnedFrom endSheet
       pass-shows bound few under grounds steps end h =
           let (ends, answer) = pass-comes steps _ _ _ (comes steps goal (planRun form s start plan)) end (run-verdict (passes end) .0 h) in
-          let valid = learned-valid (domain (schemaOf s)) (transitionsOf form s) (formed form s n good) clean in (
+          let valid = learned-valid (domain (schemaOf s)) (transitionsOf form s) (formed form s n good) (fit-clean form s fit) in (
             answer,
             rw ends
                 (record {
@@ -135,44 +136,44 @@ module _ (form : Form) (s : List ℕ) (n : ℕ) (good : lookOver form s ≡ Good
 
   -- ---- orders of good form
   module _ (o : List ℕ) (m : ℕ) (ordered : orderForm (schemaOf s) o ≡ Good m) where
-    proper : Grounded (domain (schemaOf s)) (planOf (schemaOf s) o)
+    pub proper : Grounded (domain (schemaOf s)) (planOf (schemaOf s) o)
     proper = grounded (schemaOf s) (right-schema form s n good .falling) o m ordered
 
     some-starts : (1 ≤ length (startStates o)) × (length (startStates o) ≤ maxStarts)
     some-starts = let h = order-good (schemaOf s) o m ordered .header in rw (length-start-states o) (h .some, h .starts)
 
-    module _ (clean : inconsistentIn form s ≡ false) where
+    module _ (fit : unfitIn form s ≡ false) where
       -- only rows 19 and 20 are left
       check-starts : check form s o endSheetSize ≡ startsAnswer form s o
       unfolding check beforePlan
       check-starts =
           then-by (beforePlan form s o endSheetSize) (startsAnswer form s o) m
-          (bind-good (learnable form s) _ n (learnable-clean form s n good clean) ∙ refuse-unmet _ 13 0 _ refl ∙ ordered)
+          (bind-good (learnable form s) _ n (learnable-fit form s n good fit) ∙ refuse-unmet _ 13 0 _ refl ∙ ordered)
 
       start-verdict : (start : State) (v : Verdict) → StartVerdict form s o start v ↔ (judgedRun (goalOf o) (orderRun form s o start) ≡ v)
       unfolding orderRun
-      start-verdict start = run-verdict start (planOf (schemaOf s) o) (goalOf o) proper clean
+      start-verdict start = run-verdict start (planOf (schemaOf s) o) (goalOf o) proper fit
 
-      run-verdicts : (starts : List State) (vs : List Verdict) → Verdicts form s o starts vs
+      run-verdicts : (starts : List State) (vs : List Verdict) → Verdicts (StartVerdict form s o) starts vs
           → map (λ start. judgedRun (goalOf o) (orderRun form s o start)) starts ≡ vs
       run-verdicts [] [] none = refl
       run-verdicts (start ∷ starts) (v ∷ vs) (more h each) =
           ap₂ (λ (x : Verdict) (xs : List Verdict). x ∷ xs) (start-verdict start v .0 h) (run-verdicts starts vs each)
 
     -- where no model fits, the first verdict is impossible
-    inconsistent-first : inconsistentIn form s ≡ true → (refusal : Answer) (starts : List State) (vs : List Verdict) → 1 ≤ length starts → Verdicts form s o starts vs
+    unfit-first : unfitIn form s ≡ true → (refusal : Answer) (starts : List State) (vs : List Verdict) → 1 ≤ length starts → Verdicts (StartVerdict form s o) starts vs
         → unpositioned refusal ≡ answerBy refusal (stepCount o) 1 vs
     unfolding answerBy
-    inconsistent-first e refusal [] vs some each = absurd (omega arith)
-    inconsistent-first e refusal (start ∷ starts) (v ∷ vs) some (more h each) =
-        ap (λ (x : Verdict). answerBy refusal (stepCount o) 1 (x ∷ vs)) (inconsistent-verdict start (planOf (schemaOf s) o) (goalOf o) proper e v h)
+    unfit-first e refusal [] vs some each = absurd (omega arith)
+    unfit-first e refusal (start ∷ starts) (v ∷ vs) some (more h each) =
+        ap (λ (x : Verdict). answerBy refusal (stepCount o) 1 (x ∷ vs)) (unfit-verdict start (planOf (schemaOf s) o) (goalOf o) proper e v h)
 
-    verdicts : (vs : List Verdict) → Verdicts form s o (startStates o) vs → check form s o endSheetSize ≡ answerBy (learnable form s) (stepCount o) 1 vs
+    verdicts : (vs : List Verdict) → Verdicts (StartVerdict form s o) (startStates o) vs → check form s o endSheetSize ≡ answerBy (learnable form s) (stepCount o) 1 vs
     unfolding startsAnswer startAnswer
-    verdicts vs each = go (decide (inconsistentIn form s))
+    verdicts vs each = go (decide (unfitIn form s))
       where
-        go : (inconsistentIn form s ≡ true) ⊎ (inconsistentIn form s ≡ false) → check form s o endSheetSize ≡ answerBy (learnable form s) (stepCount o) 1 vs
-        go (inl e) = inconsistent-check o endSheetSize e ∙ inconsistent-first e (learnable form s) (startStates o) vs (some-starts .0) each
+        go : (unfitIn form s ≡ true) ⊎ (unfitIn form s ≡ false) → check form s o endSheetSize ≡ answerBy (learnable form s) (stepCount o) 1 vs
+        go (inl e) = unfit-check o endSheetSize e ∙ unfit-first e (learnable form s) (startStates o) vs (some-starts .0) each
         go (inr e) =
             check-starts e
             ∙ failing-by (stepCount o) (goalOf o) (orderRun form s o) (learnable form s) 1 (startStates o)
@@ -181,10 +182,10 @@ module _ (form : Form) (s : List ℕ) (n : ℕ) (good : lookOver form s ≡ Good
     sheet : (start : State) → startStates o ≡ start ∷ [] → (end : State) → StartVerdict form s o start (passes end)
         → (lent : List ℕ) → length lent ≡ endSheetSize → Shows (checkBytes form s o lent) end
     unfolding checkBytes kept endAfter startsAnswer startAnswer isRefused unpositioned orderRun domain
-    sheet start one end h lent long = go (decide (inconsistentIn form s))
+    sheet start one end h lent long = go (decide (unfitIn form s))
       where
-        go : (inconsistentIn form s ≡ true) ⊎ (inconsistentIn form s ≡ false) → Shows (checkBytes form s o lent) end
-        go (inl e) = absurd (inconsistent-fails start (planOf (schemaOf s) o) (goalOf o) proper e end h)
+        go : (unfitIn form s ≡ true) ⊎ (unfitIn form s ≡ false) → Shows (checkBytes form s o lent) end
+        go (inl e) = absurd (unfit-fails start (planOf (schemaOf s) o) (goalOf o) proper e end h)
         go (inr e) =
             let few = relations-few form s n good in
             let (answer, shown) = pass-shows start (planOf (schemaOf s) o) (goalOf o) proper e (256 * schemaOf s .relations) (omega arith)

@@ -39,7 +39,7 @@ use Rattle.factsets.proofs.Holding.{holding-out}
 use Rattle.wellformed.proofs.Atoms.{ground-number, fact-right}
 use Rattle.wellformed.proofs.Orders.{order-right}
 use Rattle.wellformed.proofs.Ends.{HoldsOnly, run-holds-only}
-use Rattle.wellformed.proofs.Learnable.{inconsistentIn, learnable-clean, learnable-inconsistent}
+use Rattle.wellformed.proofs.Learnable.{unfitIn, fit-clean, learnable-fit, learnable-unfit}
 use Rattle.demand.specs.EndSheet.{RightNumber, RightBits, EndSheetRight}
 use Rattle.demand.proofs.EachStart.{only-answer, ready, check-ready, refused-check}
 use Rattle.factsets.specs.Holding.{holding}
@@ -87,19 +87,19 @@ module _ (form : Form) (s : List ℕ) (k : ℕ) (looked : lookOver form s ≡ Go
   -- ---- a pass
 
   module _ (lent : List ℕ) (pass : number (check form s o (length lent) .answer) ≡ 0) where
-    clean : inconsistentIn form s ≡ false
+    fit : unfitIn form s ≡ false
     unfolding unpositioned number
-    clean =
+    fit =
         is-false _
         (λ e.
-        let (num, p, q, h) = learnable-inconsistent form s k looked e in
+        let (num, p, q, h) = learnable-unfit form s k looked e in
         let z : num ≡ 0 = rw (refused-check form s o num p q (length lent)) at pass in
         clash (isImpossible 0) (rw z at h) impossible-refused)
 
     end-within : (start : State) → Mem start (startStates o) → (end : State) → orderRun form s o start ≡ ended end → HoldsOnly (RightNumber s o) end
     unfolding orderRun planRun learnedFrom
     end-within start i end e =
-        let valid = learned-valid (domain (schemaOf s)) (transitionsOf form s) (formed form s k looked) clean in
+        let valid = learned-valid (domain (schemaOf s)) (transitionsOf form s) (formed form s k looked) (fit-clean form s fit) in
         run-holds-only (domain (schemaOf s)) (learnedFrom form s) valid (RightNumber s o) (planOf (schemaOf s) o) plan-within start (start-within start i) 1 end e
 
     module _ (start : State) (only : startStates o ≡ start ∷ []) where
@@ -107,7 +107,7 @@ module _ (form : Form) (s : List ℕ) (k : ℕ) (looked : lookOver form s ≡ Go
       answer-is : check form s o (length lent) .answer ≡ (refuse (not (eqb (length lent) endSheetSize)) 13 0 >>= λ _. startAnswer form s o start)
       unfolding startsAnswer
       answer-is =
-          rw (check-ready form s o m (length lent) ordered, then-answer (ready form s o (length lent)) (startsAnswer form s o), only, only-answer form s o start, bind-good (learnable form s) _ k (learnable-clean form s k looked clean))
+          rw (check-ready form s o m (length lent) ordered, then-answer (ready form s o (length lent)) (startsAnswer form s o), only, only-answer form s o start, bind-good (learnable form s) _ k (learnable-fit form s k looked fit))
 
       -- a run that ends leaves the mask of its end
       mask-is : (end : State) → check form s o (length lent) .answer ≡ Good (stepCount o) → orderRun form s o start ≡ ended end → checkBytes form s o lent ≡ maskOf stateSize end

@@ -47,7 +47,7 @@ first-answers refusal steps k (misses i) vs r e none-fits = rw e (refl, refl, re
 first-answers refusal steps k (passes end) vs r e none-fits = tt
 
 module _ (form : Form) (s : List ℕ) (agrees : JudgeAgrees form s) (o : List ℕ) (n : ℕ) (ordered : orderForm (schemaOf s) o ≡ Good n) where
-  all-judged : (starts : List State) → (vs : List Verdict) × Verdicts form s o starts vs
+  all-judged : (starts : List State) → (vs : List Verdict) × Verdicts (StartVerdict form s o) starts vs
   all-judged [] = ([], none)
   all-judged (start ∷ starts) =
       let (v, h) = agrees .some o n ordered start in
@@ -58,8 +58,8 @@ module _ (form : Form) (s : List ℕ) (agrees : JudgeAgrees form s) (o : List �
   by = answerBy (learnable form s) (stepCount o)
 
   -- starts that pass only move the position on
-  past : (before rest : List State) (vs : List Verdict) → Verdicts form s o rest vs → (k at : ℕ) → at ≡ k + length before → AllPass form s o before
-      → (ws : List Verdict) × Verdicts form s o (before ++ rest) ws × (by k ws ≡ by at vs)
+  past : (before rest : List State) (vs : List Verdict) → Verdicts (StartVerdict form s o) rest vs → (k at : ℕ) → at ≡ k + length before → AllPass form s o before
+      → (ws : List Verdict) × Verdicts (StartVerdict form s o) (before ++ rest) ws × (by k ws ≡ by at vs)
   unfolding answerBy by
   past [] rest vs each k at e all = (vs, each, ap (λ (x : ℕ). by x vs) (omega arith))
   past (start ∷ before) rest vs each k at e all =
@@ -92,7 +92,7 @@ module _ (form : Form) (s : List ℕ) (agrees : JudgeAgrees form s) (o : List �
       let (vs, each) = all-judged (startStates o) in
       each-passes (startStates o) vs 1 each (ap (λ (r : Positioned). number (r .answer)) (sym (agrees .verdicts o n ordered vs each)) ∙ z)
     where
-      each-passes : (starts : List State) (vs : List Verdict) (k : ℕ) → Verdicts form s o starts vs → number (by k vs .answer) ≡ 0 → AllPass form s o starts
+      each-passes : (starts : List State) (vs : List Verdict) (k : ℕ) → Verdicts (StartVerdict form s o) starts vs → number (by k vs .answer) ≡ 0 → AllPass form s o starts
       each-passes (start ∷ starts) (impossible ∷ vs) k (more h each) e other m =
           absurd (not-passed (check form s o endSheetSize .answer) (agrees .checking o endSheetSize .1 (agrees .unfit o start .0 h)) z)
       each-passes (start ∷ starts) (stops j ∷ vs) k (more h each) e other m = absurd (omega arith)

@@ -16,10 +16,13 @@ use Rattle.terms.specs.Agree.{SameSchema}
 use Rattle.terms.proofs.Atoms.{fact-path, first-range, second-range}
 use Rattle.terms.proofs.Agree.{atoms-same}
 use Rattle.limits.specs.Limits.{maxObjects}
+use Rattle.answer.specs.declared.Answer.the-variants.{Good}
 use Rattle.format.specs.Form.{Form}
 use Rattle.format.specs.Decode.{RecordedStep}
+use Rattle.format.specs.LookOver.{lookOver}
 use Rattle.quantify.specs.Quantify.{Mem, here, there}
-use Rattle.jobs.specs.Planning.{domain, groundAction, transition, schemaOf, stepsOfBook}
+use Rattle.jobs.specs.Planning.{domain, groundAction, transition, wentSteps, schemaOf, stepsOfBook}
+use Rattle.jobs.proofs.Parted.{went-out}
 use Rattle.jobs.specs.Learn.{rulesFrom, ruleBlocks, ruleSheet}
 use Rattle.wellformed.proofs.Headers.{right-schema}
 use Rattle.wellformed.specs.Right.{RightSomewhere}
@@ -99,6 +102,9 @@ renumbered-back [] (g ∷ gs) h m = absurd h
 renumbered-back (f ∷ fs) (g ∷ gs) h here = (f, here, h .0)
 renumbered-back (f ∷ fs) (g ∷ gs) h (there m) = let (x, k, e) = renumbered-back fs gs (h .1) m in (x, there k, e)
 
+went-right : (form : Form) (s : List ℕ) (n : ℕ) → lookOver form s ≡ Good n → (x : RecordedStep) → Mem x (wentSteps (stepsOfBook form s)) → RightSomewhere (schemaOf s) x
+went-right form s n good x m = recorded-right form s n good x (went-out (stepsOfBook form s) m .0)
+
 -- Objects renumbered: the same sheet.
 pub renumbered-same-sheet : RenumberedSameSheet
 unfolding ruleSheet
@@ -108,11 +114,11 @@ renumbered-same-sheet F G s t m n good good′ agree steps =
     same-block F G s t agree (right-schema F s m good) (right-schema G t n good′) a
     (record {
       forth = λ f k e.
-          let (g, l, h) = renumbered-forth (stepsOfBook F s) (stepsOfBook G t) steps k in
-          (g, l, alike-of-renumbered F G s t agree (right-schema F s m good) (right-schema G t n good′) f g (recorded-right F s m good f k) (recorded-right G t n good′ g l) h);
+          let (g, l, h) = renumbered-forth (wentSteps (stepsOfBook F s)) (wentSteps (stepsOfBook G t)) steps k in
+          (g, l, alike-of-renumbered F G s t agree (right-schema F s m good) (right-schema G t n good′) f g (went-right F s m good f k) (went-right G t n good′ g l) h);
       back = λ g k e.
-          let (f, l, h) = renumbered-back (stepsOfBook F s) (stepsOfBook G t) steps k in
-          (f, l, alike-of-renumbered F G s t agree (right-schema F s m good) (right-schema G t n good′) f g (recorded-right F s m good f l) (recorded-right G t n good′ g k) h);
+          let (f, l, h) = renumbered-back (wentSteps (stepsOfBook F s)) (wentSteps (stepsOfBook G t)) steps k in
+          (f, l, alike-of-renumbered F G s t agree (right-schema F s m good) (right-schema G t n good′) f g (went-right F s m good f l) (went-right G t n good′ g k) h);
     }))
     (schemaOf s .moves) 1
     ∙ ap (λ (k : ℕ). ruleBlocks (rulesFrom G t) k 1) (agree .moves)

@@ -14,7 +14,7 @@ use Rattle.model.specs.Domain.{Domain, Transition}
 use Rattle.model.specs.Learned.{learnedRules}
 use Rattle.model.specs.Alike.{Alike, SameOfAction}
 use Rattle.model.proofs.OneAction.{alike-sym, rules-same}
-use Rattle.jobs.specs.Planning.{domain, groundAction, transition, schemaOf, stepsOfBook, transitionsOf}
+use Rattle.jobs.specs.Planning.{domain, groundAction, transition, wentSteps, schemaOf, stepsOfBook, transitionsOf}
 use Rattle.jobs.specs.Learn.{rulesFrom, ruleBlock, ruleSheet}
 use Rattle.wellformed.proofs.Headers.{right-schema}
 use Rattle.quantify.proofs.Mapped.{mem-map-out, mem-map-in}
@@ -28,27 +28,27 @@ module _ (F G : Form) (s t : List ℕ) (agree : SameSchema (schemaOf s) (schemaO
   abbrev pub AlikeRecorded : RecordedStep → RecordedStep → Type 0
   AlikeRecorded f g = Alike (domain (schemaOf s)) (transition (schemaOf s) f) (transition (schemaOf t) g)
 
-  -- each recorded step of move a has one alike in the other book
+  -- each recorded step of move a that went has one alike in the other book
   pub record AlikeSteps (a : ℕ) : Type 0 where
-    pub forth : (f : RecordedStep) → Mem f (stepsOfBook F s) → f .step .action .0 ≡ a → (g : RecordedStep) × Mem g (stepsOfBook G t) × AlikeRecorded f g
-    pub back : (g : RecordedStep) → Mem g (stepsOfBook G t) → g .step .action .0 ≡ a → (f : RecordedStep) × Mem f (stepsOfBook F s) × AlikeRecorded f g
+    pub forth : (f : RecordedStep) → Mem f (wentSteps (stepsOfBook F s)) → f .step .action .0 ≡ a → (g : RecordedStep) × Mem g (wentSteps (stepsOfBook G t)) × AlikeRecorded f g
+    pub back : (g : RecordedStep) → Mem g (wentSteps (stepsOfBook G t)) → g .step .action .0 ≡ a → (f : RecordedStep) × Mem f (wentSteps (stepsOfBook F s)) × AlikeRecorded f g
 
   same-of-alike : (a : ℕ) → AlikeSteps a → SameOfAction (domain (schemaOf s)) a (transitionsOf F s) (transitionsOf G t)
   unfolding transitionsOf transition groundAction
   same-of-alike a h =
       record {
         forth = λ u m e.
-            let (f, k, q) = mem-map-out (transition (schemaOf s)) (stepsOfBook F s) m in
+            let (f, k, q) = mem-map-out (transition (schemaOf s)) (wentSteps (stepsOfBook F s)) m in
             let (g, l, alike) = h .forth f k (subst (λ (v : Transition). v .step .action ≡ a) (sym q) e) in (
               transition (schemaOf t) g,
-              mem-map-in (transition (schemaOf t)) (stepsOfBook G t) l,
+              mem-map-in (transition (schemaOf t)) (wentSteps (stepsOfBook G t)) l,
               subst (λ (v : Transition). Alike (domain (schemaOf s)) v (transition (schemaOf t) g)) q alike,
             );
         back = λ u m e.
-            let (g, k, q) = mem-map-out (transition (schemaOf t)) (stepsOfBook G t) m in
+            let (g, k, q) = mem-map-out (transition (schemaOf t)) (wentSteps (stepsOfBook G t)) m in
             let (f, l, alike) = h .back g k (subst (λ (v : Transition). v .step .action ≡ a) (sym q) e) in (
               transition (schemaOf s) f,
-              mem-map-in (transition (schemaOf s)) (stepsOfBook F s) l,
+              mem-map-in (transition (schemaOf s)) (wentSteps (stepsOfBook F s)) l,
               subst (λ (v : Transition). Alike (domain (schemaOf s)) v (transition (schemaOf s) f)) q
                   (alike-sym (domain (schemaOf s)) (transition (schemaOf s) f) (transition (schemaOf t) g) alike),
             );

@@ -1,5 +1,5 @@
 -- Demand 2: each bit of the rule sheet, said by the models that fit the book (a need is set if some of them has it, an effect if all of them have
--- it), and by the recorded steps.
+-- it), and by the recorded steps that went.
 -- The models are those that the judge holds (`FitsBook` of jobs/specs/Judge.antt); `ruleSheet` is what learning writes.
 use Prim.Native.Nat.{ℕ, _*_, _≤_, _<_}
 use mathlib.Core.Path.{_≡_}
@@ -31,18 +31,18 @@ valueIn s x fs n = holding fs (ground (schemaOf s) (x .step .binding) n)
 pub record NeedBit (form : Form) (s : List ℕ) (set : ℕ) (b : Bool) (a n : ℕ) : Type 0 where
   -- It is set exactly if some fitting model needs it so,
   pub by-some : sheetBit (ruleSheet form s) set a n ≡ true ↔ ((M : Model) × FitsBook form s M × (M .precondition b a n ≡ true))
-  -- exactly if n is a bound fact of the move that had the value before every recorded step of it (formula 1).
+  -- exactly if n is a bound fact of the move that had the value before every recorded step of it that went (formula 1).
   pub by-record : sheetBit (ruleSheet form s) set a n ≡ true
-      ↔ ((isAtom (schemaOf s) a n ≡ true) × ((x : RecordedStep) → Mem x (stepsOfBook form s) → x .step .action .0 ≡ a → valueIn s x (x .pre) n ≡ b))
+      ↔ ((isAtom (schemaOf s) a n ≡ true) × ((x : RecordedStep) → Mem x (stepsOfBook form s) → x .went ≡ true → x .step .action .0 ≡ a → valueIn s x (x .pre) n ≡ b))
 
 -- and in a set of effects, `b` being the value that is given
 pub record EffectBit (form : Form) (s : List ℕ) (set : ℕ) (b : Bool) (a n : ℕ) : Type 0 where
   -- It is set exactly if every fitting model has the effect,
   pub by-every : sheetBit (ruleSheet form s) set a n ≡ true ↔ ((M : Model) → FitsBook form s M → M .effect b a n ≡ true)
-  -- exactly if n is a bound fact of the move that some recorded step of it changed to the value (formula 2).
+  -- exactly if n is a bound fact of the move that some recorded step of it that went changed to the value (formula 2).
   pub by-record : sheetBit (ruleSheet form s) set a n ≡ true
       ↔ ((isAtom (schemaOf s) a n ≡ true)
-      × ((x : RecordedStep) × Mem x (stepsOfBook form s) × (x .step .action .0 ≡ a) × (valueIn s x (x .pre) n ≡ not b) × (valueIn s x (x .post) n ≡ b)))
+      × ((x : RecordedStep) × Mem x (stepsOfBook form s) × (x .went ≡ true) × (x .step .action .0 ≡ a) × (valueIn s x (x .pre) n ≡ not b) × (valueIn s x (x .post) n ≡ b)))
 
 -- what the four bits of bound fact n of move a say
 pub record Bits (form : Form) (s : List ℕ) (a n : ℕ) : Type 0 where
@@ -63,7 +63,7 @@ pub record SheetRight (form : Form) (s : List ℕ) : Type 0 where
 
 -- of a book of good form
 pub record LearningRight (form : Form) (s : List ℕ) : Type 0 where
-  -- It is refused with 11 or 12 exactly if no model fits it, whatever lent sheet comes with it.
+  -- It is refused with 11, 12 or 28 exactly if no model fits it, whatever lent sheet comes with it.
   pub refused : (size : ℕ) → Impossible (learn form s size) ↔ NoneFits form s
   -- If it is not refused, its rule sheet is right.
   pub learned : (total : ℕ) → learnable form s ≡ Good total → SheetRight form s

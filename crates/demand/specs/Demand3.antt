@@ -29,15 +29,14 @@ use Rattle.jobs.specs.Judge.{FitsBook, StartVerdict}
 abbrev pub NoneFits : Form → List ℕ → Type 0
 NoneFits form s = (M : Model) → FitsBook form s M → ⊥
 
--- the number is that of a row by which no model fits, 11 or 12
+-- the number is that of a row by which no model fits, 11, 12 or 28
 abbrev pub Impossible : Answer → Type 0
 Impossible a = isImpossible (number a) ≡ true
 
--- each of the starts has its verdict, in the same sequence
-pub data Verdicts (form : Form) (s o : List ℕ) : List State → List Verdict → Type 0 where
-  none : Verdicts form s o [] []
-  more : {start : State} {v : Verdict} {starts : List State} {vs : List Verdict} → StartVerdict form s o start v → Verdicts form s o starts vs
-      → Verdicts form s o (start ∷ starts) (v ∷ vs)
+-- each of the starts has its verdict by a judge, in the same sequence
+pub data Verdicts (Judges : State → Verdict → Type 0) : List State → List Verdict → Type 0 where
+  none : Verdicts Judges [] []
+  more : {start : State} {v : Verdict} {starts : List State} {vs : List Verdict} → Judges start v → Verdicts Judges starts vs → Verdicts Judges (start ∷ starts) (v ∷ vs)
 
 -- A check's number, place and position by the verdicts on its starts, the first of which has position k: the first verdict that is no pass gives
 -- them, at the position of its start; if all are passes, the place is the plan's step count. Where no model fits, they are those of `refusal`, which is
@@ -60,14 +59,14 @@ pub record Shows (sheet : List ℕ) (end : State) : Type 0 where
 pub record JudgeAgrees (form : Form) (s : List ℕ) : Type 0 where
   -- The judge says impossible exactly when no model fits the book, whatever the order and the start.
   pub unfit : (o : List ℕ) (start : State) → StartVerdict form s o start impossible ↔ NoneFits form s
-  -- Learning answers 11 or 12 exactly then, whatever lent output comes with the book.
+  -- Learning answers 11, 12 or 28 exactly then, whatever lent output comes with the book.
   pub learning : (size : ℕ) → Impossible (learn form s size) ↔ NoneFits form s
   -- And so does checking, whatever order and lent output come with the book.
   pub checking : (o : List ℕ) (size : ℕ) → Impossible (check form s o size .answer) ↔ NoneFits form s
   -- For every order of good form with an end sheet of 512 bytes: the check's number, place and position are what his verdicts on the order's starts, in
-  -- file order, give. Where he says impossible, the check answers what learning answers (11 or 12, by the lines above).
+  -- file order, give. Where he says impossible, the check answers what learning answers (11, 12 or 28, by the lines above).
   pub verdicts : (o : List ℕ) (n : ℕ) → orderForm (schemaOf s) o ≡ Good n
-      → (vs : List Verdict) → Verdicts form s o (startStates o) vs → check form s o endSheetSize ≡ answerBy (learnable form s) (stepCount o) 1 vs
+      → (vs : List Verdict) → Verdicts (StartVerdict form s o) (startStates o) vs → check form s o endSheetSize ≡ answerBy (learnable form s) (stepCount o) 1 vs
   -- On a pass of an order with one start the bits set in the end sheet are just the facts of his end state.
   pub sheet : (o : List ℕ) (n : ℕ) → orderForm (schemaOf s) o ≡ Good n
       → (start : State) → startStates o ≡ start ∷ [] → (end : State) → StartVerdict form s o start (passes end)

@@ -15,7 +15,7 @@ use Rattle.format.specs.Form.{Form}
 use Rattle.format.specs.Decode.{RecordedStep}
 use Rattle.format.specs.LookOver.{lookOver}
 use Rattle.quantify.specs.Quantify.{Mem}
-use Rattle.jobs.specs.Planning.{schemaOf, stepsOfBook}
+use Rattle.jobs.specs.Planning.{wentSteps, schemaOf, stepsOfBook}
 use Rattle.jobs.specs.Learn.{ruleSheet}
 
 -- equal relations and moves, byte by byte: their counts, and each byte of the two sections, wherever they begin; and one parent for each kind
@@ -40,16 +40,16 @@ pub record SameStep (x y : RecordedStep) : Type 0 where
   pub pre : x .pre ≡ y .pre
   pub post : x .post ≡ y .post
 
--- each step of move a that the one book holds, the other holds too, however often and wherever
+-- each step of move a that went which the one book holds, the other holds too, however often and wherever
 pub record SameSteps (F G : Form) (s t : List ℕ) (a : ℕ) : Type 0 where
-  pub forth : (x : RecordedStep) → Mem x (stepsOfBook F s) → x .step .action .0 ≡ a → (y : RecordedStep) × Mem y (stepsOfBook G t) × SameStep x y
-  pub back : (y : RecordedStep) → Mem y (stepsOfBook G t) → y .step .action .0 ≡ a → (x : RecordedStep) × Mem x (stepsOfBook F s) × SameStep x y
+  pub forth : (x : RecordedStep) → Mem x (wentSteps (stepsOfBook F s)) → x .step .action .0 ≡ a → (y : RecordedStep) × Mem y (wentSteps (stepsOfBook G t)) × SameStep x y
+  pub back : (y : RecordedStep) → Mem y (wentSteps (stepsOfBook G t)) → y .step .action .0 ≡ a → (x : RecordedStep) × Mem x (wentSteps (stepsOfBook F s)) × SameStep x y
 
 -- the 128 bytes of move a
 abbrev pub blockOf : Form → List ℕ → ℕ → List ℕ
 blockOf F s a = take ruleSize (drop (ruleSize * (a - 1)) (ruleSheet F s))
 
--- Two books with equal relations and moves that hold the same steps of one move, states included, give that move the same 128 bytes.
+-- Two books with equal relations and moves that hold the same steps of one move that went, states included, give that move the same 128 bytes.
 -- Asked is good form alone: accepted books, which learning does not refuse, are among these.
 abbrev pub SameStepsSameBlock : Type 0
 SameStepsSameBlock = (F G : Form) (s t : List ℕ) (m n : ℕ) → lookOver F s ≡ Good m → lookOver G t ≡ Good n → SameSchema (schemaOf s) (schemaOf t)
@@ -87,7 +87,7 @@ RenumberedSteps [] (y ∷ ys) = ⊥
 RenumberedSteps (x ∷ xs) [] = ⊥
 RenumberedSteps (x ∷ xs) (y ∷ ys) = RenumberedStep x y × RenumberedSteps xs ys
 
--- Two books with equal relations and moves whose records differ by the numbers of their objects alone give the same rule sheet.
+-- Two books with equal relations and moves whose steps that went differ by the numbers of their objects alone give the same rule sheet.
 abbrev pub RenumberedSameSheet : Type 0
 RenumberedSameSheet = (F G : Form) (s t : List ℕ) (m n : ℕ) → lookOver F s ≡ Good m → lookOver G t ≡ Good n → SameSchema (schemaOf s) (schemaOf t)
-    → RenumberedSteps (stepsOfBook F s) (stepsOfBook G t) → ruleSheet F s ≡ ruleSheet G t
+    → RenumberedSteps (wentSteps (stepsOfBook F s)) (wentSteps (stepsOfBook G t)) → ruleSheet F s ≡ ruleSheet G t

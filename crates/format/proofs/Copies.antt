@@ -25,14 +25,14 @@ use Rattle.limits.specs.Limits.{headSize, countSize, factSize, stepSize, maxFac
 use Rattle.format.specs.Filed.{filedStepAt, filedFact}
 use Rattle.format.specs.Form.{Form, mostListed, stateAfter}
 use Rattle.format.specs.States.{cut, countBad, factRefused, facts, list, nextState}
-use Rattle.format.specs.Records.{objectsIn, stepsIn, lengthIn, headBad, recordHead, object, step, steps, objectsOf, recordAt, stepRefused}
+use Rattle.format.specs.Records.{objectsIn, stepsIn, lengthIn, headBad, recordHead, object, failedChanges, step, steps, objectsOf, recordAt, stepRefused}
 use Rattle.format.specs.LookOver.{stepTotal}
 use Rattle.format.specs.Lists.{listAt, listEnd}
 use Rattle.format.specs.Decode.{RecordedStep, firstAt, recordedStep, recordedStepsAt, stepsOfRecord, stepsOfRecords, placedAt, placedBy}
 use Rattle.format.proofs.States.{fact-good, count-within, list-ends, next-good, next-in}
-use Rattle.format.proofs.Records.{head-in-limits, head-passed, head-limits, object-entry, step-good, step-reach, step-ends, steps-parted, steps-within, record-good, record-in, record-within}
+use Rattle.format.proofs.Records.{head-in-limits, head-passed, head-limits, object-entry, step-good, step-kept, step-reach, step-ends, steps-parted, steps-within, record-good, record-in, record-within}
 use Rattle.format.proofs.Typing.{objects-known}
-use Rattle.format.proofs.Reading.{Copied, Facing, facing-on, byte-copied, two-copied, fact-copied, filed-step-copied, head-copied, end-copied, list-copied}
+use Rattle.format.proofs.Reading.{Copied, Facing, facing-on, byte-copied, two-copied, fact-copied, filed-step-copied, went-copied, head-copied, end-copied, list-copied}
 use Rattle.answer.proofs.Walks.{walk-induction, walk-beside}
 
 pub placed-same : (fs : List RecordedStep) → placedBy (λ p. p) fs ≡ fs
@@ -91,17 +91,24 @@ module _ {s t : List ℕ} {at at′ size : ℕ} (c : Copied s at t at′ size) w
           let (m, g, good′) = list-beside (filedFact form) (mostListed form) a b next f l good in
           (m, g, next-in form T K t end′ before b m good′ (rw (after-beside before a b f reach) few))
 
+      -- row 27 reads the mark and the state after the step
+      kept-beside : (before : List Fact) (a b : ℕ) → Facing at at′ a b → a + stepSize ≤ end → listEnd s (a + stepSize) ≤ end → failedChanges form t before b ≡ failedChanges form s before a
+      unfolding failedChanges
+      kept-beside before a b f l reach =
+          rw (went-copied c a b f (omega arith), after-beside before (a + stepSize) (b + stepSize) (facing-on f stepSize) reach)
+
       step-beside : (before : List Fact) → Beside (step form S H s end before) (step form T K t end′ before) at at′ end
       unfolding step stepRefused cut
       step-beside before a b next f l e =
           let (suits, different, behind) = step-good form S H s end before a next e in
           let reach = step-reach form S H s end before a next e in
           let i = filed-step-copied c a b f (omega arith) in
+          let kept = kept-beside before a b f reach (step-ends form S H s end before a next e .1) ∙ step-kept form S H s end before a next e in
           let (m, g, good) = next-beside before (a + stepSize) (b + stepSize) next (facing-on f stepSize) l behind in (
             m,
             g,
             refuse-unmet _ _ _ _ (rw (i, le-ltb end′ (b + stepSize) (omega arith), step-over S T same fall (S .kinds) (omega arith) (omega (arith, kinds)) H K typed (filedStepAt s a) suits))
-                ∙ refuse-unmet _ _ _ _ (rw i different) ∙ good,
+                ∙ refuse-unmet _ _ _ _ (rw i different) ∙ bind-good _ _ _ good ∙ refuse-unmet _ _ _ _ kept,
           )
 
       steps-beside : (n : ℕ) (before : List Fact) → Beside (steps form S H s end n before) (steps form T K t end′ n before) at at′ end
@@ -226,6 +233,7 @@ module _ {s t : List ℕ} {at at′ size : ℕ} (c : Copied s at t at′ size) w
           rw (
             place-same a b face,
             filed-step-copied c a b face (omega arith),
+            went-copied c a b face (omega arith),
             list-copied c (a + stepSize) (b + stepSize) face′ (omega arith),
             steps-recorded n (stateAfter form s before (a + stepSize)) (listEnd s (a + stepSize)) (listEnd t (b + stepSize)) last (end-copied c (a + stepSize) (b + stepSize) face′ (omega arith)) rest,
           )

@@ -10,7 +10,7 @@ use Rattle.input.specs.Bytes.{byteAt, two}
 use Rattle.terms.specs.Facts.{factAt}
 use Rattle.terms.specs.Steps.{stepAt}
 use Rattle.limits.specs.Limits.{headSize, countSize, factSize, stepSize, relationSize, moveSize}
-use Rattle.format.specs.Filed.{filedStepAt}
+use Rattle.format.specs.Filed.{wentAt, filedStepAt}
 use Rattle.format.specs.Header.{kindBad, relationBad, moveBad}
 use Rattle.format.specs.Records.{objectsIn, stepsIn, lengthIn}
 use Rattle.format.specs.Lists.{factsAt, listAt, listEnd}
@@ -68,7 +68,11 @@ module _ {s t : List ℕ} {at at′ size : ℕ} (c : Copied s at t at′ size) w
 
     pub filed-step-copied : a + stepSize ≤ at + size → filedStepAt t b ≡ filedStepAt s a
     unfolding filedStepAt
-    filed-step-copied l = rw (step-copied l)
+    filed-step-copied l = rw (step-copied l, byte-copied a b f (omega arith))
+
+    pub went-copied : a + stepSize ≤ at + size → wentAt t b ≡ wentAt s a
+    unfolding wentAt
+    went-copied l = rw (byte-copied a b f (omega arith))
 
     -- rows 4 and 5 read an entry and no more
     pub relation-copied : (kinds : ℕ) → a + relationSize ≤ at + size → relationBad t kinds b ≡ relationBad s kinds a

@@ -1,4 +1,4 @@
--- Rows 6 to 10, row 24 among them: what a good head, object, step, trajectory and record say, and where each of them ends.
+-- Rows 6 to 10 and 27, row 24 among them: what a good head, object, step, trajectory and record say, and where each of them ends.
 use Prim.Native.Nat.{ℕ, zero, suc, _+_, _≤_}
 use mathlib.Core.Path.{_≡_, refl, ap, _∙_, subst}
 use mathlib.Core.Bool.{false, _||_}
@@ -21,7 +21,7 @@ use Rattle.limits.specs.Limits.{headSize, maxObjects, maxSteps, maxFacts, stepS
 use Rattle.format.specs.Filed.{filedStepAt, filedFact}
 use Rattle.format.specs.Form.{Form, stateAfter}
 use Rattle.format.specs.States.{cut, state, nextState}
-use Rattle.format.specs.Records.{objectsIn, stepsIn, lengthIn, headBad, recordHead, object, step, steps, objectsOf, trajectory, body, recordAt, stepRefused, closed}
+use Rattle.format.specs.Records.{objectsIn, stepsIn, lengthIn, headBad, recordHead, object, failedChanges, step, steps, objectsOf, trajectory, body, recordAt, stepRefused, closed}
 use Rattle.format.specs.Lists.{listAt, listEnd}
 use Rattle.format.specs.Decode.{firstAt}
 use Rattle.format.proofs.States.{list-ends, next-ends}
@@ -80,19 +80,34 @@ module _ (kinds : ℕ) (s : List ℕ) (end : ℕ) where
   objects-end n at next e = omega (arith, entries-end _ _ 7 1 object-entry n at next e)
 
 module _ (form : Form) (sch : Schema) (ob : TypedObjects) (s : List ℕ) (end : ℕ) where
+  -- what a step asks, row by row
+  step-passed : (before : List Fact) (at next : ℕ) → step form sch ob s end before at ≡ Good next
+      → (stepRefused sch ob s end at ≡ false) × (repeats (filedStepAt s at) ≡ false) × (nextState form sch ob s end before (at + stepSize) ≡ Good next)
+      × (failedChanges form s before at ≡ false)
+  unfolding step
+  step-passed before at next e =
+      let p = passed _ 9 at next _ e in
+      let q = passed _ 10 at next _ (p .1) in
+      let (reach, good, rest) = parted (nextState form sch ob s end before (at + stepSize)) next _ (q .1) in
+      let (kept, same) = passed _ 27 at next _ rest in
+      (p .0, q .0, good ∙ same, kept)
+
   -- a good step suits, has no object twice, and the state after it is good
   pub step-good : (before : List Fact) (at next : ℕ)
       → step form sch ob s end before at ≡ Good next
       → (stepBad sch ob (filedStepAt s at) ≡ false) × (repeats (filedStepAt s at) ≡ false) × (nextState form sch ob s end before (at + stepSize) ≡ Good next)
-  unfolding step stepRefused
+  unfolding stepRefused
   step-good before at next e =
-      let p = passed _ 9 at next _ e in
-      let q = passed _ 10 at next _ (p .1) in
-      (neither (cut end at stepSize) (stepBad sch ob (filedStepAt s at)) (p .0) .1, q .0, q .1)
+      let (right, different, good, kept) = step-passed before at next e in
+      (neither (cut end at stepSize) (stepBad sch ob (filedStepAt s at)) right .1, different, good)
+
+  -- and if it did not go, the state after it is the state before it
+  pub step-kept : (before : List Fact) (at next : ℕ) → step form sch ob s end before at ≡ Good next → failedChanges form s before at ≡ false
+  step-kept before at next e = step-passed before at next e .3
 
   pub step-reach : (before : List Fact) (at next : ℕ) → step form sch ob s end before at ≡ Good next → at + stepSize ≤ end
-  unfolding step stepRefused cut
-  step-reach before at next e = ltb-false end (at + stepSize) (neither (ltb end (at + stepSize)) (stepBad sch ob (filedStepAt s at)) (passed _ 9 at next _ e .0) .0)
+  unfolding stepRefused cut
+  step-reach before at next e = ltb-false end (at + stepSize) (neither (ltb end (at + stepSize)) (stepBad sch ob (filedStepAt s at)) (step-passed before at next e .0) .0)
 
   -- it ends after the list behind it, within the record
   pub step-ends : (before : List Fact) (at next : ℕ) → step form sch ob s end before at ≡ Good next → (next ≡ listEnd s (at + stepSize)) × (listEnd s (at + stepSize) ≤ end)

@@ -1,4 +1,4 @@
--- Looking over a book: rows 1 to 10, and the count of all steps.
+-- Looking over a book: rows 1 to 10 and 27, and the count of all steps.
 use Prim.Native.Nat.{ℕ, zero, suc, _+_}
 use mathlib.Core.List.{List}
 use lib.ListN.{length}

@@ -1,6 +1,6 @@
--- Rows 6 to 10, row 24 among them: the records of a book, in file order, each to its end.
+-- Rows 6 to 10 and 27, row 24 among them: the records of a book, in file order, each to its end.
 use Prim.Native.Nat.{ℕ, zero, suc, _+_}
-use mathlib.Core.Bool.{Bool, _||_}
+use mathlib.Core.Bool.{Bool, _&&_, _||_, not}
 use mathlib.Core.List.{List}
 use lib.ListN.{length}
 use lib.Dec.{eqb, ltb}
@@ -13,11 +13,12 @@ use Rattle.terms.specs.declared.Sections.{Sections}
 use Rattle.terms.specs.declared.Objects.{Objects}
 use Rattle.terms.specs.declared.Fact.{Fact}
 use Rattle.terms.specs.Schema.{Schema, TypedObjects, schema, typedObjects, outOfRange}
+use Rattle.terms.specs.Facts.{sameFacts}
 use Rattle.terms.specs.Steps.{stepBad, repeats}
 use Rattle.limits.specs.Limits.{headSize, maxObjects, maxSteps, stepSize}
 use Rattle.format.specs.Lists.{listAt}
 use Rattle.format.specs.Form.{Form, stateAfter}
-use Rattle.format.specs.Filed.{filedStepAt, filedFact}
+use Rattle.format.specs.Filed.{wentAt, filedStepAt, filedFact}
 use Rattle.format.specs.States.{cut, state, nextState}
 
 -- a record's head: object count, step count, length
@@ -55,12 +56,18 @@ object kinds s end at = do
 unfoldable pub stepRefused : (sch : Schema) (ob : TypedObjects) (s : List ℕ) (end at : ℕ) → Bool
 stepRefused sch ob s end at = cut end at stepSize || stepBad sch ob (filedStepAt s at)
 
--- rows 9 and 10, then row 8 for the state after the step, `before` being the facts that hold before it
+-- row 27: the step did not go, and the state after it is not the state before it
+unfoldable pub failedChanges : (form : Form) (s : List ℕ) (before : List Fact) (at : ℕ) → Bool
+failedChanges form s before at = not (wentAt s at) && not (sameFacts before (stateAfter form s before (at + stepSize)))
+
+-- rows 9 and 10, then row 8 for the state after the step and row 27, `before` being the facts that hold before it
 unfoldable pub step : (form : Form) (sch : Schema) (ob : TypedObjects) (s : List ℕ) (end : ℕ) (before : List Fact) (at : ℕ) → Answer
 step form sch ob s end before at = do
   _ ← refuse (stepRefused sch ob s end at) 9 at
   _ ← refuse (repeats (filedStepAt s at)) 10 at
-  nextState form sch ob s end before (at + stepSize)
+  next ← nextState form sch ob s end before (at + stepSize)
+  _ ← refuse (failedChanges form s before at) 27 at
+  Good next
 
 -- a number of steps, each from the state that the one before it leaves
 unfoldable pub steps : (form : Form) (sch : Schema) (ob : TypedObjects) (s : List ℕ) (end n : ℕ) (before : List Fact) (at : ℕ) → Answer

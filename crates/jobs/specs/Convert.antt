@@ -13,7 +13,7 @@ use Rattle.terms.specs.declared.Fact.{Fact}
 use Rattle.terms.specs.declared.Step.{Step}
 use Rattle.terms.specs.Sections.{sectionsOf}
 use Rattle.terms.specs.Steps.{objectOf}
-use Rattle.limits.specs.Limits.{maxLength, headerSize, headSize}
+use Rattle.limits.specs.Limits.{maxLength, headerSize, headSize, failedMark}
 use Rattle.format.specs.Lists.{listAt}
 use Rattle.format.specs.Toggled.{toggled}
 use Rattle.format.specs.Form.{Form}
@@ -39,9 +39,13 @@ stepBytes st =
     ∷ objectOf (st .binding) (record { 0 = 4 }) .0
     ∷ []
 
--- a recorded step: what `filedStepAt` reads is written back as the bytes that were there (proofs/Bytes)
+-- the step with the mark of one that did not go
+unfoldable pub marked : Step → Step
+marked st = record { action = record { 0 = failedMark + st .action .0 }; binding = st .binding }
+
+-- a recorded step: what `filedStepAt` and `wentAt` read is written back as the bytes that were there (proofs/Bytes)
 unfoldable pub filedStepBytes : RecordedStep → List ℕ
-filedStepBytes x = stepBytes (x .step)
+filedStepBytes x = stepBytes (cond (x .went) (x .step) (marked (x .step)))
 
 -- the list after a step in a form: the facts that turn, or those that hold
 unfoldable pub listed : Form → RecordedStep → List Fact
@@ -82,7 +86,7 @@ converted to s =
 
 -- ---- the job
 
--- rows 1 to 10, then 23 and 13; success is the new length
+-- rows 1 to 10 and 27, then 23 and 13; success is the new length
 unfoldable pub convert : Form → List ℕ → ℕ → Answer
 convert to s size = do
   _ ← lookOver (not to) s

@@ -1,4 +1,4 @@
--- Learning: rows 11 to 13, the rule sheet, and what the lent sheet holds afterwards.
+-- Learning: rows 11 to 13, row 28 among them, the rule sheet, and what the lent sheet holds afterwards.
 use Prim.Native.Nat.{ℕ, zero, suc, _*_}
 use mathlib.Core.Bool.{not}
 use mathlib.Core.List.{List, [], _++_}
@@ -17,11 +17,12 @@ use Rattle.quantify.specs.Quantify.{least}
 use Rattle.model.specs.Domain.{Transition}
 use Rattle.model.specs.Model.{Model}
 use Rattle.model.specs.Learned.{Rules, learnedRules, learned, unboundEffect, conflicting}
-use Rattle.jobs.specs.Planning.{domain, transition, schemaOf, stepsOfBook, transitionsOf}
+use Rattle.model.specs.Check.{refuted}
+use Rattle.jobs.specs.Planning.{domain, transition, failed, wentSteps, failedSteps, schemaOf, stepsOfBook, transitionsOf}
 
--- row 11: the first step that changed a fact that is no bound fact of it
+-- row 11: the first step that went and changed a fact that is no bound fact of it
 unfoldable pub unboundEffects : Schema → List RecordedStep → Answer
-unboundEffects sch xs = firstRefused (λ x. unboundEffect (domain sch) (transition sch x)) 11 (λ x. x .place) xs
+unboundEffects sch xs = firstRefused (λ x. unboundEffect (domain sch) (transition sch x)) 11 (λ x. x .place) (wentSteps xs)
 
 -- row 12: the smallest move with a bound fact changed to one value and left with the other
 unfoldable pub conflictAnswer : ℕ → Answer
@@ -31,18 +32,11 @@ conflictAnswer (suc a) = Refused 12 (suc a)
 unfoldable pub conflictingMove : Schema → List Transition → Answer
 conflictingMove sch ts = conflictAnswer (least (sch .moves) (conflicting (domain sch) ts))
 
--- rows 11 and 12: the steps of the book are inconsistent
+-- rows 11 and 12: the steps of the book that went are inconsistent
 unfoldable pub inconsistency : Form → List ℕ → Answer
 inconsistency form s = do
   _ ← unboundEffects (schemaOf s) (stepsOfBook form s)
   conflictingMove (schemaOf s) (transitionsOf form s)
-
--- rows 1 to 12; success is the count of all steps
-unfoldable pub learnable : Form → List ℕ → Answer
-learnable form s = do
-  total ← lookOver form s
-  _ ← inconsistency form s
-  Good total
 
 -- the four sets of one move, its block of 128 bytes on the sheet
 unfoldable pub ruleBlock : Rules → ℕ → List ℕ
@@ -59,6 +53,22 @@ rulesFrom form s = learnedRules (domain (schemaOf s)) (transitionsOf form s)
 
 unfoldable pub learnedFrom : Form → List ℕ → Model
 learnedFrom form s = learned (domain (schemaOf s)) (transitionsOf form s)
+
+-- row 28: the first step that did not go though all preconditions of a model are met
+unfoldable pub refutedSteps : Schema → Model → List RecordedStep → Answer
+refutedSteps sch M xs = firstRefused (λ x. refuted (domain sch) M (failed sch x)) 28 (λ x. x .place) (failedSteps xs)
+
+-- of the book, by the model that is learned from all of it
+unfoldable pub refutation : Form → List ℕ → Answer
+refutation form s = refutedSteps (schemaOf s) (learnedFrom form s) (stepsOfBook form s)
+
+-- rows 1 to 12 and 28; success is the count of all steps
+unfoldable pub learnable : Form → List ℕ → Answer
+learnable form s = do
+  total ← lookOver form s
+  _ ← inconsistency form s
+  _ ← refutation form s
+  Good total
 
 unfoldable pub ruleSheet : Form → List ℕ → List ℕ
 ruleSheet form s = ruleBlocks (rulesFrom form s) (schemaOf s .moves) 1

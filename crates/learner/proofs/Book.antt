@@ -1,4 +1,4 @@
--- Rows 1 to 13 one after the other, by what the calls return, and what the lent sheet holds.
+-- Rows 1 to 13, 27 and 28 among them, one after the other, by what the calls return, and what the lent sheet holds.
 use Prim.Native.Nat.{ℕ, _*_}
 use mathlib.Core.Path.{_≡_, refl, sym, ap, _∙_}
 use mathlib.Core.Bool.{Bool, true, false}
@@ -18,14 +18,14 @@ use Rattle.format.specs.Form.{Form}
 use Rattle.format.specs.Header.{sections}
 use Rattle.format.specs.LookOver.{lookOver, allRecords, lookOverBy}
 use Rattle.jobs.specs.Planning.{schemaOf, stepsOfBook, transitionsOf}
-use Rattle.jobs.specs.Learn.{unboundEffects, conflictingMove, inconsistency, learnable, learn, learnBytes, ruleSheet, rulesFrom}
+use Rattle.jobs.specs.Learn.{unboundEffects, conflictingMove, inconsistency, refutation, learnable, learn, learnBytes, ruleSheet, rulesFrom}
 use Rattle.observed.specs.Observed.{nothingSeen, heldAfter, observedOf}
-use Rattle.observed.specs.Rules.{unboundAnswer, conflictAmong, sheetObserved}
+use Rattle.observed.specs.Rules.{unboundAnswer, conflictAmong, sheetObserved, refutedObserved}
+use Rattle.observed.specs.Begun.{Begun}
 use Rattle.onewalk.proofs.Sections.{nothing-alone}
-use Rattle.onewalk.proofs.OneWalk.{observed-taught}
-use Rattle.observestep.specs.Notes.{IsObserved}
+use Rattle.onewalk.proofs.OneWalk.{observed-taught, observed-seen, refuted-held, unrefuted-held}
 use Rattle.observerecords.specs.declared.Walked.{Walked}
-use Rattle.observerecords.specs.Observing.{RecordsObserved}
+use Rattle.observerecords.specs.Observing.{heldWith, IsHeld, RecordsObserved}
 use Rattle.learner.specs.Learner.{FormObserved, BookObserved, LearnOutcome}
 
 refused-not-good {ℓ} : {A : Type ℓ} (a : Answer) (m : ℕ) → isRefused a ≡ true → a ≡ Good m → A
@@ -52,7 +52,7 @@ module _ (form : Form) (s : List ℕ) (h : Sections) (own : h ≡ sectionsOf s) 
 
   -- rows 1 to 5
   pub at-sections : (bytes : List ℕ) (a : Answer) (b : Bool) → a ≡ sections h s → b ≡ isRefused a → b ≡ true
-      → FormObserved form s bytes (record { answer = a; named = 0 })
+      → FormObserved form s bytes (record { answer = a; noticed = record { named = 0; failed = false } })
   at-sections bytes a b p q r =
       record {
         says =
@@ -71,24 +71,35 @@ module _ (form : Form) (s : List ℕ) (h : Sections) (own : h ≡ sectionsOf s) 
   pub all-observed : (first bytes : List ℕ) (w : Walked) (k m : ℕ)
       → sections h s ≡ Good k
       → first ≡ nothingSeen (schema h s) .masks
-      → RecordsObserved form h s (h .records .count) (h .records .at) (record { masks = first; named = 0 }) bytes w
+      → RecordsObserved form h s (h .records .count) (h .records .at) (heldWith first (record { named = 0; failed = false })) bytes w
       → w .answer ≡ Good m
-      → IsObserved (observedOf form s) bytes (w .named)
-  unfolding observedOf heldAfter schemaOf nothingSeen
+      → IsHeld (observedOf form s) bytes (w .noticed)
+  unfolding observedOf heldAfter schemaOf nothingSeen heldWith
   all-observed first bytes w k m good e r f = rw (nothing-alone s k (rw own at good)) (rw (e, own) at (r .observes m f))
 
-  -- rows 6 to 10
+  -- rows 6 to 10 and 27
   pub at-records : (first bytes : List ℕ) (w : Walked) (a : Answer) (b : Bool)
       → a ≡ sections h s
       → b ≡ isRefused a
       → b ≡ false
       → first ≡ nothingSeen (schema h s) .masks
-      → RecordsObserved form h s (h .records .count) (h .records .at) (record { masks = first; named = 0 }) bytes w
+      → RecordsObserved form h s (h .records .count) (h .records .at) (heldWith first (record { named = 0; failed = false })) bytes w
       → FormObserved form s bytes w
   at-records first bytes w a b p q r e n =
       record { says = looked a (w .answer) b p q r (n .says); observes = λ m f. all-observed first bytes w _ m (sym p ∙ is-good a (sym q ∙ r)) e n f }
 
--- rows 11 and 12 from what is observed, after rows 1 to 10
+-- row 28 of a book of good form, by what is held
+module _ (form : Form) (s : List ℕ) (n : ℕ) (good : lookOver form s ≡ Good n) where
+  pub begun-held : (bytes : List ℕ) → bytes ≡ observedOf form s .masks → Begun (schemaOf s) bytes
+  begun-held bytes e = let seen = observed-seen form s n good in rw e (record { sized = seen .sized; atoms = seen .atoms })
+
+  pub refuted-by : (bytes : List ℕ) → bytes ≡ observedOf form s .masks → (r : Answer) → r ≡ refutedObserved bytes (stepsOfBook form s) → r ≡ refutation form s
+  refuted-by bytes e r told = told ∙ rw e (sym (refuted-held form s n good))
+
+  pub unrefuted-by : observedOf form s .failed ≡ false → Good 0 ≡ refutation form s
+  unrefuted-by e = sym (refuted-held form s n good ∙ unrefuted-held form s n good e)
+
+-- rows 11, 12 and 28 from what is held, after rows 1 to 10 and 27
 module _ (form : Form) (s bytes : List ℕ) (w : Walked) (looked′ : FormObserved form s bytes w) (b : Bool) (told : b ≡ isRefused (w .answer)) where
   pub at-form : b ≡ true → BookObserved form s bytes (w .answer)
   unfolding learnable
@@ -104,17 +115,17 @@ module _ (form : Form) (s bytes : List ℕ) (w : Walked) (looked′ : FormObserv
     pub formed : lookOver form s ≡ Good total
     formed = sym (looked′ .says) ∙ good
 
-    observes : IsObserved (observedOf form s) bytes (w .named)
+    pub observes : IsHeld (observedOf form s) bytes (w .noticed)
     observes = looked′ .observes _ good
 
     conflicting : ℕ → Answer
-    conflicting _ = conflictingMove (schemaOf s) (transitionsOf form s) >>= λ _. Good total
+    conflicting _ = conflictingMove (schemaOf s) (transitionsOf form s) >>= λ _. refutation form s >>= λ _. Good total
 
     rest : learnable form s ≡ (unboundEffects (schemaOf s) (stepsOfBook form s) >>= conflicting)
     unfolding learnable inconsistency conflicting
     rest = bind-good _ _ _ formed ∙ bind-assoc (unboundEffects (schemaOf s) (stepsOfBook form s)) _ _
 
-    module _ (c : Answer) (b₂ : Bool) (e₂ : c ≡ unboundAnswer (w .named)) (told₂ : b₂ ≡ isRefused c) where
+    module _ (c : Answer) (b₂ : Bool) (e₂ : c ≡ unboundAnswer (w .noticed .named)) (told₂ : b₂ ≡ isRefused c) where
       row11 : c ≡ unboundEffects (schemaOf s) (stepsOfBook form s)
       row11 = e₂ ∙ ap unboundAnswer (observes .named) ∙ observed-taught form s _ formed .row11
 
@@ -127,15 +138,22 @@ module _ (form : Form) (s bytes : List ℕ) (w : Walked) (looked′ : FormObserv
         unfolding transitionsOf
         row12 = e₃ ∙ rw (moves-own s h own, observes .masks) (observed-taught form s _ formed .row12)
 
-        behind : (conflictingMove (schemaOf s) (transitionsOf form s) >>= λ _. Good total) ≡ learnable form s
+        behind : (conflictingMove (schemaOf s) (transitionsOf form s) >>= λ _. refutation form s >>= λ _. Good total) ≡ learnable form s
         unfolding conflicting
         behind = part-follows _ conflicting c b₂ _ row11 told₂ left₂ refl ∙ sym rest
 
         pub at-conflict : b₃ ≡ true → BookObserved form s bytes d
         at-conflict t = refused-book form s bytes d b₃ told₃ t (part-stays _ _ d b₃ row12 told₃ t ∙ behind)
 
-        pub at-end : b₃ ≡ false → BookObserved form s bytes (w .answer)
-        at-end t = record { says = good ∙ part-follows _ (λ _. Good total) d b₃ _ row12 told₃ t refl ∙ behind; observes = λ m f. observes .masks }
+        module _ (left₃ : b₃ ≡ false) (r : Answer) (b₄ : Bool) (row28 : r ≡ refutation form s) (told₄ : b₄ ≡ isRefused r) where
+          last : (refutation form s >>= λ _. Good total) ≡ learnable form s
+          last = part-follows _ (λ _. refutation form s >>= λ _. Good total) d b₃ _ row12 told₃ left₃ refl ∙ behind
+
+          pub at-refuted : b₄ ≡ true → BookObserved form s bytes r
+          at-refuted t = refused-book form s bytes r b₄ told₄ t (part-stays _ _ r b₄ row28 told₄ t ∙ last)
+
+          pub at-end : b₄ ≡ false → BookObserved form s bytes (w .answer)
+          at-end t = record { says = good ∙ part-follows _ (λ _. Good total) r b₄ _ row28 told₄ t refl ∙ last; observes = λ m f. observes .masks }
 
 -- learning, by what observing the book returned
 pub learn-refused : (form : Form) (s old : List ℕ) (a : Answer) (b : Bool) → a ≡ learnable form s → b ≡ isRefused a → b ≡ true → LearnOutcome form s old old a

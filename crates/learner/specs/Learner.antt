@@ -8,16 +8,16 @@ use Rattle.answer.specs.declared.Answer.the-variants.{Good}
 use Rattle.format.specs.Form.{Form}
 use Rattle.format.specs.LookOver.{lookOver}
 use Rattle.observed.specs.Observed.{observedOf}
-use Rattle.observestep.specs.Notes.{IsObserved}
 use Rattle.jobs.specs.Learn.{learnable, learn, learnBytes}
 use Rattle.observerecords.specs.declared.Walked.{Walked}
+use Rattle.observerecords.specs.Observing.{IsHeld}
 
--- rows 1 to 10, and what is observed where they are good
+-- rows 1 to 10 and 27, and what is held where they are good
 pub record FormObserved (form : Form) (s bytes : List ℕ) (w : Walked) : Type 0 where
   pub says : w .answer ≡ lookOver form s
-  pub observes : (m : ℕ) → w .answer ≡ Good m → IsObserved (observedOf form s) bytes (w .named)
+  pub observes : (m : ℕ) → w .answer ≡ Good m → IsHeld (observedOf form s) bytes (w .noticed)
 
--- rows 1 to 12, and what is observed where they are good
+-- rows 1 to 12 and 28, and what is observed where they are good
 pub record BookObserved (form : Form) (s bytes : List ℕ) (r : Answer) : Type 0 where
   pub says : r ≡ learnable form s
   pub observes : (m : ℕ) → r ≡ Good m → bytes ≡ observedOf form s .masks

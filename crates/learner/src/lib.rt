@@ -1,26 +1,29 @@
 // Learning from a book of either form: the records walked once, each looked over and observed; then rows 11 to 13 and the rule sheet from what is observed.
+// Where some step did not go, the records are walked again for row 28.
 // Uses sections and observerecords for the rows of the form, observestep for what is observed before any record, rulesheet and conflicts for what comes of what is
-// observed, answer, limits and terms, and the definitions of jobs and observed.
+// observed, failedsteps for row 28, answer, limits and terms, and the definitions of jobs and observed.
 use answer::Answer;
 use observerecords::Walked;
 use terms::Sections;
 ghost use mathlib.Core.Path.{_≡_};
+ghost use Prim.Native.Nat.{ℕ};
+ghost use Rattle.answer.specs.declared.Answer.the-variants.{Good};
+ghost use Rattle.format.specs.LookOver.{lookOver};
+ghost use Rattle.jobs.specs.Learn.{refutation};
+ghost use Rattle.observed.specs.Observed.{observedOf};
 ghost use Rattle.limits.specs.Limits.{observedSize};
 ghost use Rattle.mask.specs.Sets.{empty};
 ghost use Rattle.learner.specs.Learner.{FormObserved, BookObserved, LearnOutcome};
 ghost use Rattle.terms.specs.Sections.{sectionsOf};
 
-// Rows 1 to 10: the book looked over and observed in one walk.
+// Rows 1 to 10 and 27: the book looked over and observed in one walk.
 fn observe_form(s: &[u8], short: bool, h: Sections, observed: &mut [u8]) -> Walked
     requires { ⌜ (h ≡ sectionsOf (now s)) × (now observed ≡ empty observedSize) ⌝ }
     ensures { λ r. ⌜ FormObserved short (now (s .entry)) (now (observed .exit)) r ⌝ }
 {
     let a = sections::sections(s, h);
     if answer::is_refused(a) {
-        return Walked {
-            answer: a,
-            named: 0,
-        };
+        return observerecords::stopped(a);
     }
     observestep::nothing_seen(s, h, observed);
     observerecords::walk::records(
@@ -33,7 +36,22 @@ fn observe_form(s: &[u8], short: bool, h: Sections, observed: &mut [u8]) -> Walk
     )
 }
 
-// Rows 1 to 12: then what rows 11 and 12 say of what is observed.
+// Row 28 of a book that is observed. Where all steps went, its records are not walked again. The second walk is called for each form by itself: called in
+// one place the compiler puts it into the first walk, whose loops over facts then take a tenth longer.
+fn refutation(s: &[u8], short: bool, h: Sections, observed: &[u8], failed: bool) -> Answer
+    requires { ⌜ (h ≡ sectionsOf (now s)) × ((n : ℕ) × (lookOver short (now s) ≡ Good n)) × (now observed ≡ observedOf short (now s) .masks) × (failed ≡ observedOf short (now s) .failed) ⌝ }
+    ensures { λ r. ⌜ r ≡ refutation short (now (s .entry)) ⌝ }
+{
+    if !failed {
+        return Answer::Good(0);
+    }
+    if short {
+        return failedsteps::first_refuted(s, true, h, observed);
+    }
+    failedsteps::first_refuted(s, false, h, observed)
+}
+
+// Rows 1 to 12 and 28: then what rows 11 and 12 say of what is observed, and where some step did not go, row 28.
 pub fn observe_book(s: &[u8], short: bool, h: Sections, observed: &mut [u8]) -> Answer
     requires { ⌜ (h ≡ sectionsOf (now s)) × (now observed ≡ empty observedSize) ⌝ }
     ensures { λ r. ⌜ BookObserved short (now (s .entry)) (now (observed .exit)) r ⌝ }
@@ -43,13 +61,18 @@ pub fn observe_book(s: &[u8], short: bool, h: Sections, observed: &mut [u8]) -> 
     if answer::is_refused(a) {
         return a;
     }
-    let b = conflicts::unbound_answer(w.named);
+    let noticed = w.noticed;
+    let b = conflicts::unbound_answer(noticed.named);
     if answer::is_refused(b) {
         return b;
     }
     let c = conflicts::conflict_among(h.moves.count, observed);
     if answer::is_refused(c) {
         return c;
+    }
+    let d = refutation(s, short, h, observed, noticed.failed);
+    if answer::is_refused(d) {
+        return d;
     }
     a
 }

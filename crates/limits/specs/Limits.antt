@@ -61,6 +61,10 @@ factSize = 3
 abbrev pub stepSize : ℕ
 stepSize = 5
 
+-- added to the move byte of a step that did not go
+abbrev pub failedMark : ℕ
+failedMark = 128
+
 -- ---- an order
 
 abbrev pub maxStarts : ℕ

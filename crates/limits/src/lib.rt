@@ -43,6 +43,9 @@ pub const FACT_SIZE: usize = 3;
 
 pub const STEP_SIZE: usize = 5;
 
+// Added to the move byte of a step that did not go.
+pub const FAILED_MARK: u8 = 128;
+
 // ---- an order
 
 pub const MAX_STARTS: u16 = 16;

@@ -1,4 +1,4 @@
--- The check's verdict is the judge's.
+-- The check's verdict is the judge's, whichever models he holds, if the check is by one of them that is stricter than each.
 use Prim.Native.Nat.{ℕ, zero, suc}
 use native.Mathlib.Omega.{arith}
 use mathlib.Core.Path.{_≡_, refl, sym, _∙_}
@@ -7,18 +7,15 @@ use mathlib.Core.Bool.{Bool, true, false}
 use mathlib.Core.List.{List}
 use Rattle.truth.specs.Bools.{decide, is-true}
 use Rattle.quantify.specs.Quantify.{has, first}
-use Rattle.model.specs.Domain.{Domain, State, GroundAction, Transition, GoalLiteral}
-use Rattle.model.specs.Model.{Model, Valid, Consistent, Run, stopped, ended, run}
+use Rattle.model.specs.Domain.{Domain, State, GroundAction, GoalLiteral}
+use Rattle.model.specs.Model.{Model, Valid, Run, stopped, ended, run}
 use Rattle.model.specs.Judge.{impossible, wrong, MissesAt, Judged}
-use Rattle.model.specs.Learned.{learned}
-use Rattle.model.specs.Check.{reached, judgedRun, checkedBy, inconsistent, checked}
-use Rattle.model.specs.Formed.{Formed, Grounded}
+use Rattle.model.specs.Check.{reached, judgedRun, checkedBy}
+use Rattle.model.specs.Formed.{Grounded}
 use Rattle.model.specs.Exact.{Exact}
 use Rattle.model.specs.Stricter.{Stricter}
 use Rattle.quantify.proofs.Quantify.{First, first-law}
-use Rattle.model.proofs.Stricter.{explains, stricter}
 use Rattle.model.proofs.Lockstep.{NoLater, lockstep}
-use Rattle.model.proofs.Impossible.{learned-consistent, impossible-iff}
 use Rattle.model.proofs.Judge.{not-both, one-end, unique}
 
 module _ (D : Domain) (P : Model → Type 0) (valid : (M : Model) → P M → Valid D M) (L : Model) (own : P L) (strict : (M : Model) → P M → Stricter D L M) where
@@ -80,10 +77,3 @@ module _ (D : Domain) (P : Model → Type 0) (valid : (M : Model) → P M → Va
           go : (none ≡ true) ⊎ (none ≡ false) → Judged D P plan st goal (checkedBy none D L plan st goal)
           go (inl e) = rw (checked-none none D L plan st goal e) (barred e)
           go (inr e) = rw (checked-run none D L plan st goal e) (exact-run D P valid L (own e) strict plan grounded st goal)
-
--- Demand 3 over transitions: the check by the learned model is exact of the judge over all consistent models.
-pub exact : (D : Domain) (ts : List Transition) → Formed D ts → Exact D (Consistent D ts) (inconsistent D ts) (checked D ts)
-unfolding checked
-exact D ts formed =
-    exact-by D (Consistent D ts) (λ M c. c .valid) (learned D ts) (inconsistent D ts) (impossible-iff D ts formed .0) (learned-consistent D ts formed)
-    (λ M c. stricter D ts M (explains D ts formed M c) (c .valid))

@@ -1,4 +1,4 @@
--- Row 11 or 12 is met exactly where no model is consistent. Elsewhere a model is consistent exactly if it is valid and explains what was seen at each
+-- Where row 11 or 12 is met no model is consistent. Elsewhere a model is consistent exactly if it is valid and explains what was seen at each
 -- atom; the learned model does.
 use Prim.Native.Nat.{ℕ}
 use mathlib.Core.Path.{_≡_, sym, _∙_}
@@ -103,8 +103,3 @@ module _ (D : Domain) (ts : List Transition) (formed : Formed D ts) where
               made = λ a n atom x y s. learned-makes D ts a n atom (clean-unconflicted a n atom) x y s;
               met = λ a n atom x y s. is-false _ (λ e. clash _ (before-in ts a n x y s) (rw Bool·not-not at (need-out D ts (not x) a n e .1)));
             }
-
-  -- Row 11 or 12 is met exactly if no model is consistent.
-  pub impossible-iff : inconsistent D ts ≡ true ↔ ((M : Model) → Consistent D ts M → ⊥)
-  impossible-iff =
-      (λ e M consistent. clash _ e (possible M consistent), λ none. is-true _ (λ clean. none (learned D ts) (learned-consistent clean)))

@@ -7,6 +7,7 @@ pub mod Rows
 pub mod Impossible
 pub mod Judge
 pub mod Exact
+pub mod Failed
 pub mod OneAction
 pub mod Order
 pub mod Bounds

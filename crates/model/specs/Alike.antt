@@ -6,7 +6,7 @@ use mathlib.Core.Logic.{_↔_}
 use mathlib.Core.Bool.{true}
 use mathlib.Core.List.{List, [], _∷_}
 use Rattle.quantify.specs.Quantify.{Mem}
-use Rattle.model.specs.Domain.{Domain, Transition}
+use Rattle.model.specs.Domain.{Domain, Transition, Failed}
 use Rattle.model.specs.Learned.{Rules}
 
 -- the same action, and at each of its atoms, each under its own binding, the same values before and after
@@ -33,6 +33,10 @@ pub record SameRules (R S : Rules) (a n : ℕ) : Type 0 where
 -- the same transitions, in whatever sequence and number
 abbrev pub SameMembers : List Transition → List Transition → Type 0
 SameMembers ts us = (t : Transition) → Mem t ts ↔ Mem t us
+
+-- the same steps that did not go, likewise
+abbrev pub SameFailed : List Failed → List Failed → Type 0
+SameFailed us vs = (u : Failed) → Mem u us ↔ Mem u vs
 
 -- one by one alike: what a list becomes when the objects of its records are renumbered
 pub data Renumbered (D : Domain) : List Transition → List Transition → Type 0 where

@@ -1,10 +1,10 @@
--- The check of a plan by the learned model, as a verdict.
+-- The check of a plan by the learned model, as a verdict, and the rows by which no model fits.
 use Prim.Native.Nat.{ℕ, zero, suc}
-use mathlib.Core.Bool.{Bool, true, false, _||_}
+use mathlib.Core.Bool.{Bool, true, false, _||_, not}
 use mathlib.Core.List.{List}
 use Rattle.quantify.specs.Quantify.{any, below, first}
-use Rattle.model.specs.Domain.{Domain, State, GroundAction, Transition, GoalLiteral}
-use Rattle.model.specs.Model.{Model, Run, stopped, ended, run}
+use Rattle.model.specs.Domain.{Domain, State, GroundAction, Transition, Failed, GoalLiteral}
+use Rattle.model.specs.Model.{Model, Run, stopped, ended, inapplicable, run}
 use Rattle.model.specs.Judge.{Verdict, impossible, stops, misses, passes, wrong}
 use Rattle.model.specs.Learned.{learned, unboundEffect, conflicting}
 
@@ -26,6 +26,14 @@ checkedBy none D L plan st goal = elim none [ true ↦ impossible | false ↦ ju
 unfoldable pub inconsistent : Domain → List Transition → Bool
 inconsistent D ts = any (unboundEffect D) ts || below (D .actions) (λ a. conflicting D ts (suc a))
 
--- the whole check: impossible by row 11 or 12, else the plan under the learned model
-unfoldable pub checked : Domain → List Transition → List GroundAction → State → List GoalLiteral → Verdict
-checked D ts = checkedBy (inconsistent D ts) D (learned D ts)
+-- row 28: a step that did not go is applicable under the model
+unfoldable pub refuted : Domain → Model → Failed → Bool
+refuted D L u = not (inapplicable D L (u .step) (u .state))
+
+-- rows 11, 12 and 28
+unfoldable pub unfit : Domain → List Transition → List Failed → Bool
+unfit D ts us = inconsistent D ts || any (refuted D (learned D ts)) us
+
+-- the whole check: impossible by row 11, 12 or 28, else the plan under the learned model
+unfoldable pub checked : Domain → List Transition → List Failed → List GroundAction → State → List GoalLiteral → Verdict
+checked D ts us = checkedBy (unfit D ts us) D (learned D ts)

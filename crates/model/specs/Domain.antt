@@ -25,6 +25,11 @@ pub record Transition : Type 0 where
   pub pre : State
   pub post : State
 
+-- a step that did not go, and the state in which it was tried: a failed execution
+pub record Failed : Type 0 where
+  pub step : GroundAction
+  pub state : State
+
 -- a goal literal: a fact and the value wanted of it
 pub record GoalLiteral : Type 0 where
   pub wanted : Bool

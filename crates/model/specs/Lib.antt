@@ -6,5 +6,6 @@ pub mod Learned
 pub mod Check
 pub mod Formed
 pub mod Exact
+pub mod Demand
 pub mod Stricter
 pub mod Alike

@@ -1,11 +1,12 @@
--- Action models (the paper's rule lists), when one is consistent with transitions (fits them), and how one executes a plan.
+-- Action models (the paper's rule lists), when one is consistent with transitions (fits them) and bars the steps that did not go, and how one
+-- executes a plan. This file cites nothing that is learned.
 use Prim.Native.Nat.{ℕ, suc}
 use mathlib.Core.Path.{_≡_}
 use mathlib.Core.Bool.{Bool, true, false, _&&_, _||_, not}
 use mathlib.Core.List.{List, [], _∷_}
 use lib.Dec.{eqb}
 use Rattle.quantify.specs.Quantify.{below, Mem}
-use Rattle.model.specs.Domain.{Domain, State, GroundAction, Transition}
+use Rattle.model.specs.Domain.{Domain, State, GroundAction, Transition, Failed}
 
 -- Four sets of lifted atoms for each action. `precondition true`: needed to hold; `precondition false`: needed not to hold;
 -- `effect true`: added; `effect false`: deleted.
@@ -40,6 +41,11 @@ pub record Fits (D : Domain) (M : Model) (t : Transition) : Type 0 where
 pub record Consistent (D : Domain) (ts : List Transition) (M : Model) : Type 0 where
   pub valid : Valid D M
   pub fits : (t : Transition) → Mem t ts → Fits D M t
+
+-- fits the steps that went and those that did not: consistent with the former, and each of the latter has a need unmet in the state in which it was tried
+pub record Fitting (D : Domain) (ts : List Transition) (us : List Failed) (M : Model) : Type 0 where
+  pub consistent : Consistent D ts M
+  pub bars : (u : Failed) → Mem u us → inapplicable D M (u .step) (u .state) ≡ true
 
 -- what a plan comes to: the number of the step that is not applicable, or the end state
 pub data Run : Type 0 where

@@ -28,7 +28,7 @@ use Rattle.observed.proofs.Parts.{part-bytes}
 use Rattle.observed.proofs.Noted.{length-observedSet}
 
 -- ---- a byte that is not 0 is a bit that is set
-abbrev used : ℕ → Bool
+abbrev pub used : ℕ → Bool
 used x = not (eqb x 0)
 
 all-empty : (m : List ℕ) → any used m ≡ false → m ≡ empty (length m)
@@ -58,7 +58,7 @@ any-used m h = bool-eq _ _ (λ e. is-true _ (set e)) (λ e. is-true _ (unset e))
         let (n, l, t) = below-out _ (testBit m) e in
         clash _ t (ap (λ (k : List ℕ). testBit k n) (all-empty m none) ∙ test-empty _ n)
 
-any-maskOf : (q : ℕ → Bool) → any used (maskOf 32 q) ≡ below 256 q
+pub any-maskOf : (q : ℕ → Bool) → any used (maskOf 32 q) ≡ below 256 q
 any-maskOf q =
     any-used (maskOf 32 q) (bytes-maskOf 32 q) ∙ ap (λ (k : ℕ). below (8 * k) (testBit (maskOf 32 q))) (length-maskOf 32 q)
     ∙ below-cong 256 _ q (λ k l. test-maskOf 32 q k l)

@@ -2,11 +2,13 @@
 use Prim.Native.Nat.{ℕ, zero, suc, _+_, _*_, _/_, _%_, _≤_, _<_}
 use native.Mathlib.Decide.{ℕ-discrete}
 use native.Mathlib.Omega.{arith}
-use mathlib.Core.Path.{_≡_, refl, sym, ap, ap₂, _∙_}
+use mathlib.Core.Path.{_≡_, refl, sym, ap, ap₂, _∙_, subst}
+use mathlib.Core.Logic.{_⊎_, inl, inr}
 use mathlib.Core.Bool.{Bool, true, false, cond, _&&_, _||_, and-true}
 use mathlib.Core.List.{List, [], _∷_, _++_, map, append-nil, append-assoc}
 use lib.Dec.{eqb}
 use lib.ListN.{length, getD}
+use Rattle.truth.specs.Bools.{decide}
 use Rattle.limits.specs.Limits.{observedSize}
 use Rattle.mask.specs.Bits.{bitOf, testBit, setBit, Bytes}
 use Rattle.mask.specs.Sets.{empty}
@@ -17,13 +19,14 @@ use Rattle.terms.specs.declared.Fact.{Fact}
 use Rattle.terms.specs.Schema.{Schema}
 use Rattle.terms.specs.Steps.{isAtom}
 use Rattle.format.specs.Decode.{RecordedStep}
-use Rattle.quantify.specs.Quantify.{any, Mem, here, there}
+use Rattle.quantify.specs.Quantify.{any, Mem, here, there, chosen}
 use Rattle.model.specs.Domain.{Transition}
 use Rattle.model.specs.Learned.{saw, before, after, turned}
-use Rattle.jobs.specs.Planning.{groundAction, transition}
+use Rattle.jobs.specs.Planning.{groundAction, transition, wentSteps}
+use Rattle.jobs.proofs.Parted.{went-take, went-skip}
 use Rattle.observed.specs.Inverse.{factBound, atomOf, mark, marks, atomsIn}
 use Rattle.atoms.specs.Atoms.{atomSet}
-use Rattle.observed.specs.Observed.{bound, Observed, setAt, observedSet, noted, observeBy, observe, observeAll, atFirst, nothingSeen}
+use Rattle.observed.specs.Observed.{bound, Observed, setAt, observedSet, noted, observeBy, failureSeen, observe, observeAll, atFirst, nothingSeen}
 use Rattle.observed.specs.Faithful.{Faithful}
 use Rattle.observed.specs.Seen.{inSet, Seen}
 use Rattle.observed.proofs.Parts.{part-byte, part-bytes}
@@ -116,9 +119,26 @@ module _ (sch : Schema) where
         says = λ k hk a h h′ n hn. test-start a k n h h′ (omega arith) hn ∙ ap (λ (b : Bool). isAtom sch a n && b) (first-shown k a n hk);
       }
 
--- ---- one step more
+-- ---- one step more, which went or did not
+module _ (f : RecordedStep) (h : Observed) where
+  abbrev either : Bool → Observed
+  either went = elim went as (λ b. Observed) [ true ↦ observeBy (observedSet (h .masks) (f .step .action .0) bound) f h | false ↦ failureSeen h ]
+
+  pub observe-went : f .went ≡ true → observe f h ≡ observeBy (observedSet (h .masks) (f .step .action .0) bound) f h
+  unfolding observe
+  observe-went e = ap either e
+
+  pub observe-failed : f .went ≡ false → observe f h ≡ failureSeen h
+  unfolding observe
+  observe-failed e = ap either e
+
+  -- one that did not go leaves the masks as they are
+  pub passed-masks : f .went ≡ false → h .masks ≡ observe f h .masks
+  unfolding failureSeen
+  passed-masks e = sym (ap (λ (x : Observed). x .masks) (observe-failed e))
+
 module _ (sch : Schema) (few : sch .moves ≤ 32) where
-  module _ (ts : List Transition) (h : Observed) (f : RecordedStep) (faithful : Faithful sch f) (seen : Seen sch ts (h .masks)) where
+  module _ (ts : List Transition) (h : Observed) (f : RecordedStep) (went : f .went ≡ true) (faithful : Faithful sch f) (seen : Seen sch ts (h .masks)) where
     known : f .step .action .0 ≤ 32
     known = omega (arith, faithful .known)
 
@@ -127,8 +147,7 @@ module _ (sch : Schema) (few : sch .moves ≤ 32) where
 
     -- the bound facts that were made before any record are the move's
     pub by-atoms : observe f h ≡ observeBy atoms f h
-    unfolding observe
-    by-atoms = ap (λ (m : List ℕ). observeBy m f h) (seen .atoms (f .step .action .0) (faithful .counted) known)
+    by-atoms = observe-went f h went ∙ ap (λ (m : List ℕ). observeBy m f h) (seen .atoms (f .step .action .0) (faithful .counted) known)
 
     says-more : (k : ℕ) → k < 6 → (a : ℕ) → 1 ≤ a → a ≤ 32 → (n : ℕ) → n < 256
         → testBit (observedSet (observeBy atoms f h .masks) a k) n ≡ (isAtom sch a n && inSet (ts ++ transition sch f ∷ []) k a n)
@@ -155,7 +174,7 @@ module _ (sch : Schema) (few : sch .moves ≤ 32) where
             (changed-within k (isAtom sch (f .step .action .0) n) _ _ _ ∙ ap (λ (b : Bool). isAtom sch (f .step .action .0) n && b) (sym (shown-own ts (transition sch f) k _ n refl)))
             ∙ ap (λ (b : ℕ). isAtom sch b n && inSet (ts ++ transition sch f ∷ []) k b n) e
 
-    -- A step that is faithful adds to what is observed what its transition shows.
+    -- A step that went and is faithful adds to what is observed what its transition shows.
     pub seen-observe : Seen sch (ts ++ transition sch f ∷ []) (observe f h .masks)
     unfolding observeBy
     seen-observe =
@@ -168,12 +187,17 @@ module _ (sch : Schema) (few : sch .moves ≤ 32) where
         })
 
   pub seen-all : (fs : List RecordedStep) → ((f : RecordedStep) → Mem f fs → Faithful sch f) → (ts : List Transition) (h : Observed) → Seen sch ts (h .masks)
-      → Seen sch (ts ++ map (transition sch) fs) (observeAll fs h .masks)
-  unfolding observeAll
+      → Seen sch (ts ++ map (transition sch) (wentSteps fs)) (observeAll fs h .masks)
+  unfolding observeAll wentSteps chosen
   seen-all [] all ts h seen = rw append-nil seen
-  seen-all (f ∷ fs) all ts h seen =
-      rw append-assoc at (seen-all fs (λ g m. all g (there m)) (ts ++ transition sch f ∷ []) (observe f h) (seen-observe ts h f (all f here) seen))
+  seen-all (f ∷ fs) all ts h seen = go (decide (f .went)) (λ us seen′. seen-all fs (λ g m. all g (there m)) us (observe f h) seen′)
+    where
+      go : (f .went ≡ true) ⊎ (f .went ≡ false)
+          → ((us : List Transition) → Seen sch us (observe f h .masks) → Seen sch (us ++ map (transition sch) (wentSteps fs)) (observeAll fs (observe f h) .masks))
+          → Seen sch (ts ++ map (transition sch) (wentSteps (f ∷ fs))) (observeAll fs (observe f h) .masks)
+      go (inl e) rest = rw (went-take f fs e) (rw append-assoc at (rest (ts ++ transition sch f ∷ []) (seen-observe ts h f e (all f here) seen)))
+      go (inr e) rest = rw (went-skip f fs e) (rest ts (subst (λ (m : List ℕ). Seen sch ts m) (passed-masks f h e) seen))
 
-  -- What is observed after all steps is what their transitions show.
-  pub seen-observed : (fs : List RecordedStep) → ((f : RecordedStep) → Mem f fs → Faithful sch f) → Seen sch (map (transition sch) fs) (observeAll fs (nothingSeen sch) .masks)
+  -- What is observed after all steps is what the transitions of those that went show.
+  pub seen-observed : (fs : List RecordedStep) → ((f : RecordedStep) → Mem f fs → Faithful sch f) → Seen sch (map (transition sch) (wentSteps fs)) (observeAll fs (nothingSeen sch) .masks)
   seen-observed fs all = seen-all fs all [] (nothingSeen sch) (seen-nothing sch)

@@ -52,9 +52,6 @@ unfoldable pub unbound : List ℕ → Binding → List Fact → List Fact
 unbound atoms b [] = []
 unbound atoms b (f ∷ fs) = cond (factBound atoms b f) (unbound atoms b fs) (f ∷ unbound atoms b fs)
 
-unfoldable pub sameFact : Fact → Fact → Bool
-sameFact f g = eqb (f .relation .0) (g .relation .0) && eqb (f .first .0) (g .first .0) && eqb (f .second .0) (g .second .0)
-
 -- the facts that are in f ∷ fs or in a second list but not in both; both are in order, and `more` gives the same for fs and a second list. Of the
 -- first facts of the two, if they differ, the one that precedes is in its list alone, and the other is compared with the facts that follow
 unfoldable pub mergeFrom : Fact → List Fact → (List Fact → List Fact) → List Fact → List Fact

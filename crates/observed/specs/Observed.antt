@@ -1,8 +1,9 @@
--- What the learner has observed: seven sets of bound facts for each move, 224 bytes a move, and the offset of the first step that row 11 names.
+-- What the learner has observed: seven sets of bound facts for each move, 224 bytes a move, the offset of the first step that row 11 names, and whether
+-- some step did not go. Such a step is passed over otherwise.
 -- One of the seven is made before any record and stays: all bound facts of the move. Uses terms for these, and jobs for the schema of a book.
 use Prim.Native.Nat.{ℕ, _+_, _-_, _*_, _/_, _%_, _≤_}
 use mathlib.Core.Path.{_≡_}
-use mathlib.Core.Bool.{Bool, cond, _&&_, _||_}
+use mathlib.Core.Bool.{Bool, true, false, cond, _&&_, _||_}
 use mathlib.Core.List.{List, [], _∷_, _++_}
 use lib.ListN.{length, take, drop}
 use lib.Dec.{eqb}
@@ -46,10 +47,11 @@ bound = 6
 
 -- ---- what is observed
 
--- `named` is 0 where no step is named
+-- `named` is 0 where no step is named; `failed` says that some step did not go
 pub record Observed : Type 0 where
   pub masks : List ℕ
   pub named : ℕ
+  pub failed : Bool
 
 -- where set k of a move stands
 unfoldable pub setAt : ℕ → ℕ → ℕ
@@ -115,18 +117,24 @@ noted a before after l = withSets a (afterStep before after (setsOf l a)) l
 unfoldable pub firstNamed : ℕ → Bool → ℕ → ℕ
 firstNamed named unbound at = cond (eqb named 0) (cond unbound at 0) named
 
--- what is observed after one step more of a move whose bound facts are `atoms`
+-- what is observed after one step more that went, of a move whose bound facts are `atoms`
 unfoldable pub observeBy : List ℕ → RecordedStep → Observed → Observed
 observeBy atoms x seen =
     record {
       masks =
           noted (x .step .action .0) (atomsIn atoms (x .step .binding) (x .pre)) (atomsIn atoms (x .step .binding) (x .post)) (seen .masks);
       named = firstNamed (seen .named) (unboundChanged atoms (x .step .binding) (x .pre) (x .post)) (x .place);
+      failed = seen .failed;
     }
 
--- the bound facts being those that were made before any record
+-- and after one that did not go
+unfoldable pub failureSeen : Observed → Observed
+failureSeen seen = record { masks = seen .masks; named = seen .named; failed = true }
+
+-- after one step more, the bound facts being those that were made before any record
 unfoldable pub observe : RecordedStep → Observed → Observed
-observe x seen = observeBy (observedSet (seen .masks) (x .step .action .0) bound) x seen
+observe x seen =
+    elim (x .went) [ true ↦ observeBy (observedSet (seen .masks) (x .step .action .0) bound) x seen | false ↦ failureSeen seen ]
 
 unfoldable pub observeAll : List RecordedStep → Observed → Observed
 observeAll [] seen = seen
@@ -152,6 +160,7 @@ nothingSeen sch =
     record {
       masks = maskOf observedSize (λ i. atFirst sch (i / maxAtoms / observedSets + 1) (i / maxAtoms % observedSets) (i % maxAtoms));
       named = 0;
+      failed = false;
     }
 
 -- what is held after so many records of a book, from the bytes of its sections and of these records

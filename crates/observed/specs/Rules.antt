@@ -1,14 +1,19 @@
--- Sheet, row 11 and row 12 from what is observed. Uses jobs for the answer of row 12.
+-- Sheet, row 11 and row 12 from what is observed; and row 28 of a step that did not go, by the preconditions that are observed and the state before
+-- it. Uses jobs for the answer of row 12 and for the steps that did not go.
 use Prim.Native.Nat.{ℕ, zero, suc}
 use mathlib.Core.Bool.{Bool, not}
 use mathlib.Core.List.{List, [], _++_}
 use lib.Dec.{eqb}
 use Rattle.answer.specs.declared.Answer.{Answer}
 use Rattle.answer.specs.declared.Answer.the-variants.{Good, Refused}
+use Rattle.answer.specs.Answer.{firstRefused}
 use Rattle.mask.specs.Sets.{intersection, union, difference}
 use Rattle.quantify.specs.Quantify.{any, least}
+use Rattle.format.specs.Decode.{RecordedStep}
+use Rattle.jobs.specs.Planning.{failedSteps}
 use Rattle.jobs.specs.Learn.{conflictAnswer}
 use Rattle.jobs.specs.SheetBits.{neededSet, neededNotSet, addedSet, removedSet}
+use Rattle.observed.specs.Inverse.{atomsIn}
 use Rattle.observed.specs.Observed.{alwaysBefore, everBefore, alwaysAfter, everAfter, added, deleted, bound, observedSet}
 
 -- one of the four sets of a move's rules, in their order (jobs/specs/SheetBits.antt)
@@ -45,3 +50,18 @@ conflictObserved l a = inUse (conflictSet l a)
 
 unfoldable pub conflictAmong : List ℕ → ℕ → Answer
 conflictAmong l moves = conflictAnswer (least moves (conflictObserved l))
+
+-- ---- row 28
+
+-- the preconditions of a move that are unmet where `held` are its bound facts that hold: needed not to hold and held, or needed to hold and not held
+unfoldable pub unmetSet : List ℕ → ℕ → List ℕ → List ℕ
+unmetSet l a held = union (intersection (ruleSet l a neededNotSet) held) (difference (ruleSet l a neededSet) held)
+
+-- all preconditions of the step's move are met in the state before it
+unfoldable pub metBefore : List ℕ → RecordedStep → Bool
+metBefore l x =
+    not (inUse (unmetSet l (x .step .action .0) (atomsIn (observedSet l (x .step .action .0) bound) (x .step .binding) (x .pre))))
+
+-- the first of some recorded steps that did not go though all preconditions are met
+unfoldable pub refutedObserved : List ℕ → List RecordedStep → Answer
+refutedObserved l xs = firstRefused (metBefore l) 28 (λ x. x .place) (failedSteps xs)

@@ -1,27 +1,23 @@
 -- One step of a record observed as its list is looked over: what the step's form gives the functions of observestep, and what they say comes to what is
 -- observed after the step.
-use Prim.Native.Nat.{ℕ, _+_, _≤_, _<_}
-use native.Mathlib.Decide.{decLt}
+use Prim.Native.Nat.{ℕ, _+_, _≤_}
 use native.Mathlib.Omega.{arith}
 use mathlib.Core.Path.{_≡_, refl, sym, ap, _∙_, subst}
 use mathlib.Core.Bool.{Bool, true, false, _&&_, not}
 use mathlib.Core.List.{List}
 use lib.ListN.{length}
-use Rattle.truth.specs.Bools.{clash, is-false}
+use Rattle.truth.specs.Bools.{clash}
 use Rattle.answer.specs.declared.Answer.the-variants.{Good}
 use Rattle.answer.proofs.Laws.{parted}
 use Rattle.mask.specs.Bits.{testBit}
 use Rattle.mask.specs.Sets.{maskOf, cardinality}
-use Rattle.mask.proofs.Bytes.{test-past}
-use Rattle.mask.proofs.Whole.{length-maskOf, test-maskOf}
 use Rattle.terms.specs.declared.Fact.{Fact}
-use Rattle.terms.specs.Schema.{Schema, schema, typedObjects}
-use Rattle.terms.specs.Steps.{objectOf, argumentBad, isAtom, ground}
+use Rattle.terms.specs.Schema.{schema, typedObjects}
+use Rattle.terms.specs.Steps.{ground}
 use Rattle.terms.specs.Facts.{factBad, noFact}
 use Rattle.terms.specs.Told.{suits}
-use Rattle.terms.proofs.Atoms.{atom-below}
 use Rattle.limits.specs.Limits.{maxLength, stepSize}
-use Rattle.format.specs.Filed.{filedStepAt, asWritten}
+use Rattle.format.specs.Filed.{wentAt, filedStepAt, asWritten}
 use Rattle.format.specs.Lists.{listAt, listEnd}
 use Rattle.format.specs.Toggled.{toggled}
 use Rattle.format.specs.Form.{Form, full, mostListed, stateAfter}
@@ -31,14 +27,17 @@ use Rattle.quantify.specs.Quantify.{Mem}
 use Rattle.atoms.specs.Atoms.{atomSet, atomsEnd}
 use Rattle.grounding.specs.Grounding.{Bounded, heldAtoms}
 use Rattle.tables.specs.Tables.{RightByPlace}
-use Rattle.turning.proofs.Carrying.{carries-count}
+use Rattle.turning.specs.Turning.{Turnable, Carried}
+use Rattle.turning.proofs.Carrying.{carries-count, list-turnable}
 use Rattle.factsets.specs.Right.{Increasing, RightStep}
-use Rattle.factsets.proofs.Suits.{object-most, argument-right, move-there}
+use Rattle.factsets.proofs.Suits.{move-there}
 use Rattle.factsets.proofs.States.{list-suits, list-increasing}
 use Rattle.factsets.proofs.Numbers.{fact-parts}
 use Rattle.terms.proofs.Atoms.{range-out}
 use Rattle.observed.specs.Inverse.{atomsIn}
-use Rattle.observed.specs.Observed.{bound, Observed, observedSet, observe, observeBy}
+use Rattle.observed.specs.Observed.{bound, Observed, observedSet, failureSeen, observe, observeBy}
+use Rattle.observed.proofs.Observe.{observe-went, observe-failed}
+use Rattle.onewalk.proofs.Bound.{step-bounded, step-ended}
 use Rattle.onewalk.proofs.Turned.{held-found, turn-marks, some-unbound}
 use Rattle.states.proofs.Looking.{whole-parts, good-whole}
 use Rattle.records.specs.declared.Scope.{Scope}
@@ -49,23 +48,28 @@ use Rattle.observestep.specs.declared.Noted.{Noted}
 use Rattle.observestep.specs.Notes.{observedStep, IsObserved, StepTurnable, observedTurned, TurnObserved}
 use Rattle.observerecords.specs.Observing.{Observable, Ready, Whole, Done}
 
--- the bound facts of a move are of relations that the book has
-atoms-end : (sch : Schema) (a n : ℕ) → atomsEnd (sch .relations) ≤ n → sch .relations ≤ 16 → testBit (atomSet sch a) n ≡ false
-unfolding atomSet atomsEnd
-atoms-end sch a n h k = go (decLt n 256)
-  where
-    go : Dec (n < 256) → testBit (maskOf 32 (isAtom sch a)) n ≡ false
-    go (yes l) = test-maskOf 32 (isAtom sch a) n l ∙ is-false _ (λ e. omega (arith, atom-below sch a n e))
-    go (no l) = test-past _ n (omega (arith, length-maskOf 32 (isAtom sch a)))
-
--- the facts that hold after a step, by the form
-pub after-full : (form : Form) (s : List ℕ) (before : List Fact) (at : ℕ) → form ≡ false → stateAfter form s before at ≡ listAt s at
-unfolding stateAfter
-after-full form s before at e = rw e
-
+-- the facts that hold after a step of a short book
 after-short : (form : Form) (s : List ℕ) (before : List Fact) (at : ℕ) → form ≡ true → stateAfter form s before at ≡ toggled before (listAt s at)
 unfolding stateAfter
 after-short form s before at e = rw e
+
+-- a step that went is observed by the bound facts of its move
+observed-went : (form : Form) (s : List ℕ) (before : List Fact) (at : ℕ) (masks : List ℕ) (named : ℕ) → wentAt s at ≡ true
+    → observedStep form s before at masks named ≡ observe (recordedStep form s before at) (record { masks = masks; named = named; failed = false })
+unfolding observedStep recordedStep
+observed-went form s before at masks named went = sym (observe-went _ _ went)
+
+-- one that did not go is passed over: nothing is learned of it, and its list is carried
+pub done-passed : (form : Form) (s : List ℕ) (before : List Fact) (at : ℕ) (m m′ masks : List ℕ) (named : ℕ) (r : Noted) → wentAt s at ≡ false
+    → r .named ≡ named
+    → Carried form s (at + stepSize) m m′ (r .count)
+    → Done form s before at m masks named m′ masks r
+unfolding recordedStep failureSeen
+done-passed form s before at m m′ masks named r failed same carried =
+    record {
+      observed = subst (λ (x : Observed). IsObserved x masks (r .named)) (sym (observe-failed (recordedStep form s before at) _ failed)) (record { masks = refl; named = same });
+      carried = carried;
+    }
 
 module _ (s : List ℕ) (c : Scope) (ks table : List ℕ) (obs : Observable s c ks table) where
   pub known : schemaIn s c .relations ≤ 16
@@ -92,6 +96,11 @@ module _ (s : List ℕ) (c : Scope) (ks table : List ℕ) (obs : Observable s c 
       go true e = refl
       go false e = clash true refl e
 
+  -- a good list behind a step can be turned
+  pub list-turns : (at next : ℕ) → at + stepSize ≤ c .end → list asWritten 8 (mostListed (c .short)) (schemaIn s c) (typedIn s c) s (c .end) (at + stepSize) ≡ Good next → Turnable s (at + stepSize)
+  list-turns at next fits good =
+      list-turnable (mostListed (c .short)) 8 (schemaIn s c) (typedIn s c) few known s (c .end) (at + stepSize) next good (obs .readable .within) (omega (arith, fits, obs .readable .near))
+
   -- a step and a list that were found good
   pub listed-whole : (at next : ℕ) → stepListed (c .short) (schemaIn s c) (typedIn s c) s (c .end) at ≡ Good next → Whole s c at
   unfolding stepListed
@@ -102,6 +111,11 @@ module _ (s : List ℕ) (c : Scope) (ks table : List ℕ) (obs : Observable s c 
         alone = alone ∙ ap Good place;
         list = good-whole _ (mostListed (c .short)) 8 (schemaIn s c) (typedIn s c) s (c .end) (at + stepSize) next (rw place at good);
       }
+
+  -- in a short book the number is that of the mask
+  pub held-count : (pre : ℕ) (m : List ℕ) (held : ℕ) (masks : List ℕ) (ready : Ready s c pre m held masks) → c .short ≡ true → held ≡ cardinality m
+  held-count pre m held masks ready =
+      carries-count (schemaIn s c) (typedIn s c) few known (c .short) (ready .before) m held (ready .right .suits) (ready .right .increasing) (ready .carries)
 
   module _ (at : ℕ) (whole : Whole s c at) where
     -- ---- what the form of the step gives
@@ -124,14 +138,12 @@ module _ (s : List ℕ) (c : Scope) (ks table : List ℕ) (obs : Observable s c 
         (omega (arith, behind, obs .readable .near), omega (arith, whole-parts (mostListed (c .short)) s (c .end) (at + stepSize) (whole .list) .1, obs .readable .within))
 
     bounded : Bounded (filedStepAt s at .binding)
-    unfolding argumentBad
-    bounded p low high =
-        omega (arith, object-most (schemaIn s c) (typedIn s c) _ (objectOf (filedStepAt s at .binding) p) _ (argument-right (schemaIn s c) (typedIn s c) (filedStepAt s at) right-step (p .0) low high), few)
+    bounded = step-bounded (schemaIn s c) (typedIn s c) (filedStepAt s at) right-step few
 
     module _ (pre : ℕ) (m : List ℕ) (held : ℕ) (masks : List ℕ) (ready : Ready s c pre m held masks) where
       ended : (n : ℕ) → atomsEnd (c .h .relations .count) ≤ n → testBit (observedSet masks (filedStepAt s at .action .0) bound) n ≡ false
       unfolding schema
-      ended n l = rw (ready .begun .atoms _ (step-move .0) (step-move .1)) (atoms-end (schemaIn s c) (filedStepAt s at .action .0) n l known)
+      ended = step-ended (schemaIn s c) (typedIn s c) (filedStepAt s at) right-step known (obs .moves) masks (ready .begun)
 
       pub ready-turnable : StepTurnable (c .h) s at m masks
       ready-turnable =
@@ -146,19 +158,17 @@ module _ (s : List ℕ) (c : Scope) (ks table : List ℕ) (obs : Observable s c 
             long = ready .long;
           }
 
-      pub ready-count : c .short ≡ true → held ≡ cardinality m
-      ready-count = carries-count (schemaIn s c) (typedIn s c) few known (c .short) (ready .before) m held (ready .right .suits) (ready .right .increasing) (ready .carries)
-
       pub ready-suited : c .short ≡ false → Suited table (listAt s pre)
       ready-suited e = rw (ready .listed e .0) (right-suited (ready .before) (ready .right .suits))
 
       -- ---- what the functions say of a full book
-      pub done-listed : c .short ≡ false → (masks′ : List ℕ) (named : ℕ) (r : Noted) → r .count ≡ 0
+      pub done-listed : wentAt s at ≡ true → c .short ≡ false → (masks′ : List ℕ) (named : ℕ) (r : Noted) → r .count ≡ 0
           → IsObserved (observedStep full s (listAt s pre) at masks named) masks′ (r .named) → Done (c .short) s (ready .before) at m masks named m masks′ r
-      done-listed e masks′ named r none o =
+      done-listed went e masks′ named r none o =
           record {
-            observed = subst (λ (f : Form). IsObserved (observedStep f s (ready .before) at masks named) masks′ (r .named)) (sym e)
-                (subst (λ (fs : List Fact). IsObserved (observedStep full s fs at masks named) masks′ (r .named)) (ready .listed e .0) o);
+            observed = subst (λ (x : Observed). IsObserved x masks′ (r .named)) (observed-went (c .short) s (ready .before) at masks named went)
+                (subst (λ (f : Form). IsObserved (observedStep f s (ready .before) at masks named) masks′ (r .named)) (sym e)
+                (subst (λ (fs : List Fact). IsObserved (observedStep full s fs at masks named) masks′ (r .named)) (ready .listed e .0) o));
             carried = record { turned = λ t. clash (c .short) t e; nothing = λ f. (refl, none) };
           }
 
@@ -182,7 +192,7 @@ module _ (s : List ℕ) (c : Scope) (ks table : List ℕ) (obs : Observable s c 
             ap (λ (x : List ℕ). maskOf 32 (λ n. testBit own n && testBit x (ground (schemaIn s c) (filedStepAt s at .binding) n))) (ready .carries .mask e)
             ∙ held-found (schemaIn s c) known (typedIn s c) few (filedStepAt s at) right-step (ready .before) (ready .right .suits)
 
-        same : (named : ℕ) → observedTurned (schemaIn s c) (filedStepAt s at) own m ts at masks named ≡ observeBy own (recordedStep (c .short) s (ready .before) at) (record { masks = masks; named = named })
+        same : (named : ℕ) → observedTurned (schemaIn s c) (filedStepAt s at) own m ts at masks named ≡ observeBy own (recordedStep (c .short) s (ready .before) at) (record { masks = masks; named = named; failed = false })
         unfolding observedTurned observeBy recordedStep
         same named =
             let post = after-short (c .short) s (ready .before) (at + stepSize) e in
@@ -193,14 +203,15 @@ module _ (s : List ℕ) (c : Scope) (ks table : List ℕ) (obs : Observable s c 
               some-unbound own (filedStepAt s at .binding) (ready .before) ts (ready .right .increasing) order,
             )
 
-        pub done-turned : (m′ masks′ : List ℕ) (named : ℕ) (r : Noted)
+        pub done-turned : wentAt s at ≡ true → (m′ masks′ : List ℕ) (named : ℕ) (r : Noted)
             → TurnObserved (schemaIn s c) (filedStepAt s at) ts at masks named masks′ (r .named) m m′
             → r .count ≡ cardinality m′
             → Done (c .short) s (ready .before) at m masks named m′ masks′ r
-        unfolding observedStep observe recordedStep
-        done-turned m′ masks′ named r o count =
+        unfolding observedStep
+        done-turned went m′ masks′ named r o count =
             let atoms = ready .begun .atoms _ (step-move .0) (step-move .1) in
             record {
-              observed = rw atoms (subst (λ (x : Observed). IsObserved x masks′ (r .named)) (same named) (rw atoms at (o .observed)));
+              observed = subst (λ (x : Observed). IsObserved x masks′ (r .named)) (observed-went (c .short) s (ready .before) at masks named went)
+                  (rw atoms (subst (λ (x : Observed). IsObserved x masks′ (r .named)) (same named) (rw atoms at (o .observed))));
               carried = record { turned = λ t. (o .state, count); nothing = λ f. clash (c .short) e f };
             }

@@ -1,5 +1,5 @@
 -- What is observed of a record at its offset in a book is what is observed of the record's own bytes.
-use Prim.Native.Nat.{ℕ, _+_, _-_, _≤_}
+use Prim.Native.Nat.{ℕ, _+_, _≤_}
 use mathlib.Core.Path.{_≡_, sym, ap, _∙_, subst}
 use mathlib.Core.Bool.{Bool, true}
 use mathlib.Core.List.{List}
@@ -26,20 +26,22 @@ use Rattle.records.specs.declared.Scope.{Scope}
 use Rattle.terms.specs.Head.{headOf}
 use Rattle.records.specs.Readable.{schemaIn, scopeOf, Readable}
 use Rattle.observed.specs.Observed.{Observed, observeAll}
+use Rattle.observed.specs.Begun.{Begun}
 use Rattle.observed.proofs.Records.{observed-record}
-use Rattle.observestep.specs.Notes.{IsObserved}
+use Rattle.observerecords.specs.declared.Noticed.{Noticed}
 use Rattle.observerecords.specs.declared.Walked.{Walked}
-use Rattle.observerecords.specs.Observing.{Begun, Observable, Observes, RecordObserved}
+use Rattle.observerecords.specs.Observing.{IsHeld, Observable, Observes, RecordObserved}
 
 -- ---- a refusal says nothing of what is observed
 
-pub refused-observes : (sch : Schema) (a : Answer) (after : Observed) (bytes : List ℕ) (k p named : ℕ) → Refused k p ≡ a → Observes sch a after bytes (record { answer = Refused k p; named = named })
-refused-observes sch a after bytes k p named e = record { says = e; observes = λ m f. good-refused m k p (sym f) }
+pub refused-observes : (sch : Schema) (a : Answer) (after : Observed) (bytes : List ℕ) (k p : ℕ) (noticed : Noticed) → Refused k p ≡ a
+    → Observes sch a after bytes (record { answer = Refused k p; noticed = noticed })
+refused-observes sch a after bytes k p noticed e = record { says = e; observes = λ m f. good-refused m k p (sym f) }
 
 -- an answer that was found to be refused
-pub stays-observes : (sch : Schema) (a : Answer) (after : Observed) (bytes : List ℕ) (named : ℕ) (r : Answer) (b : Bool) → b ≡ isRefused r → b ≡ true → r ≡ a
-    → Observes sch a after bytes (record { answer = r; named = named })
-stays-observes sch a after bytes named r b p q e =
+pub stays-observes : (sch : Schema) (a : Answer) (after : Observed) (bytes : List ℕ) (noticed : Noticed) (r : Answer) (b : Bool) → b ≡ isRefused r → b ≡ true → r ≡ a
+    → Observes sch a after bytes (record { answer = r; noticed = noticed })
+stays-observes sch a after bytes noticed r b p q e =
     record { says = e; observes = λ m f. clash (isRefused r) (sym p ∙ q) (ap isRefused f ∙ refused-good m) }
 
 -- ---- a record
@@ -54,7 +56,7 @@ trajectory-observes form sch ob s end n at v before bytes w good o =
     let place = list-ends _ maxFacts 8 sch ob s end at v good .0 in
     record {
       says = o .says ∙ sym (bind-good _ _ v good);
-      observes = subst (λ (x : ℕ). (k : ℕ) → w .answer ≡ Good k → IsObserved (observeAll (recordedStepsAt form s n (listAt s at) x) before) bytes (w .named) × Begun sch bytes) place (o .observes);
+      observes = subst (λ (x : ℕ). (k : ℕ) → w .answer ≡ Good k → IsHeld (observeAll (recordedStepsAt form s n (listAt s at) x) before) bytes (w .noticed) × Begun sch bytes) place (o .observes);
     }
 
 module _ (form : Form) (h : Sections) (s : List ℕ) (at end : ℕ) (head : Head) (read : head ≡ headOf s at) (c : Scope) (is : c ≡ scopeOf form h head at end) where
@@ -74,20 +76,20 @@ module _ (form : Form) (h : Sections) (s : List ℕ) (at end : ℕ) (head : Head
   begun-in bytes b = rw is b
 
   -- its steps are those behind its first state
-  pub body-observes : (before : Observed) (bytes : List ℕ) (v : ℕ) (a t : Answer) (named : ℕ)
+  pub body-observes : (before : Observed) (bytes : List ℕ) (v : ℕ) (a t : Answer) (noticed : Noticed)
       → v ≡ at + headSize + head .objects
-      → ((k : ℕ) → t ≡ Good k → IsObserved (observeAll (recordedStepsAt (c .short) s (c .steps) (listAt s v) (listEnd s v)) before) bytes named × Begun (schema (c .h) s) bytes)
+      → ((k : ℕ) → t ≡ Good k → IsHeld (observeAll (recordedStepsAt (c .short) s (c .steps) (listAt s v) (listEnd s v)) before) bytes noticed × Begun (schema (c .h) s) bytes)
       → a ≡ closed at end t
-      → (k : ℕ) → a ≡ Good k → IsObserved (observeAll (stepsOfRecord form s at) before) bytes named × Begun (schema h s) bytes
+      → (k : ℕ) → a ≡ Good k → IsHeld (observeAll (stepsOfRecord form s at) before) bytes noticed × Begun (schema h s) bytes
   unfolding scopeOf stepsOfRecord headOf objectsIn stepsIn lengthIn closed
-  body-observes before bytes v a t named place seen e k good =
+  body-observes before bytes v a t noticed place seen e k good =
       let (last, ended, rest) = parted t k _ (sym e ∙ good) in
       let o = rw (place, is, read) at (seen last ended) in
       (o .0, o .1)
 
 module _ (form : Form) (h : Sections) (s : List ℕ) (at : ℕ) where
   pub record-observes : (before : Observed) (bytes : List ℕ) (w : Walked) → w .answer ≡ recordAt form h s at
-      → ((k : ℕ) → w .answer ≡ Good k → IsObserved (observeAll (stepsOfRecord form s at) before) bytes (w .named) × Begun (schema h s) bytes)
+      → ((k : ℕ) → w .answer ≡ Good k → IsHeld (observeAll (stepsOfRecord form s at) before) bytes (w .noticed) × Begun (schema h s) bytes)
       → RecordObserved form h s at before bytes w
   record-observes before bytes w e seen =
       record {
@@ -95,5 +97,5 @@ module _ (form : Form) (h : Sections) (s : List ℕ) (at : ℕ) where
         observes =
             λ k good.
             let o = seen k good in
-            (subst (λ (x : Observed). IsObserved x bytes (w .named)) (sym (observed-record form h s at k (sym e ∙ good) before)) (o .0), o .1);
+            (subst (λ (x : Observed). IsHeld x bytes (w .noticed)) (sym (observed-record form h s at k (sym e ∙ good) before)) (o .0), o .1);
       }

@@ -1,6 +1,6 @@
 -- The loop over the records: observed one by one, they give what is observed after all of them (`observedAfterAll`).
 use Prim.Native.Nat.{ℕ, zero, suc, _-_, _<_}
-use mathlib.Core.Path.{_≡_, sym, ap, _∙_}
+use mathlib.Core.Path.{_≡_, sym, _∙_}
 use mathlib.Core.List.{List}
 use native.Mathlib.Numerals.{sub-one}
 use native.Mathlib.Omega.{arith}
@@ -13,34 +13,33 @@ use Rattle.format.specs.Parts.{recordPart, recordsAt}
 use Rattle.format.specs.Records.{recordAt}
 use Rattle.observed.specs.Observed.{Observed, observedAfter, observedAfterAll}
 use Rattle.observed.proofs.Records.{held-none, held-more}
-use Rattle.observestep.specs.Notes.{IsObserved}
-use Rattle.observerecords.specs.Observing.{RecordsObserved}
-use Rattle.observerecords.proofs.Steps.{observedAs, observed-path}
+use Rattle.observerecords.specs.declared.Noticed.{Noticed}
+use Rattle.observerecords.specs.Observing.{heldWith, IsHeld, RecordsObserved}
+use Rattle.observerecords.proofs.Steps.{held-path, path-held}
 
-pub refused-walked : (form : Form) (h : Sections) (s : List ℕ) (n from : ℕ) (before : Observed) (bytes : List ℕ) (k p named : ℕ)
+pub refused-walked : (form : Form) (h : Sections) (s : List ℕ) (n from : ℕ) (before : Observed) (bytes : List ℕ) (k p : ℕ) (noticed : Noticed)
     → Refused k p ≡ allRecords form h s n from
-    → RecordsObserved form h s n from before bytes (record { answer = Refused k p; named = named })
-refused-walked form h s n from before bytes k p named e =
+    → RecordsObserved form h s n from before bytes (record { answer = Refused k p; noticed = noticed })
+refused-walked form h s n from before bytes k p noticed e =
     record { says = e; observes = λ m f. good-refused m k p (sym f) }
 
 -- ---- the records
 
 module _ (form : Form) (s : List ℕ) (whole : Observed) where
   -- one record more
-  pub record-turn : (h : Sections) (n at next : ℕ) (masks masks′ : List ℕ) (named named′ : ℕ)
+  pub record-turn : (h : Sections) (n at next : ℕ) (masks masks′ : List ℕ) (noticed noticed′ : Noticed)
       → 0 < n
       → recordAt form h s at ≡ Good next
-      → IsObserved (observedAfter form (recordPart s at) at (observedAs masks named)) masks′ named′
-      → observedAfterAll form (recordsAt s n at) at (observedAs masks named) ≡ whole
-      → observedAfterAll form (recordsAt s (n - 1) next) next (observedAs masks′ named′) ≡ whole
-  record-turn h zero at next masks masks′ named named′ l e f i = absurd (omega arith)
-  record-turn h (suc n) at next masks masks′ named named′ l e f i =
-      rw (observed-path _ _ _ f, sub-one) (sym (held-more form h s at next e n (observedAs masks named)) ∙ i)
+      → IsHeld (observedAfter form (recordPart s at) at (heldWith masks noticed)) masks′ noticed′
+      → observedAfterAll form (recordsAt s n at) at (heldWith masks noticed) ≡ whole
+      → observedAfterAll form (recordsAt s (n - 1) next) next (heldWith masks′ noticed′) ≡ whole
+  record-turn h zero at next masks masks′ noticed noticed′ l e f i = absurd (omega arith)
+  record-turn h (suc n) at next masks masks′ noticed noticed′ l e f i =
+      rw (held-path _ _ _ f, sub-one) (sym (held-more form h s at next e n (heldWith masks noticed)) ∙ i)
 
-  pub records-done : (n at : ℕ) (masks : List ℕ) (named : ℕ)
+  pub records-done : (n at : ℕ) (masks : List ℕ) (noticed : Noticed)
       → n ≡ 0
-      → observedAfterAll form (recordsAt s n at) at (observedAs masks named) ≡ whole
-      → IsObserved whole masks named
-  records-done n at masks named e i =
-      let j = sym (held-none form s at (observedAs masks named)) ∙ rw e at i in
-      record { masks = ap (λ h. h .masks) j; named = ap (λ h. h .named) j }
+      → observedAfterAll form (recordsAt s n at) at (heldWith masks noticed) ≡ whole
+      → IsHeld whole masks noticed
+  records-done n at masks noticed e i =
+      path-held whole masks noticed (sym (held-none form s at (heldWith masks noticed)) ∙ rw e at i)

@@ -10,7 +10,7 @@ use Rattle.terms.specs.declared.Sections.{Sections}
 use Rattle.terms.specs.declared.Fact.{Fact}
 use Rattle.terms.specs.Schema.{Schema, schema}
 use Rattle.terms.specs.Typing.{Falling, RightObjects}
-use Rattle.limits.specs.Limits.{maxLength, maxRelations, maxMoves, stepSize, stateSize, observedSize}
+use Rattle.limits.specs.Limits.{maxLength, maxRelations, maxMoves, stepSize, stateSize}
 use Rattle.format.specs.Lists.{listAt, listEnd}
 use Rattle.format.specs.Form.{Form, mostListed}
 use Rattle.format.specs.Parts.{recordPart, recordsAt}
@@ -19,20 +19,29 @@ use Rattle.format.specs.LookOver.{allRecords}
 use Rattle.states.specs.Looked.{wholeList}
 use Rattle.records.specs.declared.Scope.{Scope}
 use Rattle.records.specs.Readable.{schemaIn, typedIn, Readable, stepAlone}
-use Rattle.atoms.specs.Atoms.{atomSet}
 use Rattle.factsets.specs.Right.{RightState}
 use Rattle.turning.specs.Turning.{Carried, Carries}
-use Rattle.observed.specs.Observed.{bound, Observed, observedSet, observedAfter, observedAfterAll}
+use Rattle.observed.specs.Observed.{Observed, observe, observedAfter, observedAfterAll}
+use Rattle.observed.specs.Begun.{Begun}
 use Rattle.observestep.specs.declared.Noted.{Noted}
-use Rattle.observestep.specs.Notes.{observedStep, IsObserved}
+use Rattle.format.specs.Decode.{recordedStep}
+use Rattle.observestep.specs.Notes.{IsObserved}
+use Rattle.observerecords.specs.declared.Noticed.{Noticed}
 use Rattle.observerecords.specs.declared.Walked.{Walked}
 
--- ---- one step
+-- ---- what is held
 
--- what is observed has its size, and the bound facts of each move among its sets
-pub record Begun (sch : Schema) (masks : List ℕ) : Type 0 where
-  pub sized : length masks ≡ observedSize
-  pub atoms : (a : ℕ) → 1 ≤ a → a ≤ maxMoves → observedSet masks a bound ≡ atomSet sch a
+-- the masks, and what is noticed beside them
+unfoldable pub heldWith : List ℕ → Noticed → Observed
+heldWith masks noticed = record { masks = masks; named = noticed .named; failed = noticed .failed }
+
+-- bytes and what is noticed are what is held
+pub record IsHeld (seen : Observed) (bytes : List ℕ) (noticed : Noticed) : Type 0 where
+  pub masks : bytes ≡ seen .masks
+  pub named : noticed .named ≡ seen .named
+  pub failed : noticed .failed ≡ seen .failed
+
+-- ---- one step
 
 -- a record that can be read; its objects are of the book's kinds, and moves are no more than there may be
 pub record Observable (s : List ℕ) (c : Scope) (ks table : List ℕ) : Type 0 where
@@ -58,9 +67,10 @@ pub record Whole (s : List ℕ) (c : Scope) (at : ℕ) : Type 0 where
   pub alone : stepAlone (schemaIn s c) (typedIn s c) s (c .end) at ≡ Good (at + stepSize)
   pub list : wholeList (mostListed (c .short)) s (c .end) (at + stepSize) ≡ true
 
--- the step observed: what is observed, and what is carried on
+-- the step observed, or passed over if it did not go: the masks and the step that row 11 names, and what is carried on. Whether it went, the loop over
+-- steps notices
 pub record Done (form : Form) (s : List ℕ) (before : List Fact) (at : ℕ) (m masks : List ℕ) (named : ℕ) (m′ masks′ : List ℕ) (r : Noted) : Type 0 where
-  pub observed : IsObserved (observedStep form s before at masks named) masks′ (r .named)
+  pub observed : IsObserved (observe (recordedStep form s before at) (record { masks = masks; named = named; failed = false })) masks′ (r .named)
   pub carried : Carried form s (at + stepSize) m m′ (r .count)
 
 -- the step is observed (`Done`) from the facts that `Ready` says hold before it
@@ -82,7 +92,7 @@ pub record CanObserve (h : Sections) (s : List ℕ) (at : ℕ) (masks : List ℕ
 -- what was read: its answer and, where that is good, what is observed after it
 pub record Observes (sch : Schema) (answer : Answer) (after : Observed) (bytes : List ℕ) (w : Walked) : Type 0 where
   pub says : w .answer ≡ answer
-  pub observes : (k : ℕ) → w .answer ≡ Good k → IsObserved after bytes (w .named) × Begun sch bytes
+  pub observes : (k : ℕ) → w .answer ≡ Good k → IsHeld after bytes (w .noticed) × Begun sch bytes
 
 -- the record at an offset: what is held after it is made of what was held before, the record's own bytes and its offset
 abbrev pub RecordObserved : Form → Sections → List ℕ → ℕ → Observed → List ℕ → Walked → Type 0
@@ -94,4 +104,4 @@ RecordObserved form h s at before bytes w = Observes (schema h s) (recordAt form
 -- Each record adds to what was held before it by its own bytes and its offset alone (`observedAfterAll`).
 pub record RecordsObserved (form : Form) (h : Sections) (s : List ℕ) (n from : ℕ) (before : Observed) (bytes : List ℕ) (w : Walked) : Type 0 where
   pub says : w .answer ≡ allRecords form h s n from
-  pub observes : (m : ℕ) → w .answer ≡ Good m → IsObserved (observedAfterAll form (recordsAt s n from) from before) bytes (w .named)
+  pub observes : (m : ℕ) → w .answer ≡ Good m → IsHeld (observedAfterAll form (recordsAt s n from) from before) bytes (w .noticed)

@@ -1,4 +1,4 @@
-// One record of a book looked over and observed at once, rows 6 to 10: each list of facts is read once for both, and the state of a short book's record is
+// One record of a book looked over and observed at once, rows 6 to 10 and 27: each list of facts is read once for both, and the state of a short book's record is
 // carried on once.
 // Uses records for the parts of a record that are no lists, states for the first state, observestep for a list behind a step, lifting for the table that it is
 // lent, turning for a short book's state, tables, mask, answer, limits, terms, and the definitions of format and observed.
@@ -10,49 +10,115 @@ use records::Scope;
 use terms::Head;
 use terms::Sections;
 ghost use mathlib.Core.Path.{_≡_};
-ghost use Prim.Native.Nat.{ℕ, _+_, _≤_};
+ghost use mathlib.Core.Bool.{true, false, _||_, not};
+ghost use Prim.Native.Nat.{ℕ, _+_, _≤_, _<_};
 ghost use lib.ListN.{length};
-ghost use Rattle.limits.specs.Limits.{maxLength, maxObjects, maxRelations, maxMoves, stepSize, nearCeiling};
+ghost use Rattle.limits.specs.Limits.{maxLength, maxObjects, maxRelations, maxMoves, stepSize, stateSize, nearCeiling};
 ghost use Rattle.answer.specs.declared.Answer.the-variants.{Good};
 ghost use Rattle.terms.specs.Schema.{schema};
 ghost use Rattle.terms.specs.Typing.{Falling};
-ghost use Rattle.format.specs.Filed.{filedFact};
+ghost use Rattle.format.specs.Filed.{wentAt, filedFact};
 ghost use Rattle.format.specs.Lists.{listAt, listEnd};
-ghost use Rattle.format.specs.States.{state};
+ghost use Rattle.format.specs.Form.{mostListed};
+ghost use Rattle.format.specs.States.{list, state};
 ghost use Rattle.format.specs.Records.{steps, trajectory, body};
 ghost use Rattle.format.specs.Decode.{recordedStepsAt, stepsOfRecord};
 ghost use Rattle.states.specs.Looked.{ListLooked};
+ghost use Rattle.mask.specs.Sets.{cardinality};
+ghost use Rattle.turning.specs.Turning.{Carried};
 ghost use Rattle.observed.specs.Observed.{observeAll};
+ghost use Rattle.observed.specs.Begun.{Begun};
 ghost use Rattle.terms.specs.Head.{headOf};
 ghost use Rattle.records.specs.Readable.{schemaIn, typedIn, stepListed};
 ghost use Rattle.lifting.specs.Pairs.{noDigits};
-ghost use Rattle.observerecords.specs.Observing.{Begun, CanObserve, Observable, ObservableBy, Ready, Whole, DoneReady, Observes, RecordObserved};
+ghost use Rattle.observerecords.specs.Observing.{heldWith, CanObserve, Observable, ObservableBy, Ready, Whole, DoneReady, Observes, RecordObserved};
 
-// What a walk over records comes to: its answer, and the offset of the first step that row 11 names, 0 where none is.
+// What is held beside the masks: the offset of the first step that row 11 names, 0 where none is, and whether some step did not go.
+pub struct Noticed {
+    pub named: usize,
+    pub failed: bool,
+}
+
+// What a walk over records comes to: its answer, and what it noticed.
 pub struct Walked {
     pub answer: Answer,
-    pub named: usize,
+    pub noticed: Noticed,
 }
 
-// A walk that came to a refusal, by which no step is named.
-pub fn stopped(answer: Answer) -> Walked
-    ensures { λ r. ⌜ r ≡ record { answer = answer; named = 0 } ⌝ }
+// Before any record.
+pub fn nothing_noticed() -> Noticed
+    ensures { λ r. ⌜ r ≡ record { named = 0; failed = false } ⌝ }
 {
-    Walked { answer, named: 0 }
-}
-
-// A walk that came to its end.
-pub fn ended(value: usize, named: usize) -> Walked
-    ensures { λ r. ⌜ r ≡ record { answer = Good value; named = named } ⌝ }
-{
-    Walked {
-        answer: Answer::Good(value),
-        named,
+    Noticed {
+        named: 0,
+        failed: false,
     }
 }
 
-// The whole list behind the step at an offset, observed. The facts before the step are, in a full book, the list at `pre`; in a short book they are the
-// mask `state`, in which the facts of the list turn.
+// A walk that came to a refusal, by which nothing is noticed.
+pub fn stopped(answer: Answer) -> Walked
+    ensures { λ r. ⌜ r ≡ record { answer = answer; noticed = record { named = 0; failed = false } } ⌝ }
+{
+    Walked {
+        answer,
+        noticed: nothing_noticed(),
+    }
+}
+
+// A walk that came to its end.
+pub fn ended(value: usize, noticed: Noticed) -> Walked
+    ensures { λ r. ⌜ r ≡ record { answer = Good value; noticed = noticed } ⌝ }
+{
+    Walked {
+        answer: Answer::Good(value),
+        noticed,
+    }
+}
+
+// What is noticed after the step at an offset, by the step that row 11 names then and whether some step before it did not go.
+fn notice(s: &[u8], at: usize, named: usize, failed: bool) -> Noticed
+    requires { ⌜ at < length (now s) ⌝ }
+    ensures { λ r. ⌜ r ≡ record { named = named; failed = failed || not (wentAt (now (s .entry)) at) } ⌝ }
+{
+    Noticed {
+        named,
+        failed: failed | !filed::went(s, at),
+    }
+}
+
+// The list behind a step that did not go, looked over. Nothing is observed; in a short book its facts turn.
+fn pass_list(
+    book: &[u8],
+    c: Scope,
+    table: &[u32; 512],
+    at: usize,
+    state: &mut [u8],
+    held: usize,
+    named: usize,
+) -> Noted
+    requires { ⌜ ObservableBy (now book) c (now table) × (at + stepSize ≤ c .end) × (length (now state) ≡ stateSize) × (c .short ≡ true → held ≡ cardinality (now state)) ⌝ }
+    ensures { λ r. ⌜ (r .answer ≡ list (filedFact (c .short)) 8 (mostListed (c .short)) (schemaIn (now (book .entry)) c) (typedIn (now (book .entry)) c) (now (book .entry)) (c .end) (at + stepSize)) × (r .named ≡ named) ⌝ }
+    ensures { λ r. ⌜ ((k : ℕ) → r .answer ≡ Good k → Carried (c .short) (now (book .entry)) (at + stepSize) (now (state .entry)) (now (state .exit)) (r .count)) ⌝ }
+{
+    let listed = at + limits::STEP_SIZE;
+    let most = records::most_listed(c.short);
+    let looked = states::list(8, most, book, table, c.end, listed);
+    if answer::is_refused(looked) {
+        return Noted {
+            answer: looked,
+            named,
+            count: 0,
+        };
+    }
+    Noted {
+        answer: looked,
+        named,
+        count: turning::carry(book, c.short, listed, state, held),
+    }
+}
+
+// The whole list behind the step at an offset, which went, observed. The facts before the step are, in a full book, the list at `pre`; in a short
+// book they are the mask `state`, in which the facts of the list turn.
 fn observe_list(
     book: &[u8],
     c: Scope,
@@ -65,7 +131,7 @@ fn observe_list(
     observed: &mut [u8],
     named: usize,
 ) -> Noted
-    requires { ⌜ ObservableBy (now book) c (now table) × Ready (now book) c pre (now state) held (now observed) × Whole (now book) c at × (now t ≡ noDigits) ⌝ }
+    requires { ⌜ ObservableBy (now book) c (now table) × Ready (now book) c pre (now state) held (now observed) × Whole (now book) c at × (wentAt (now book) at ≡ true) × (now t ≡ noDigits) ⌝ }
     ensures { λ r. ⌜ ListLooked (now (book .entry)) (now (table .entry)) (at + stepSize) (r .answer) ⌝ }
     ensures { λ r. ⌜ ((k : ℕ) → r .answer ≡ Good k → (now (t .exit) ≡ noDigits) × DoneReady (now (book .entry)) c pre at (now (state .entry)) held (now (observed .entry)) named (now (state .exit)) (now (observed .exit)) r) ⌝ }
 {
@@ -75,7 +141,7 @@ fn observe_list(
     observestep::observe(book, table, pre, at, t, observed, named)
 }
 
-// A step and the list behind it, which is observed as it is looked over, where it is whole.
+// A step and the list behind it, which is observed as it is looked over, where it is whole; a step that did not go is passed over.
 fn observe_step(
     book: &[u8],
     c: Scope,
@@ -101,6 +167,9 @@ fn observe_step(
             count: 0,
         };
     }
+    if !filed::went(book, at) {
+        return pass_list(book, c, table, at, state, held, named);
+    }
     let listed = at + limits::STEP_SIZE;
     let most = records::most_listed(c.short);
     if !states::is_whole(book, most, c.end, listed) {
@@ -122,11 +191,11 @@ fn observe_steps(
     first: usize,
     from: usize,
     observed: &mut [u8],
-    named: usize,
+    noticed: Noticed,
 ) -> Walked
     requires { ⌜ Observable (now s) c (now kinds) (now table) × Begun (schemaIn (now s) c) (now observed) ⌝ }
     requires { ⌜ (first ≤ nearCeiling) × (from ≤ maxLength) × (state (filedFact (c .short)) 8 (schemaIn (now s) c) (typedIn (now s) c) (now s) (c .end) first ≡ Good from) ⌝ }
-    ensures { λ r. ⌜ Observes (schemaIn (now (s .entry)) c) (steps (c .short) (schemaIn (now (s .entry)) c) (typedIn (now (s .entry)) c) (now (s .entry)) (c .end) (c .steps) (listAt (now (s .entry)) first) from) (observeAll (recordedStepsAt (c .short) (now (s .entry)) (c .steps) (listAt (now (s .entry)) first) from) (record { masks = now (observed .entry); named = named })) (now (observed .exit)) r ⌝ }
+    ensures { λ r. ⌜ Observes (schemaIn (now (s .entry)) c) (steps (c .short) (schemaIn (now (s .entry)) c) (typedIn (now (s .entry)) c) (now (s .entry)) (c .end) (c .steps) (listAt (now (s .entry)) first) from) (observeAll (recordedStepsAt (c .short) (now (s .entry)) (c .steps) (listAt (now (s .entry)) first) from) (heldWith (now (observed .entry)) noticed)) (now (observed .exit)) r ⌝ }
 {
     let mut t = lifting::no_digits();
     let mut state = mask::empty512();
@@ -134,7 +203,7 @@ fn observe_steps(
     let mut left = c.steps;
     let mut pre = first;
     let mut at = from;
-    let mut name = named;
+    let mut found = noticed;
     while 0 < left {
         let r = observe_step(
             s,
@@ -147,7 +216,7 @@ fn observe_steps(
             &mut state,
             held,
             observed,
-            name,
+            found.named,
         );
         let answer = r.answer;
         match answer {
@@ -155,19 +224,19 @@ fn observe_steps(
                 return stopped(Answer::Refused(k, p));
             }
             Answer::Good(next) => {
-                let after = records::step_after(at, r.count, next);
+                let after = records::step_after(s, c.short, pre, at, r.count, next);
                 if answer::is_refused(after) {
                     return stopped(after);
                 }
+                found = notice(s, at, r.named, found.failed);
                 pre = at + limits::STEP_SIZE;
                 held = r.count;
-                name = r.named;
                 at = next;
             }
         }
         left -= 1;
     }
-    ended(at, name)
+    ended(at, found)
 }
 
 // A state, then steps each with the state after it, as `records::trajectory`.
@@ -178,10 +247,10 @@ fn observe_trajectory(
     table: &[u32; 512],
     at: usize,
     observed: &mut [u8],
-    named: usize,
+    noticed: Noticed,
 ) -> Walked
     requires { ⌜ Observable (now book) c (now kinds) (now table) × Begun (schemaIn (now book) c) (now observed) × (at ≤ nearCeiling) ⌝ }
-    ensures { λ r. ⌜ Observes (schemaIn (now (book .entry)) c) (trajectory (c .short) (schemaIn (now (book .entry)) c) (typedIn (now (book .entry)) c) (now (book .entry)) (c .end) (c .steps) at) (observeAll (recordedStepsAt (c .short) (now (book .entry)) (c .steps) (listAt (now (book .entry)) at) (listEnd (now (book .entry)) at)) (record { masks = now (observed .entry); named = named })) (now (observed .exit)) r ⌝ }
+    ensures { λ r. ⌜ Observes (schemaIn (now (book .entry)) c) (trajectory (c .short) (schemaIn (now (book .entry)) c) (typedIn (now (book .entry)) c) (now (book .entry)) (c .end) (c .steps) at) (observeAll (recordedStepsAt (c .short) (now (book .entry)) (c .steps) (listAt (now (book .entry)) at) (listEnd (now (book .entry)) at)) (heldWith (now (observed .entry)) noticed)) (now (observed .exit)) r ⌝ }
 {
     let first = states::state(8, book, table, c.end, at);
     if answer::is_refused(first) {
@@ -195,7 +264,7 @@ fn observe_trajectory(
         at,
         answer::value_of(first),
         observed,
-        named,
+        noticed,
     )
 }
 
@@ -208,11 +277,11 @@ fn observe_body(
     at: usize,
     end: usize,
     observed: &mut [u8],
-    named: usize,
+    noticed: Noticed,
 ) -> Walked
     requires { ⌜ (h .relations .count ≤ maxRelations) × (h .moves .count ≤ maxMoves) × Falling (schema h (now s)) × Begun (schema h (now s)) (now observed) ⌝ }
     requires { ⌜ (at ≤ maxLength) × (end ≤ maxLength) × (end ≤ length (now s)) × (head ≡ headOf (now s) at) × (head .objects ≤ maxObjects) ⌝ }
-    ensures { λ r. ⌜ Observes (schema h (now (s .entry))) (body short h (now (s .entry)) at end) (observeAll (stepsOfRecord short (now (s .entry)) at) (record { masks = now (observed .entry); named = named })) (now (observed .exit)) r ⌝ }
+    ensures { λ r. ⌜ Observes (schema h (now (s .entry))) (body short h (now (s .entry)) at end) (observeAll (stepsOfRecord short (now (s .entry)) at) (heldWith (now (observed .entry)) noticed)) (now (observed .exit)) r ⌝ }
 {
     let c = records::scope_of(short, h, head, at, end);
     let first = records::objects(s, h.kinds, end, head.objects as usize, c.objects.at);
@@ -228,12 +297,13 @@ fn observe_body(
         &table,
         answer::value_of(first),
         observed,
-        named,
+        noticed,
     );
     let answer = w.answer;
+    let noticed = w.noticed;
     Walked {
         answer: records::closed(answer, at, end),
-        named: w.named,
+        noticed,
     }
 }
 
@@ -244,10 +314,10 @@ pub fn observe_record(
     h: Sections,
     at: usize,
     observed: &mut [u8],
-    named: usize,
+    noticed: Noticed,
 ) -> Walked
     requires { ⌜ CanObserve h (now s) at (now observed) ⌝ }
-    ensures { λ r. ⌜ RecordObserved short h (now (s .entry)) at (record { masks = now (observed .entry); named = named }) (now (observed .exit)) r ⌝ }
+    ensures { λ r. ⌜ RecordObserved short h (now (s .entry)) at (heldWith (now (observed .entry)) noticed) (now (observed .exit)) r ⌝ }
 {
     let head = Head::read(s, at);
     let end = records::record_head(s, head, at);
@@ -262,6 +332,6 @@ pub fn observe_record(
         at,
         answer::value_of(end),
         observed,
-        named,
+        noticed,
     )
 }

@@ -1,14 +1,16 @@
-// The learner's walk over the records of a book, once and in file order: each looked over to its end, rows 6 to 10, and observed on the way.
+// The learner's walk over the records of a book, once and in file order: each looked over to its end, rows 6 to 10 and 27, and observed on the way.
 // Uses this crate's root for one record, reader for where the walk stands, records for the book's tail, answer, terms, and the definitions of format and
 // observed. Where a book is looked over alone, lookover walks, with nothing lent.
+use super::Noticed;
 use super::Walked;
 use answer::Answer;
 use reader::Reader;
 use terms::Head;
 use terms::Sections;
 ghost use Prim.Native.Nat.{_≤_};
+ghost use mathlib.Core.Bool.{false};
 ghost use Rattle.limits.specs.Limits.{maxRecords};
-ghost use Rattle.observerecords.specs.Observing.{CanObserve, RecordObserved, RecordsObserved};
+ghost use Rattle.observerecords.specs.Observing.{heldWith, CanObserve, RecordObserved, RecordsObserved};
 
 // The record at which a reader stands, as `observe_record`. The borrow checker covers no function over a struct that holds a reference: this one is thin,
 // and its proof and that of `observe_from` are by hand.
@@ -17,12 +19,12 @@ pub fn observe<'a, 'b>(
     short: bool,
     h: Sections,
     observed: &'b mut [u8],
-    named: usize,
+    noticed: Noticed,
 ) -> Walked
     requires { ⌜ CanObserve h (now (r .src)) (r .at) (now observed) ⌝ }
-    ensures { λ w. ⌜ RecordObserved short h (now (r .entry .src)) (r .entry .at) (record { masks = now (observed .entry); named = named }) (now (observed .exit)) w ⌝ }
+    ensures { λ w. ⌜ RecordObserved short h (now (r .entry .src)) (r .entry .at) (heldWith (now (observed .entry)) noticed) (now (observed .exit)) w ⌝ }
 {
-    super::observe_record(r.src, short, h, r.at, observed, named)
+    super::observe_record(r.src, short, h, r.at, observed, noticed)
 }
 
 // The record at an offset, by way of a reader that stands there.
@@ -32,12 +34,18 @@ pub fn observe_from(
     short: bool,
     h: Sections,
     observed: &mut [u8],
-    named: usize,
+    noticed: Noticed,
 ) -> Walked
     requires { ⌜ CanObserve h (now s) at (now observed) ⌝ }
-    ensures { λ w. ⌜ RecordObserved short h (now (s .entry)) at (record { masks = now (observed .entry); named = named }) (now (observed .exit)) w ⌝ }
+    ensures { λ w. ⌜ RecordObserved short h (now (s .entry)) at (heldWith (now (observed .entry)) noticed) (now (observed .exit)) w ⌝ }
 {
-    observe(reader::moved(reader::new(s), at), short, h, observed, named)
+    observe(
+        reader::moved(reader::new(s), at),
+        short,
+        h,
+        observed,
+        noticed,
+    )
 }
 
 // A number of records, which end the book: each looked over and observed before the next. A good answer is the count of all their steps.
@@ -50,14 +58,14 @@ pub fn records(
     observed: &mut [u8],
 ) -> Walked
     requires { ⌜ CanObserve h (now s) from (now observed) × (n ≤ maxRecords) ⌝ }
-    ensures { λ r. ⌜ RecordsObserved short h (now (s .entry)) n from (record { masks = now (observed .entry); named = 0 }) (now (observed .exit)) r ⌝ }
+    ensures { λ r. ⌜ RecordsObserved short h (now (s .entry)) n from (heldWith (now (observed .entry)) (record { named = 0; failed = false })) (now (observed .exit)) r ⌝ }
 {
     let mut left = n;
     let mut at = from;
     let mut total: usize = 0;
-    let mut named: usize = 0;
+    let mut noticed = super::nothing_noticed();
     while 0 < left {
-        let w = observe_from(s, at, short, h, observed, named);
+        let w = observe_from(s, at, short, h, observed, noticed);
         let answer = w.answer;
         match answer {
             Answer::Refused(k, p) => {
@@ -65,7 +73,7 @@ pub fn records(
             }
             Answer::Good(next) => {
                 let head = Head::read(s, at);
-                named = w.named;
+                noticed = w.noticed;
                 total += head.steps as usize;
                 at = next;
             }
@@ -74,6 +82,6 @@ pub fn records(
     }
     Walked {
         answer: records::book_end(s, at, total),
-        named,
+        noticed,
     }
 }

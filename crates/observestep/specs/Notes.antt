@@ -19,7 +19,7 @@ use Rattle.turning.specs.Turning.{flipped}
 use Rattle.observed.specs.Inverse.{turnMarks, someUnbound}
 use Rattle.format.specs.Form.{Form}
 use Rattle.format.specs.Decode.{recordedStep}
-use Rattle.observed.specs.Observed.{alwaysBefore, alwaysAfter, bound, Observed, setAt, observedSet, noted, firstNamed, observe}
+use Rattle.observed.specs.Observed.{alwaysBefore, alwaysAfter, bound, Observed, setAt, observedSet, noted, firstNamed, observeBy}
 use Rattle.observed.specs.OnSet.{onSet}
 
 -- the set at an offset, intersected and united with another
@@ -29,11 +29,12 @@ narrowed at m l = onSet at (λ x. intersection x m) l
 unfoldable pub widened : ℕ → List ℕ → List ℕ → List ℕ
 widened at m l = onSet at (λ x. union x m) l
 
--- what is observed after the step at an offset, with the facts that hold before it, of what was observed before it
+-- what is observed after the step at an offset, if it went, with the facts that hold before it, of what was observed before it
 unfoldable pub observedStep : Form → List ℕ → List Fact → ℕ → List ℕ → ℕ → Observed
-observedStep form s before at masks named = observe (recordedStep form s before at) (record { masks = masks; named = named })
+observedStep form s before at masks named =
+    observeBy (observedSet masks (filedStepAt s at .action .0) bound) (recordedStep form s before at) (record { masks = masks; named = named; failed = false })
 
--- bytes and an offset that are what is observed
+-- bytes and an offset are the masks that are observed, and the step that row 11 names
 pub record IsObserved (seen : Observed) (bytes : List ℕ) (offset : ℕ) : Type 0 where
   pub masks : bytes ≡ seen .masks
   pub named : offset ≡ seen .named
@@ -64,6 +65,7 @@ observedTurned sch st atoms m ts at masks named =
     record {
       masks = noted (st .action .0) held (turnMarks atoms (st .binding) held ts) masks;
       named = firstNamed named (someUnbound atoms (st .binding) ts) at;
+      failed = false;
     }
 
 pub record TurnObserved (sch : Schema) (st : Step) (ts : List Fact) (at : ℕ) (masks : List ℕ) (named : ℕ) (masks′ : List ℕ) (r : ℕ) (m m′ : List ℕ) : Type 0 where

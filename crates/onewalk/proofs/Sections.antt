@@ -1,7 +1,7 @@
 -- What is held before any record comes from the bytes of the sections alone, and so does the count of moves.
 use Prim.Native.Nat.{ℕ, _+_, _/_, _%_}
 use mathlib.Core.Path.{_≡_, sym, ap, _∙_}
-use mathlib.Core.Bool.{Bool, _&&_, _||_}
+use mathlib.Core.Bool.{Bool, false, _&&_, _||_}
 use mathlib.Core.List.{List}
 use lib.Dec.{eqb}
 use Rattle.answer.specs.declared.Answer.the-variants.{Good}
@@ -25,7 +25,7 @@ nothing-same : (S T : Schema) → ((a n : ℕ) → isAtom S a n ≡ isAtom T a n
 unfolding nothingSeen atFirst
 nothing-same S T same =
     let start : Schema → ℕ → Bool = λ sch i. atFirst sch (i / maxAtoms / observedSets + 1) (i / maxAtoms % observedSets) (i % maxAtoms) in
-    ap (λ (m : List ℕ). record { masks = m; named = 0 })
+    ap (λ (m : List ℕ). record { masks = m; named = 0; failed = false })
     (maskOf-same observedSize (start S) (start T)
     (λ i l.
     ap (λ (b : Bool). b && (eqb (i / maxAtoms % observedSets) alwaysBefore || eqb (i / maxAtoms % observedSets) alwaysAfter || eqb (i / maxAtoms % observedSets) bound))

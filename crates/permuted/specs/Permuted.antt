@@ -1,5 +1,5 @@
 -- Records in another sequence (filing late): two good books with the same bytes before the records and the same records, each as often, get the same
--- sheet, the same answers apart from the places of 11, and the same verdicts (`SameAnswers`). Of each form; both books are of the form given.
+-- sheet, the same answers apart from the places of 11 and 28, and the same verdicts (`SameAnswers`). Of each form; both books are of the form given.
 use Prim.Native.Nat.{ℕ}
 use mathlib.Core.Path.{_≡_}
 use mathlib.Core.List.{List, _++_, flatten, List·Permᴰ}
@@ -18,8 +18,8 @@ pub record Permuted (s t : List ℕ) : Type 0 where
   pub sections : sectionsPart s ≡ sectionsPart t
   pub records : Permutation (recordsOf s) (recordsOf t)
 
--- Two such books of good form have as many steps, and get the same answers. If no model fits them, they are refused both by 11, each at an offset of its
--- own, or both by 12 with the same move (`SameAnswer`).
+-- Two such books of good form have as many steps, and get the same answers. If no model fits them, they are refused both by 11 or both by 28, each at
+-- an offset of its own, or both by 12 with the same move (`SameAnswer`).
 abbrev pub PermutedSameAnswers : Type 0
 PermutedSameAnswers = (form : Form) (s t : List ℕ) (m n : ℕ) → lookOver form s ≡ Good m → lookOver form t ≡ Good n → Permuted s t
     → (m ≡ n) × SameAnswers form form s t

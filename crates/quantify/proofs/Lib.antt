@@ -3,3 +3,4 @@ pub mod Quantify
 pub mod Truth
 pub mod Members
 pub mod Mapped
+pub mod Chosen

@@ -1,4 +1,4 @@
--- The two quantifiers that the definitions use, and the first entry of a list that has a property. "Every" is `not` of them.
+-- The two quantifiers that the definitions use, and the entries of a list that have a property: all of them, and the first. "Every" is `not` of the quantifiers.
 use Prim.Native.Nat.{ℕ, zero, suc}
 use mathlib.Core.Bool.{Bool, true, false, _||_}
 use mathlib.Core.List.{List, [], _∷_}
@@ -19,6 +19,11 @@ below (suc n) p = below n p || p n
 unfoldable pub any : {A : Type 0} → (A → Bool) → List A → Bool
 any p [] = false
 any p (x ∷ xs) = p x || any p xs
+
+-- the members that have the property, in their sequence (filter)
+unfoldable pub chosen : {A : Type 0} → (A → Bool) → List A → List A
+chosen p [] = []
+chosen p (x ∷ xs) = elim (p x) [ true ↦ x ∷ chosen p xs | false ↦ chosen p xs ]
 
 -- membership
 pub data Mem {A : Type 0} (x : A) : List A → Type 0 where

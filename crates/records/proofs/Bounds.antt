@@ -34,7 +34,9 @@ module _ (form : Form) (sch : Schema) (ob : TypedObjects) (s : List ℕ) (end : 
       bounded-row end _ _ _ _ (omega arith) h
       (λ e.
       bounded-row end _ _ _ _ (omega arith) h
-      (λ f. next-bounded form sch ob s end before _ (ltb-false _ _ (neither _ _ e .0))))
+      (λ f.
+      bounded-then end _ _ (next-bounded form sch ob s end before _ (ltb-false _ _ (neither _ _ e .0)))
+      (λ next g i. bounded-row end _ _ _ _ (omega arith) h (λ k. bounded-good end next i))))
 
   steps-bounded : (n : ℕ) (before : List Fact) (at : ℕ) → at ≤ end → Bounded end (steps form sch ob s end n before at)
   unfolding steps

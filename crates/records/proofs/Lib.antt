@@ -1,4 +1,6 @@
--- The proofs of the code, and laws: Parts for this crate's functions, Laws and Bounds for callers too.
+-- The proofs of the code, and laws: Compared, Failed, Parts and Going for the steps of a record, Laws and Bounds for callers too.
+pub mod Compared
+pub mod Failed
 pub mod Parts
 pub mod Going
 pub mod Laws

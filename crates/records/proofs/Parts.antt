@@ -24,28 +24,42 @@ use Rattle.format.specs.Lists.{listAt}
 use Rattle.format.specs.Filed.{filedStepAt, asWritten, filedFact}
 use Rattle.format.specs.Form.{Form, mostListed, stateAfter}
 use Rattle.format.specs.States.{cut, list, state, nextState}
-use Rattle.format.specs.Records.{stepRefused, step, steps, trajectory}
+use Rattle.format.specs.Records.{stepRefused, failedChanges, step, steps, trajectory}
 use Rattle.records.specs.Readable.{stepAlone, stepListed}
 use Rattle.records.specs.Rows.{stepAfter}
 use Rattle.answer.proofs.Turns.{is-good, part-stays, part-follows}
 
 -- a step after its list, as the code meets it
-module _ (at held next : ℕ) where
-  pub after-many : maxFacts < held → Refused 8 (at + stepSize) ≡ stepAfter at held next
+module _ (at held : ℕ) (changes : Bool) (next : ℕ) where
+  pub after-many : maxFacts < held → Refused 8 (at + stepSize) ≡ stepAfter at held changes next
   unfolding stepAfter
   after-many l = sym (refuse-met _ _ _ _ (lt-ltb _ _ l))
 
-  pub after-few : held ≤ maxFacts → Good next ≡ stepAfter at held next
+  pub after-changed : (b : Bool) → held ≤ maxFacts → b ≡ changes → b ≡ true → Refused 27 at ≡ stepAfter at held changes next
   unfolding stepAfter
-  after-few l = sym (refuse-unmet _ _ _ _ (le-ltb _ _ l))
+  after-changed b l told e = sym (refuse-unmet _ _ _ _ (le-ltb _ _ l) ∙ refuse-met _ _ _ _ (sym told ∙ e))
+
+  pub after-kept : (b : Bool) → held ≤ maxFacts → b ≡ changes → b ≡ false → Good next ≡ stepAfter at held changes next
+  unfolding stepAfter
+  after-kept b l told e = sym (refuse-unmet _ _ _ _ (le-ltb _ _ l) ∙ refuse-unmet _ _ _ _ (sym told ∙ e))
 
   -- where it is good
-  pub after-good : (r : Answer) (b : Bool) → r ≡ stepAfter at held next → b ≡ isRefused r → b ≡ false → (held ≤ maxFacts) × (r ≡ Good next)
+  pub after-good : (r : Answer) (b : Bool) → r ≡ stepAfter at held changes next → b ≡ isRefused r → b ≡ false → (held ≤ maxFacts) × (r ≡ Good next) × (changes ≡ false)
   unfolding stepAfter
   after-good r b told refused e =
       let good = is-good r (sym refused ∙ e) in
-      let (few, end) = passed _ 8 (at + stepSize) (valueOf r) _ (sym told ∙ good) in
-      (ltb-false _ _ few, good ∙ sym end)
+      let (few, rest) = passed _ 8 (at + stepSize) (valueOf r) _ (sym told ∙ good) in
+      let (kept, end) = passed _ 27 at (valueOf r) _ rest in
+      (ltb-false _ _ few, good ∙ sym end, kept)
+
+-- row 8 of a state's size, and then row 27, behind a list
+rows-after : (a : Answer) (many : Bool) (at : ℕ) (changes : Bool)
+    → (a >>= (λ next. refuse many 8 (at + stepSize) >>= λ _. Good next) >>= λ next. refuse changes 27 at >>= λ _. Good next)
+    ≡ (a >>= λ next. refuse many 8 (at + stepSize) >>= λ _. refuse changes 27 at >>= λ _. Good next)
+unfolding _>>=_ refuse
+rows-after (Good n) true at changes = refl
+rows-after (Good n) false at changes = refl
+rows-after (Refused k p) many at changes = refl
 
 -- row 7, as the code meets it
 pub object-bad-by : (kinds : ℕ) (s : List ℕ) (end at x : ℕ) (b : Bool)
@@ -112,20 +126,20 @@ module _ (form : Form) (sch : Schema) (ob : TypedObjects) (s : List ℕ) (end : 
   unfolding stepListed filedFact
   step-follows at a b v p q r u = part-follows _ (list (filedFact form) 8 (mostListed form) sch ob s end) a b v p q r u
 
-  -- a step is its list, and then how many facts that leaves
+  -- a step is its list, and then the rows behind it
   step-parts : (before : List Fact) (at : ℕ)
       → step form sch ob s end before at
-      ≡ (stepListed form sch ob s end at >>= λ next. stepAfter at (length (stateAfter form s before (at + stepSize))) next)
+      ≡ (stepListed form sch ob s end at >>= λ next. stepAfter at (length (stateAfter form s before (at + stepSize))) (failedChanges form s before at) next)
   unfolding step stepListed stepAlone nextState stepAfter _>>=_ refuse
   step-parts before at = go (stepRefused sch ob s end at) (repeats (filedStepAt s at))
     where
       go : (x y : Bool)
-          → (refuse x 9 at >>= λ _. refuse y 10 at >>= λ _. nextState form sch ob s end before (at + stepSize))
+          → (refuse x 9 at >>= λ _. refuse y 10 at >>= λ _. nextState form sch ob s end before (at + stepSize) >>= λ next. refuse (failedChanges form s before at) 27 at >>= λ _. Good next)
           ≡ ((refuse x 9 at >>= λ _. refuse y 10 at >>= λ _. Good (at + stepSize)) >>= list (filedFact form) 8 (mostListed form) sch ob s end
-          >>= λ next. refuse (ltb maxFacts (length (stateAfter form s before (at + stepSize)))) 8 (at + stepSize) >>= λ _. Good next)
+          >>= λ next. stepAfter at (length (stateAfter form s before (at + stepSize))) (failedChanges form s before at) next)
       go true y = refl
       go false true = refl
-      go false false = refl
+      go false false = rows-after (list (filedFact form) 8 (mostListed form) sch ob s end (at + stepSize)) (ltb maxFacts (length (stateAfter form s before (at + stepSize)))) at (failedChanges form s before at)
 
   -- a good list behind a step
   pub listed-good : (at next : ℕ) → stepListed form sch ob s end at ≡ Good next → (at + stepSize ≤ end) × (list (filedFact form) 8 (mostListed form) sch ob s end (at + stepSize) ≡ Good next)
@@ -159,7 +173,7 @@ module _ (form : Form) (sch : Schema) (ob : TypedObjects) (s : List ℕ) (end : 
       steps-refused k p e =
           sym (bind-refused _ _ k p (step-parts before at ∙ bind-refused _ _ k p (sym listed ∙ e))) ∙ one-more
 
-      module _ (next : ℕ) (good : a ≡ Good next) (r : Answer) (told : r ≡ stepAfter at (length (stateAfter form s before (at + stepSize))) next) (b : Bool) (refused : b ≡ isRefused r) where
+      module _ (next : ℕ) (good : a ≡ Good next) (r : Answer) (told : r ≡ stepAfter at (length (stateAfter form s before (at + stepSize))) (failedChanges form s before at) next) (b : Bool) (refused : b ≡ isRefused r) where
         behind-list : r ≡ step form sch ob s end before at
         behind-list = sym (step-parts before at ∙ bind-good _ _ next (sym listed ∙ good) ∙ sym told)
 
@@ -167,7 +181,7 @@ module _ (form : Form) (sch : Schema) (ob : TypedObjects) (s : List ℕ) (end : 
         steps-stop e = part-stays _ _ r b behind-list refused e ∙ one-more
 
         pub steps-on : b ≡ false → steps form sch ob s end (n - 1) (stateAfter form s before (at + stepSize)) next ≡ whole
-        steps-on e = sym (bind-good _ _ next (sym behind-list ∙ after-good at _ next r b told refused e .1)) ∙ one-more
+        steps-on e = sym (bind-good _ _ next (sym behind-list ∙ after-good at _ _ next r b told refused e .1)) ∙ one-more
 
   pub trajectory-stays : (n at : ℕ) (a : Answer) (b : Bool) → a ≡ state asWritten 8 sch ob s end at → b ≡ isRefused a → b ≡ true → a ≡ trajectory form sch ob s end n at
   unfolding trajectory filedFact

@@ -10,12 +10,11 @@ use Rattle.truth.specs.Bools.{clash, neither}
 use Rattle.input.specs.Bytes.{two}
 use Rattle.limits.specs.Limits.{countSize, factSize, nearCeiling, maxFactNumbers}
 use Rattle.terms.specs.declared.Fact.{Fact}
-use Rattle.terms.specs.Facts.{factAt, factBad, factNumber, precedes, noFact}
+use Rattle.terms.specs.Facts.{factAt, factBad, factNumber, sameFact, precedes, noFact}
 use Rattle.terms.specs.Told.{suits, factKey}
 use Rattle.format.specs.Lists.{listEnd}
 use Rattle.quantify.specs.Quantify.{here, there}
-use Rattle.observed.specs.Inverse.{sameFact}
-use Rattle.observed.proofs.Facts.{same-fact}
+use Rattle.terms.proofs.Same.{same-fact}
 use Rattle.factsets.proofs.Numbers.{number-below}
 use Rattle.tables.specs.Tables.{ForRightByPlace}
 use Rattle.states.specs.declared.FactCursor.{FactCursor}

@@ -11,10 +11,10 @@ use Rattle.truth.specs.Bools.{clash, or-right}
 use Rattle.mask.specs.Sets.{empty}
 use Rattle.terms.specs.declared.Binding.{Binding}
 use Rattle.terms.specs.declared.Fact.{Fact}
-use Rattle.terms.specs.Facts.{precedes}
+use Rattle.terms.specs.Facts.{sameFact, precedes}
 use Rattle.format.specs.Lists.{listAt}
-use Rattle.observed.specs.Inverse.{marks, atomsIn, sameFact, unbound, inOneAlone, someFact, unboundChanged}
-use Rattle.observed.proofs.Facts.{same-fact, fact-same}
+use Rattle.observed.specs.Inverse.{marks, atomsIn, unbound, inOneAlone, someFact, unboundChanged}
+use Rattle.terms.proofs.Same.{same-fact, fact-same}
 use Rattle.states.specs.declared.FactCursor.{FactCursor}
 use Rattle.factlist.specs.declared.ListCursor.{ListCursor}
 use Rattle.stepmasks.specs.declared.Walk.{Walk}

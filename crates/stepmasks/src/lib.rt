@@ -13,7 +13,7 @@ ghost use Rattle.terms.specs.Told.{factKey};
 ghost use Rattle.format.specs.Lists.{listAt, listEnd};
 ghost use Rattle.answer.specs.declared.Answer.the-variants.{Good};
 ghost use Rattle.states.specs.Looked.{ListLooked};
-ghost use Rattle.observed.specs.Inverse.{marks, sameFact, unboundChanged};
+ghost use Rattle.observed.specs.Inverse.{marks, unboundChanged};
 ghost use Rattle.lifting.specs.Pairs.{noDigits, Inverts, markedAs};
 ghost use Rattle.factlist.specs.Rest.{rest, next, FactsWithin};
 ghost use Rattle.stepmasks.specs.Marks.{plain, RightForFew, Suited, ListAhead, Looks, RestMarked, goingOn, NextMarked, StepMarked, StepTurned};
@@ -92,12 +92,6 @@ fn look_rest(
 
 // ---- the facts of two states
 
-fn same_fact(f: Fact, g: Fact) -> bool
-    ensures { λ r. ⌜ r ≡ sameFact f g ⌝ }
-{
-    (f.relation.0 == g.relation.0) & (f.first.0 == g.first.0) & (f.second.0 == g.second.0)
-}
-
 // The facts to come of a step's two states, those after it yet to be looked over; whether a fact that is no bound fact was seen to change; and
 // whether the last fact read after the step is wrong or out of order.
 struct Walk {
@@ -156,7 +150,7 @@ fn mark_next(
     let f = p.fact(s);
     let g = q.fact(s);
     let x = lifting::pair(t, atoms, b, f);
-    if same_fact(f, g) {
+    if f.same(g) {
         if !g.follows(q.last, q.key) {
             return wrong(w);
         }

@@ -2,4 +2,5 @@
 pub mod Suits
 pub mod Order
 pub mod Atoms
+pub mod Same
 pub mod Agree

@@ -1,7 +1,7 @@
 -- A fact (ground atom) of three bytes: how it is read, when it is right, the order of facts, and its number in an end sheet.
 use Prim.Native.Nat.{ℕ, _+_, _-_, _*_}
-use mathlib.Core.Bool.{Bool, _&&_, _||_}
-use mathlib.Core.List.{List}
+use mathlib.Core.Bool.{Bool, true, false, _&&_, _||_}
+use mathlib.Core.List.{List, [], _∷_}
 use lib.Dec.{eqb, ltb, leb}
 use Rattle.input.specs.Bytes.{byteAt}
 use Rattle.terms.specs.declared.Fact.{Fact}
@@ -28,6 +28,16 @@ precedes f g =
     ltb (f .relation .0) (g .relation .0)
     || eqb (f .relation .0) (g .relation .0)
     && (ltb (f .first .0) (g .first .0) || eqb (f .first .0) (g .first .0) && ltb (f .second .0) (g .second .0))
+
+unfoldable pub sameFact : Fact → Fact → Bool
+sameFact f g = eqb (f .relation .0) (g .relation .0) && eqb (f .first .0) (g .first .0) && eqb (f .second .0) (g .second .0)
+
+-- the same facts in the same sequence: of two states, whose facts stand in order, that they are the same
+unfoldable pub sameFacts : List Fact → List Fact → Bool
+sameFacts [] [] = true
+sameFacts [] (g ∷ gs) = false
+sameFacts (f ∷ fs) [] = false
+sameFacts (f ∷ fs) (g ∷ gs) = sameFact f g && sameFacts fs gs
 
 -- stands before the first fact of a list: it precedes every fact that is right, whose relation is at least 1
 unfoldable pub noFact : Fact

@@ -8,7 +8,7 @@ ghost use Rattle.limits.specs.Limits.{maxLength, maxParams, maxAtoms, factSize,
 ghost use Rattle.terms.specs.Sections.{sectionsOf};
 ghost use Rattle.terms.specs.Head.{headOf};
 ghost use Rattle.terms.specs.Schema.{schema, outOfRange, relationAt, moveAt};
-ghost use Rattle.terms.specs.Facts.{factAt, precedes, noFact, factNumber};
+ghost use Rattle.terms.specs.Facts.{factAt, sameFact, precedes, noFact, factNumber};
 ghost use Rattle.terms.specs.Told.{suits, factKey};
 ghost use Rattle.terms.specs.Steps.{objectOf, stepAt, samePair, repeats, atomRelation, atomFirst, atomSecond};
 
@@ -231,6 +231,14 @@ impl Fact {
                 object: self.second.0,
             },
         )
+    }
+
+    pub fn same(self, other: Fact) -> bool
+        ensures { λ r. ⌜ r ≡ sameFact self other ⌝ }
+    {
+        (self.relation.0 == other.relation.0)
+            & (self.first.0 == other.first.0)
+            & (self.second.0 == other.second.0)
     }
 
     // Its number in a state's mask.

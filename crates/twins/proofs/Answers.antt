@@ -1,4 +1,4 @@
--- Answers that are the same but for the place of 11: the relation, and its laws through rows in order, rows over lists, lent bytes and positions.
+-- Answers that are the same but for the places of 11 and 28: the relation, and its laws through rows in order, rows over lists, lent bytes and positions.
 use Prim.Native.Nat.{ℕ}
 use mathlib.Core.Path.{_≡_, refl, sym, ap, ap₂, _∙_}
 use mathlib.Core.Logic.{_⊎_, inl, inr}
@@ -62,7 +62,7 @@ module _ (a b : Answer) (r r′ : Positioned) (same : r ≡ r′) where
   twin-then (equal e) = equal (ap₂ (λ (x : Answer) (y : Positioned). thenAt x y .answer) e same)
   twin-then (elsewhere num p q t e e′) = elsewhere num p q t (rw e) (rw e′)
 
-  -- and the position is the same, since 11 has none
+  -- and the position is the same, since neither 11 nor 28 has one
   pub twin-position : Twin a b → thenAt a r .position ≡ thenAt b r′ .position
   unfolding thenAt unpositioned
   twin-position (equal e) = ap₂ (λ (x : Answer) (y : Positioned). thenAt x y .position) e same

@@ -1,5 +1,6 @@
--- Two books with the same transitions, in planning's terms: one domain, and trimmed to atoms the same transitions in whatever sequence and, of any
--- order, the same plan. So the same rules are learned, row 11 is met by both or by neither and row 12 by the same moves, and plans come to the same.
+-- Two books with the same transitions, in planning's terms: one domain, and trimmed to atoms the same transitions and steps that did not go in whatever
+-- sequence and, of any order, the same plan. So the same rules are learned, rows 11 and 28 are met by both or by neither and row 12 by the same moves,
+-- and plans come to the same.
 use Prim.Native.Nat.{ℕ}
 use mathlib.Core.Path.{_≡_, refl, sym, ap, ap₂, _∙_, subst}
 use mathlib.Core.Bool.{Bool, true, false, cond}
@@ -10,22 +11,24 @@ use Rattle.terms.specs.Steps.{isAtom, ground}
 use Rattle.terms.specs.Agree.{SameSchema}
 use Rattle.terms.proofs.Agree.{ground-same}
 use Rattle.format.specs.Form.{Form}
-use Rattle.format.specs.Decode.{RecordedStep, placedAt, placedBy}
+use Rattle.format.specs.Decode.{RecordedStep, placedAt}
 use Rattle.format.specs.Order.{plan}
-use Rattle.quantify.specs.Quantify.{Mem, any}
-use Rattle.model.specs.Domain.{Domain, State, GroundAction, Transition}
-use Rattle.model.specs.Model.{Model, Consistent, run}
+use Rattle.quantify.specs.Quantify.{any}
+use Rattle.model.specs.Domain.{Domain, State, GroundAction}
+use Rattle.model.specs.Model.{Model, Fitting, run}
 use Rattle.model.specs.Learned.{learnedRules, modelOf, learned, unboundEffect, conflicting}
-use Rattle.model.specs.Alike.{SameMembers}
-use Rattle.model.proofs.Order.{consistent-alike, rules-alike, conflicting-alike, unbound-alike}
-use Rattle.jobs.specs.Planning.{domain, groundAction, transition, schemaOf, stepsOfBook, transitionsOf, planOf}
+use Rattle.model.specs.Check.{refuted}
+use Rattle.model.specs.Alike.{SameMembers, SameFailed}
+use Rattle.model.proofs.Order.{fitting-alike, rules-alike, conflicting-alike, unbound-alike}
+use Rattle.jobs.specs.Planning.{domain, groundAction, transition, failed, wentSteps, failedSteps, schemaOf, stepsOfBook, transitionsOf, failedOf, planOf}
 use Rattle.jobs.specs.Learn.{rulesFrom, learnedFrom}
-use Rattle.converted.specs.Converted.{unplaced}
+use Rattle.jobs.specs.Judge.{FitsBook}
 use Rattle.demand.proofs.Agree.{domain-same}
 use Rattle.wellformed.proofs.Headers.{right-schema}
-use Rattle.quantify.proofs.Mapped.{map-alike}
+use Rattle.quantify.proofs.Quantify.{any-alike}
 use Rattle.twins.specs.Twins.{SameTransitions}
-use Rattle.twins.proofs.Trimmed.{trimmed, trimmedTransition, OfAtoms, rules-trimmed, conflicting-trimmed, any-unbound-trimmed, run-trimmed, consistent-trimmed}
+use Rattle.twins.proofs.Trimmed.{trimmed, trimmedTransition, trimmedFailed, OfAtoms, learned-of-atoms, rules-trimmed, conflicting-trimmed, any-unbound-trimmed, any-refuted-trimmed, run-trimmed, fitting-trimmed}
+use Rattle.twins.proofs.Told.{went-same, failed-same, told-same}
 
 -- ---- schemas that say the same
 
@@ -44,6 +47,10 @@ module _ (S T : Schema) (same : SameSchema S T) where
   transition-same f =
       ap (λ (x : GroundAction). record { step = x; pre = transition S f .pre; post = transition S f .post }) (action-same (f .step))
 
+  failure-same : (f : RecordedStep) → trimmedFailed (domain S) (failed S f) ≡ trimmedFailed (domain S) (failed T f)
+  unfolding trimmedFailed failed
+  failure-same f = ap (λ (x : GroundAction). record { step = x; state = failed S f .state }) (action-same (f .step))
+
   -- so an order's plan is, step by step,
   pub plan-same : (o : List ℕ) → map (trimmed (domain S)) (planOf S o) ≡ map (trimmed (domain S)) (planOf T o)
   unfolding planOf
@@ -53,13 +60,6 @@ module _ (S T : Schema) (same : SameSchema S T) where
       steps [] = refl
       steps (x ∷ xs) = ap₂ (λ (y : GroundAction) (ys : List GroundAction). y ∷ ys) (action-same x) (steps xs)
 
--- the transitions of recorded steps do not say where these stand
-unplaced-told : (D : Domain) (S : Schema) (fs : List RecordedStep)
-    → map (trimmedTransition D) (map (transition S) fs) ≡ map (λ f. trimmedTransition D (transition S f)) (unplaced fs)
-unfolding unplaced placedBy placedAt transition
-unplaced-told D S [] = refl
-unplaced-told D S (f ∷ fs) = ap (λ (ys : List Transition). trimmedTransition D (transition S f) ∷ ys) (unplaced-told D S fs)
-
 -- ---- books with the same transitions
 
 module _ (f g : Form) (s t : List ℕ) (n : ℕ) (same : SameTransitions f g s t n) where
@@ -67,20 +67,20 @@ module _ (f g : Form) (s t : List ℕ) (n : ℕ) (same : SameTransitions f g s t
   pub domains : domain (schemaOf s) ≡ domain (schemaOf t)
   domains = domain-same (schemaOf s) (schemaOf t) (same .comparable .schema) (right-schema f s n (same .comparable .good)) (right-schema g t n (same .comparable .good′))
 
-  -- and trimmed the same transitions
+  -- and trimmed the same transitions, and the same steps that did not go
   members-same : SameMembers (map (trimmedTransition (domain (schemaOf s))) (transitionsOf f s)) (map (trimmedTransition (domain (schemaOf s))) (transitionsOf g t))
-  unfolding transitionsOf
-  members-same y =
-      let D : Domain = domain (schemaOf s) in
-      let one : RecordedStep → Transition = λ x. trimmedTransition D (transition (schemaOf s) x) in
-      let other : RecordedStep → Transition = λ x. trimmedTransition D (transition (schemaOf t) x) in
-      let each : other ≡ one = λ i x. sym (transition-same (schemaOf s) (schemaOf t) (same .comparable .schema) x) i in
-      let told = unplaced-told D (schemaOf s) (stepsOfBook f s) in
-      let told′ = unplaced-told D (schemaOf t) (stepsOfBook g t) ∙ ap (λ (h : RecordedStep → Transition). map h (unplaced (stepsOfBook g t))) each in
-      let alike = map-alike one (unplaced (stepsOfBook f s)) (unplaced (stepsOfBook g t)) (same .steps) y in (
-        λ m. subst (λ (ts : List Transition). Mem y ts) (sym told′) (alike .0 (subst (λ (ts : List Transition). Mem y ts) told m)),
-        λ m. subst (λ (ts : List Transition). Mem y ts) (sym told) (alike .1 (subst (λ (ts : List Transition). Mem y ts) told′ m)),
-      )
+  unfolding transitionsOf transition placedAt
+  members-same =
+      told-same (trimmedTransition (domain (schemaOf s))) (transition (schemaOf s)) (transition (schemaOf t)) (λ x. refl) (λ x. refl)
+      (transition-same (schemaOf s) (schemaOf t) (same .comparable .schema)) (wentSteps (stepsOfBook f s)) (wentSteps (stepsOfBook g t))
+      (went-same (stepsOfBook f s) (stepsOfBook g t) (same .steps))
+
+  failures-same : SameFailed (map (trimmedFailed (domain (schemaOf s))) (failedOf f s)) (map (trimmedFailed (domain (schemaOf s))) (failedOf g t))
+  unfolding failedOf failed placedAt
+  failures-same =
+      told-same (trimmedFailed (domain (schemaOf s))) (failed (schemaOf s)) (failed (schemaOf t)) (λ x. refl) (λ x. refl)
+      (failure-same (schemaOf s) (schemaOf t) (same .comparable .schema)) (failedSteps (stepsOfBook f s)) (failedSteps (stepsOfBook g t))
+      (failed-same (stepsOfBook f s) (stepsOfBook g t) (same .steps))
 
   -- The same rules are learned,
   pub rules-same : rulesFrom f s ≡ rulesFrom g t
@@ -94,6 +94,10 @@ module _ (f g : Form) (s t : List ℕ) (n : ℕ) (same : SameTransitions f g s t
   pub learned-same : learnedFrom f s ≡ learnedFrom g t
   unfolding learnedFrom rulesFrom learned
   learned-same = ap modelOf rules-same
+
+  pub own : OfAtoms (domain (schemaOf s)) (learnedFrom f s)
+  unfolding learnedFrom
+  own = learned-of-atoms (domain (schemaOf s)) (transitionsOf f s)
 
   -- the same moves have a conflict,
   pub conflicts-same : conflicting (domain (schemaOf s)) (transitionsOf f s) ≡ conflicting (domain (schemaOf t)) (transitionsOf g t)
@@ -111,13 +115,20 @@ module _ (f g : Form) (s t : List ℕ) (n : ℕ) (same : SameTransitions f g s t
       sym (any-unbound-trimmed D (transitionsOf f s)) ∙ unbound-alike D _ _ members-same ∙ any-unbound-trimmed D (transitionsOf g t)
       ∙ ap (λ (E : Domain). any (unboundEffect E) (transitionsOf g t)) domains
 
+  -- and so is row 28,
+  pub refuted-same : any (refuted (domain (schemaOf s)) (learnedFrom f s)) (failedOf f s) ≡ any (refuted (domain (schemaOf t)) (learnedFrom g t)) (failedOf g t)
+  refuted-same =
+      let D : Domain = domain (schemaOf s) in
+      let M : Model = learnedFrom f s in
+      sym (any-refuted-trimmed D M own (failedOf f s)) ∙ any-alike (refuted D M) _ _ failures-same ∙ any-refuted-trimmed D M own (failedOf g t)
+      ∙ ap₂ (λ (E : Domain) (N : Model). any (refuted E N) (failedOf g t)) domains learned-same
+
   -- the same models fit,
-  pub fit-over : (M : Model) → Consistent (domain (schemaOf s)) (transitionsOf f s) M → Consistent (domain (schemaOf t)) (transitionsOf g t) M
+  pub fit-over : (M : Model) → FitsBook f s M → FitsBook g t M
   fit-over M h =
       let D : Domain = domain (schemaOf s) in
-      let cut : Consistent D (map (trimmedTransition D) (transitionsOf g t)) M =
-      consistent-alike D _ _ members-same M .0 (consistent-trimmed D (transitionsOf f s) M .0 h) in
-      subst (λ (E : Domain). Consistent E (transitionsOf g t) M) domains (consistent-trimmed D (transitionsOf g t) M .1 cut)
+      let cut = fitting-alike D _ _ members-same _ _ failures-same M .0 (fitting-trimmed D (transitionsOf f s) (failedOf f s) M .0 h) in
+      subst (λ (E : Domain). Fitting E (transitionsOf g t) (failedOf g t) M) domains (fitting-trimmed D (transitionsOf g t) (failedOf g t) M .1 cut)
 
   -- and under a model of atoms an order's plan comes to the same.
   pub runs-same : (M : Model) → OfAtoms (domain (schemaOf s)) M → (o : List ℕ) (st : State) (k : ℕ)

@@ -1,4 +1,5 @@
--- Checking an order against two books with the same transitions: answers that are the same but for the place of 11, the same position, the same end sheet.
+-- Checking an order against two books with the same transitions: answers that are the same but for the places of 11 and 28, the same position, the
+-- same end sheet.
 use Prim.Native.Nat.{ℕ}
 use mathlib.Core.Path.{_≡_, ap, _∙_}
 use mathlib.Core.Bool.{not}
@@ -12,28 +13,23 @@ use Rattle.format.specs.Form.{Form}
 use Rattle.format.specs.Order.{stepCount}
 use Rattle.model.specs.Domain.{State}
 use Rattle.model.specs.Model.{Model, Run, run}
-use Rattle.jobs.specs.Planning.{domain, schemaOf, startStates, planOf, goalOf, transitionsOf}
+use Rattle.jobs.specs.Planning.{domain, schemaOf, startStates, planOf, goalOf}
 use Rattle.jobs.specs.Learn.{learnedFrom}
 use Rattle.jobs.specs.Check.{planRun, orderRun, runAnswer, startAnswer, firstFailing, startsAnswer, beforePlan, check, endSheet, endAfter, checkBytes}
 use Rattle.wellformed.proofs.Headers.{right-schema}
 use Rattle.twins.specs.Twins.{SameTransitions}
 use Rattle.twins.proofs.Answers.{Twin, equal, twin-bind, twin-kept, twin-then, twin-position}
-use Rattle.twins.proofs.Trimmed.{OfAtoms, learned-of-atoms}
 use Rattle.twins.proofs.Order.{order-form-same}
-use Rattle.twins.proofs.Books.{learned-same, runs-same}
+use Rattle.twins.proofs.Books.{own, learned-same, runs-same}
 use Rattle.twins.proofs.Learning.{learnable-twin}
 
 module _ (f g : Form) (s t : List ℕ) (n : ℕ) (same : SameTransitions f g s t n) (o : List ℕ) where
-  own : OfAtoms (domain (schemaOf s)) (learnedFrom f s)
-  unfolding learnedFrom
-  own = learned-of-atoms (domain (schemaOf s)) (transitionsOf f s)
-
   -- from each start the plan comes to the same
   run-same : orderRun f s o ≡ orderRun g t o
   unfolding orderRun planRun
   run-same =
       λ i start.
-      (runs-same f g s t n same (learnedFrom f s) own o start 1
+      (runs-same f g s t n same (learnedFrom f s) (own f g s t n same) o start 1
       ∙ ap (λ (M : Model). run (domain (schemaOf t)) M (planOf (schemaOf t) o) start 1) (learned-same f g s t n same))
       i
 
@@ -52,7 +48,7 @@ module _ (f g : Form) (s t : List ℕ) (n : ℕ) (same : SameTransitions f g s t
       (λ x.
       order-form-same (schemaOf s) (schemaOf t) (same .comparable .schema) (same .comparable .kinds) (right-schema f s n (same .comparable .good) .falling) (right-schema g t n (same .comparable .good′) .falling) o)))
 
-  -- The check's answer is the same but for the place of 11,
+  -- The check's answer is the same but for the places of 11 and 28,
   pub check-twin : (size : ℕ) → Twin (check f s o size .answer) (check g t o size .answer)
   unfolding check
   check-twin size = twin-then _ _ _ _ starts-answer-same (before-plan-twin size)

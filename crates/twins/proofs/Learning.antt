@@ -1,4 +1,4 @@
--- Learning from two books with the same transitions: one sheet, and answers that are the same but for the place of 11.
+-- Learning from two books with the same transitions: one sheet, and answers that are the same but for the places of 11 and 28.
 use Prim.Native.Nat.{ℕ, _*_}
 use mathlib.Core.Path.{_≡_, refl, sym, ap, ap₂, _∙_}
 use mathlib.Core.Bool.{Bool, not}
@@ -12,23 +12,24 @@ use Rattle.limits.specs.Limits.{ruleSize}
 use Rattle.format.specs.Form.{Form}
 use Rattle.quantify.specs.Quantify.{least}
 use Rattle.model.specs.Learned.{Rules, unboundEffect}
-use Rattle.jobs.specs.Planning.{domain, transition, schemaOf, stepsOfBook, transitionsOf}
-use Rattle.jobs.specs.Learn.{unboundEffects, conflictAnswer, conflictingMove, inconsistency, learnable, ruleBlocks, ruleSheet, learn, learnBytes}
+use Rattle.model.specs.Check.{refuted}
+use Rattle.jobs.specs.Planning.{domain, transition, failed, wentSteps, failedSteps, schemaOf, stepsOfBook, transitionsOf, failedOf}
+use Rattle.jobs.specs.Learn.{unboundEffects, conflictAnswer, conflictingMove, inconsistency, learnedFrom, refutedSteps, refutation, learnable, ruleBlocks, ruleSheet, learn, learnBytes}
 use Rattle.quantify.proofs.Mapped.{any-map}
 use Rattle.twins.specs.Twins.{SameTransitions}
 use Rattle.twins.proofs.Answers.{Twin, equal, twin-bind, first-twin, twin-kept}
-use Rattle.twins.proofs.Books.{unbound-same, conflicts-same, rules-same}
+use Rattle.twins.proofs.Books.{unbound-same, refuted-same, conflicts-same, rules-same}
 
 module _ (f g : Form) (s t : List ℕ) (n : ℕ) (same : SameTransitions f g s t n) where
-  -- ---- rows 11 and 12
+  -- ---- rows 11, 12 and 28
 
   unbound-twin : Twin (unboundEffects (schemaOf s) (stepsOfBook f s)) (unboundEffects (schemaOf t) (stepsOfBook g t))
   unfolding transitionsOf unboundEffects among impossibleRows isImpossible bookOffsetRows isBookOffset
   unbound-twin =
-      first-twin _ _ 11 _ _ (stepsOfBook f s) (stepsOfBook g t) refl
-      (sym (any-map (unboundEffect (domain (schemaOf s))) (transition (schemaOf s)) (stepsOfBook f s))
+      first-twin _ _ 11 _ _ (wentSteps (stepsOfBook f s)) (wentSteps (stepsOfBook g t)) refl
+      (sym (any-map (unboundEffect (domain (schemaOf s))) (transition (schemaOf s)) (wentSteps (stepsOfBook f s)))
       ∙ unbound-same f g s t n same
-      ∙ any-map (unboundEffect (domain (schemaOf t))) (transition (schemaOf t)) (stepsOfBook g t))
+      ∙ any-map (unboundEffect (domain (schemaOf t))) (transition (schemaOf t)) (wentSteps (stepsOfBook g t)))
 
   conflict-same : conflictingMove (schemaOf s) (transitionsOf f s) ≡ conflictingMove (schemaOf t) (transitionsOf g t)
   unfolding conflictingMove
@@ -38,6 +39,14 @@ module _ (f g : Form) (s t : List ℕ) (n : ℕ) (same : SameTransitions f g s t
   unfolding inconsistency
   inconsistency-twin = twin-bind _ _ _ _ unbound-twin (λ x. equal conflict-same)
 
+  refutation-twin : Twin (refutation f s) (refutation g t)
+  unfolding failedOf refutation refutedSteps among impossibleRows isImpossible bookOffsetRows isBookOffset
+  refutation-twin =
+      first-twin _ _ 28 _ _ (failedSteps (stepsOfBook f s)) (failedSteps (stepsOfBook g t)) refl
+      (sym (any-map (refuted (domain (schemaOf s)) (learnedFrom f s)) (failed (schemaOf s)) (failedSteps (stepsOfBook f s)))
+      ∙ refuted-same f g s t n same
+      ∙ any-map (refuted (domain (schemaOf t)) (learnedFrom g t)) (failed (schemaOf t)) (failedSteps (stepsOfBook g t)))
+
   -- ---- learning
 
   -- Both books learn, or are refused together.
@@ -45,7 +54,7 @@ module _ (f g : Form) (s t : List ℕ) (n : ℕ) (same : SameTransitions f g s t
   unfolding learnable
   learnable-twin =
       twin-bind _ _ _ _ (equal (same .comparable .good ∙ sym (same .comparable .good′)))
-      (λ total. twin-bind _ _ _ _ inconsistency-twin (λ x. equal refl))
+      (λ total. twin-bind _ _ _ _ inconsistency-twin (λ x. twin-bind _ _ _ _ refutation-twin (λ y. equal refl)))
 
   -- So it is with learning into a sheet of any size.
   pub learn-twin : (size : ℕ) → Twin (learn f s size) (learn g t size)

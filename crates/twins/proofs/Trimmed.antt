@@ -1,5 +1,5 @@
--- Ground actions trimmed to what a model may ask of them: the facts of their atoms. Learning, consistent models and runs are the same by trimmed
--- transitions and plans, so that books whose groundings differ elsewhere need only be compared trimmed.
+-- Ground actions trimmed to what a model may ask of them: the facts of their atoms. Learning, fitting models and runs are the same by trimmed
+-- transitions, steps that did not go and plans, so that books whose groundings differ elsewhere need only be compared trimmed.
 use Prim.Native.Nat.{ℕ, suc}
 use mathlib.Core.Path.{_≡_, refl, sym, ap, ap₂, _∙_, subst}
 use mathlib.Core.Logic.{_↔_}
@@ -8,9 +8,10 @@ use mathlib.Core.List.{List, [], _∷_, map}
 use lib.Dec.{eqb}
 use Rattle.truth.specs.Bools.{clash, is-false, guarded}
 use Rattle.quantify.specs.Quantify.{same, any}
-use Rattle.model.specs.Domain.{Domain, State, GroundAction, Transition}
-use Rattle.model.specs.Model.{Model, Valid, Fits, Consistent, image, inapplicable, next, Run, stopped, run}
+use Rattle.model.specs.Domain.{Domain, State, GroundAction, Transition, Failed}
+use Rattle.model.specs.Model.{Model, Valid, Fits, Consistent, Fitting, image, inapplicable, next, Run, stopped, run}
 use Rattle.model.specs.Learned.{learnedRules, learned, unboundEffect, conflicting}
+use Rattle.model.specs.Check.{refuted}
 use Rattle.model.specs.Alike.{Alike, SameOfAction, Renumbered, none, more}
 use Rattle.quantify.proofs.Quantify.{below-same}
 use Rattle.model.proofs.OneAction.{rules-equal, same-of-renumbered, rules-same, conflicting-same}
@@ -24,6 +25,10 @@ trimmed D s = record { action = s .action; ground = λ n. cond (D .atom (s .acti
 -- and a transition by such a step
 unfoldable pub trimmedTransition : Domain → Transition → Transition
 trimmedTransition D t = record { step = trimmed D (t .step); pre = t .pre; post = t .post }
+
+-- and a step that did not go
+unfoldable pub trimmedFailed : Domain → Failed → Failed
+trimmedFailed D u = record { step = trimmed D (u .step); state = u .state }
 
 -- the sets of the model hold atoms of their action alone
 pub record OfAtoms (D : Domain) (M : Model) : Type 0 where
@@ -115,6 +120,16 @@ module _ (D : Domain) where
         ap₂ (λ (b : Bool) (r : Run). elim b as (λ c. Run) [ true ↦ stopped k | false ↦ r ]) (inapplicable-trimmed s st)
         (ap (λ (x : State). run D M (map (trimmed D) plan) x (suc k)) (next-trimmed s st) ∙ run-trimmed plan (next D M s st) (suc k))
 
+    -- row 28 is met by both, or by neither,
+    refuted-trimmed : (u : Failed) → refuted D M (trimmedFailed D u) ≡ refuted D M u
+    unfolding refuted trimmedFailed
+    refuted-trimmed u = ap not (inapplicable-trimmed (u .step) (u .state))
+
+    pub any-refuted-trimmed : (us : List Failed) → any (refuted D M) (map (trimmedFailed D) us) ≡ any (refuted D M) us
+    unfolding any
+    any-refuted-trimmed [] = refl
+    any-refuted-trimmed (u ∷ us) = ap₂ (λ (b c : Bool). b || c) (refuted-trimmed u) (any-refuted-trimmed us)
+
     -- a transition fits,
     fits-trimmed : (t : Transition) → Fits D M t ↔ Fits D M (trimmedTransition D t)
     unfolding trimmedTransition
@@ -125,8 +140,8 @@ module _ (D : Domain) where
           λ h. record { goes = sym goes ∙ h .goes; yields = λ f. h .yields f ∙ ap (λ (x : State). x f) yields },
         )
 
-  -- and the same models are consistent.
-  pub consistent-trimmed : (ts : List Transition) (M : Model) → Consistent D ts M ↔ Consistent D (map (trimmedTransition D) ts) M
+  -- the same models are consistent,
+  consistent-trimmed : (ts : List Transition) (M : Model) → Consistent D ts M ↔ Consistent D (map (trimmedTransition D) ts) M
   consistent-trimmed ts M = (
     λ h.
         record {
@@ -139,5 +154,26 @@ module _ (D : Domain) where
         record {
           valid = h .valid;
           fits = λ t m. fits-trimmed M (valid-of-atoms D M (h .valid)) t .1 (h .fits (trimmedTransition D t) (mem-map-in (trimmedTransition D) ts m));
+        },
+  )
+
+  -- and the same models fit.
+  pub fitting-trimmed : (ts : List Transition) (us : List Failed) (M : Model) → Fitting D ts us M ↔ Fitting D (map (trimmedTransition D) ts) (map (trimmedFailed D) us) M
+  unfolding trimmedFailed
+  fitting-trimmed ts us M = (
+    λ h.
+        record {
+          consistent = consistent-trimmed ts M .0 (h .consistent);
+          bars = λ v m.
+              let (u, k, e) = mem-map-out (trimmedFailed D) us m in
+              subst (λ (x : Failed). inapplicable D M (x .step) (x .state) ≡ true) e
+              (inapplicable-trimmed M (valid-of-atoms D M (h .consistent .valid)) (u .step) (u .state) ∙ h .bars u k);
+        },
+    λ h.
+        record {
+          consistent = consistent-trimmed ts M .1 (h .consistent);
+          bars = λ u m.
+              sym (inapplicable-trimmed M (valid-of-atoms D M (h .consistent .valid)) (u .step) (u .state))
+              ∙ h .bars (trimmedFailed D u) (mem-map-in (trimmedFailed D) us m);
         },
   )

@@ -37,12 +37,12 @@ verdict-over f g s t n same o start v h =
     judged-over D (planOf (schemaOf s) o) (planOf (schemaOf t) o) start (goalOf o) (FitsBook f s) (FitsBook g t)
     (λ M. (fit-over f g s t n same M, fit-over g f t s n other M))
     (λ M fits.
-    runs-same f g s t n same M (valid-of-atoms D M (fits .valid)) o start 1
+    runs-same f g s t n same M (valid-of-atoms D M (fits .consistent .valid)) o start 1
     ∙ ap (λ (E : Domain). run E M (planOf (schemaOf t) o) start 1) (sym (domains f g s t n same)))
     v h in
     subst (λ (E : Domain). Judged E (FitsBook g t) (planOf (schemaOf t) o) start (goalOf o) v) (domains f g s t n same) moved
 
--- Books with the same transitions get the same sheet, the same answers apart from the places of 11, and the same verdicts.
+-- Books with the same transitions get the same sheet, the same answers apart from the places of 11 and 28, and the same verdicts.
 pub same-transitions-same-answers : SameTransitionsSameAnswers
 same-transitions-same-answers f g s t n same =
     let other = same-transitions-sym f g s t n same in

@@ -1,5 +1,5 @@
 -- Two good books that hold the same transitions (steps, with their states), each in its form, get the same sheet, the same answers apart from the
--- places of 11, and the same verdicts. `s` is of form `F`, `t` of form `G`. A book and its converted twin are such books.
+-- places of 11 and 28, and the same verdicts. `s` is of form `F`, `t` of form `G`. A book and its converted twin are such books.
 use Prim.Native.Nat.{ℕ, _≤_}
 use mathlib.Core.Path.{_≡_}
 use mathlib.Core.Logic.{_↔_}
@@ -38,13 +38,13 @@ pub record SameBooks (F G : Form) (s t : List ℕ) (n : ℕ) : Type 0 where
   pub comparable : Comparable F G s t n
   pub steps : unplaced (stepsOfBook F s) ≡ unplaced (stepsOfBook G t)
 
--- they have the same transitions: a step, states included, that is recorded in the one is recorded in the other. The sequence may differ, and how often
--- a step is recorded; but both books have as many steps in all, since the place of success is their number
+-- they have the same transitions: a step, states included, that is recorded in the one, as having gone or not, is recorded so in the other. The
+-- sequence may differ, and how often a step is recorded; but both books have as many steps in all, since the place of success is their number
 pub record SameTransitions (F G : Form) (s t : List ℕ) (n : ℕ) : Type 0 where
   pub comparable : Comparable F G s t n
   pub steps : (x : RecordedStep) → Mem x (unplaced (stepsOfBook F s)) ↔ Mem x (unplaced (stepsOfBook G t))
 
--- no model fits, and the place is an offset in the book: the number is 11
+-- no model fits, and the place is an offset in the book: the number is 11 or 28
 abbrev pub placedApart : ℕ → Bool
 placedApart num = isImpossible num && isBookOffset num
 

@@ -12,14 +12,14 @@ use Rattle.terms.specs.Sections.{sectionsOf}
 use Rattle.terms.specs.Schema.{Schema, TypedObjects, schema, typedObjects}
 use Rattle.terms.specs.declared.Object.{Object}
 use Rattle.terms.specs.Typing.{IsKind, Falling, RightObjects}
-use Rattle.limits.specs.Limits.{stepSize, maxObjects}
+use Rattle.limits.specs.Limits.{maxLength, stepSize, maxObjects}
 use Rattle.format.specs.Filed.{filedFact}
 use Rattle.format.specs.Form.{Form, stateAfter}
 use Rattle.format.specs.Records.{objectsIn, stepsIn, lengthIn, step, steps, objectsOf, recordAt}
 use Rattle.format.specs.LookOver.{lookOver}
 use Rattle.format.specs.Lists.{listAt, listEnd}
 use Rattle.format.specs.Decode.{RecordedStep, firstAt, recordedStepsAt, stepsOfRecord, stepsOfRecords, recordedSteps, recordedStep}
-use Rattle.format.proofs.Records.{head-objects, step-good, steps-parted, record-good, step-reach}
+use Rattle.format.proofs.Records.{head-objects, head-limits, step-good, steps-parted, record-good, step-reach}
 use Rattle.format.proofs.Typing.{schema-right, objects-known}
 use Rattle.format.proofs.LookOver.{look-over-good}
 use Rattle.quantify.specs.Quantify.{Mem, here, there}
@@ -113,3 +113,12 @@ steps-before form sch ob s end (suc n) before at last e here =
     omega arith
 steps-before form sch ob s end (suc n) before at last e (there m) =
     steps-before form sch ob s end n (stateAfter form s before (at + stepSize)) (listEnd s (at + stepSize)) last (steps-parted form sch ob s end n before at last e .1) m
+
+-- So its offset is within the greatest length of a book.
+pub recorded-placed : (form : Form) (s : List ℕ) (n : ℕ) → lookOver form s ≡ Good n → (f : RecordedStep) → Mem f (stepsOfBook form s) → f .place ≤ maxLength
+unfolding stepsOfRecord
+recorded-placed form s n e f m =
+    let (from, next, good, k) = recorded-somewhere form s n e m in
+    let g = record-good form (sectionsOf s) s from next good in
+    let low = steps-before form _ _ s _ _ _ _ (g .last) (g .steps) k in
+    omega (arith, low, head-limits s from (g .head) .2, look-over-good form s n e .sections .size .most)

@@ -37,12 +37,15 @@ fn main() -> ExitCode {
     let many_atoms = fullbook::many_atoms(&mut rng);
     timed::book("many bound facts", &many_atoms, &timing);
     timed::starts(&many_atoms, &timing);
+    let not_gone = fullbook::every_third_not_gone(&mut rng);
+    timed::book("every third step not gone", &not_gone, &timing);
     ExitCode::SUCCESS
 }
 
 #[cfg(archive)]
 mod timed {
     use second::calls::{Calls, Form};
+    use second::gen::draft::went;
     use second::gen::{BookDraft, OrderDraft};
     use second::limits::{BOOK_LIMIT, END_SHEET_LENGTH, RULES_LENGTH, START_LIMIT};
     use second::{add, check, convert, form, learn};
@@ -132,7 +135,7 @@ mod timed {
         );
     }
 
-    /// The steps of the last record of a full book as a plan, which passes.
+    /// The steps of the last record of a full book that went, as a plan, which passes.
     fn filed_order(draft: &BookDraft) -> OrderDraft {
         let record = draft.records.last().expect("a book that is timed has records").clone();
         let end = record.states.last().expect("a record has a state");
@@ -140,7 +143,7 @@ mod timed {
             goal: end.iter().take(64).map(|&fact| (1, fact)).collect(),
             starts: vec![record.states[0].clone()],
             objects: record.objects,
-            steps: record.steps,
+            steps: record.steps.into_iter().filter(went).collect(),
         }
     }
 }

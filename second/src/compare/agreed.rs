@@ -1,7 +1,7 @@
 //! A case that two implementations answer alike, to be held to what the other one says
 //! of a book that means the same.
 
-use crate::answer::{Answer, Refusal};
+use crate::answer::Answer;
 use crate::gen::JobCase;
 
 pub struct Agreed<'a> {
@@ -15,12 +15,9 @@ pub struct Agreed<'a> {
 impl Agreed<'_> {
     /// What is said and written otherwise for a book that means the same, in words;
     /// else empty. Number, position and bytes must be those of the case, and the place
-    /// too but for 11's, which is an offset in the book.
+    /// too but for that of 11 and 28, which is an offset in the book.
     pub fn unlike(&self, which: &str, said: Answer, written: &[u8]) -> String {
-        let place = match self.answer.number {
-            number if number == Refusal::UnboundChange as u32 => said.place,
-            _ => self.answer.place,
-        };
+        let place = if self.answer.is_at_step() { said.place } else { self.answer.place };
         if said != (Answer { place, ..self.answer }) {
             return format!("the other one says of the book {which}: {said}");
         }

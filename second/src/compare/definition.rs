@@ -17,9 +17,10 @@ use crate::limits::{END_SHEET_LENGTH, RULES_LENGTH};
 pub type IsMet = fn(&Outcome<'_>) -> bool;
 
 /// Of 24,000 halls 1,000 of each kind.
-const KINDS: [Kind<IsMet>; 9] = [
+const KINDS: [Kind<IsMet>; 11] = [
     Kind { name: "11", one_in: 24, is_met: |by| by.checked.number == 11 },
     Kind { name: "12", one_in: 24, is_met: |by| by.checked.number == 12 },
+    Kind { name: "28", one_in: 24, is_met: |by| by.checked.number == 28 },
     Kind { name: "19", one_in: 24, is_met: |by| by.checked.number == 19 },
     Kind { name: "20", one_in: 24, is_met: |by| by.checked.number == 20 },
     Kind { name: "19 or 20 from a later start", one_in: 24, is_met: |by| by.checked.position > 1 },
@@ -27,6 +28,11 @@ const KINDS: [Kind<IsMet>; 9] = [
     Kind { name: "passes with steps", one_in: 24, is_met: |by| by.steps() > Some(0) },
     Kind { name: "passes from several starts", one_in: 24, is_met: |by| by.passes_several() },
     Kind { name: "passes beyond the judge", one_in: 24, is_met: |by| by.passes_beyond() },
+    Kind {
+        name: "passes beside steps that did not go",
+        one_in: 24,
+        is_met: |by| by.passes_beside(),
+    },
 ];
 
 /// What a plan comes to.
@@ -48,6 +54,11 @@ impl Outcome<'_> {
     /// With steps, and with moves of more atoms than the judge can enumerate.
     fn passes_beyond(&self) -> bool {
         self.steps() > Some(0) && most_atoms(&self.plan.book) > 8
+    }
+
+    /// With steps, by a book with steps that did not go.
+    fn passes_beside(&self) -> bool {
+        self.steps() > Some(0) && self.plan.book.has_inapplicable()
     }
 }
 

@@ -49,7 +49,15 @@ fn compare_halls(
         // He is shown each form of a book in turn; the calls are asked about both.
         let shown = &halls[index % halls.len()];
         let judgements = judge::judge(&shown.book, shown.form, &plan.order.bytes());
-        let differs = |hall: &&Hall| !hall.agrees(calls, &plan, &judgements);
+        let absent = plan.book.has_inapplicable().then(|| Absent::of(shown, &judgements));
+        if matches!(absent, Some(Absent::Differs)) {
+            return Err(format!("seed {} hall {index}: not as if absent", run.seed));
+        }
+        let impossible = match absent {
+            Some(Absent::Possible) => &[Refusal::NeedsMet][..],
+            _ => &[Refusal::UnboundChange, Refusal::EffectConflict],
+        };
+        let differs = |hall: &&Hall| !hall.agrees(calls, &plan, &judgements, impossible);
         if let Some(hall) = halls.iter().find(differs) {
             let verdicts: Vec<&Verdict> = judgements.iter().map(|of| &of.verdict).collect();
             return Err(format!("seed {} hall {index}: {hall}, {verdicts:?}", run.seed));
@@ -57,9 +65,39 @@ fn compare_halls(
         if halls[0].given.sheet != halls[1].given.sheet {
             return Err(format!("seed {} hall {index}: two sheets for one book", run.seed));
         }
-        met.count_hall(Some(&Decision::of(&judgements)).filter(|_| is_counted(&judgements)));
+        let decision = Decision::of(&judgements, absent);
+        met.count_hall(Some(&decision).filter(|_| is_counted(&judgements)));
     }
     Ok(met)
+}
+
+/// What he says of a book with steps that did not go, beside what he says as if these
+/// were absent.
+#[derive(Clone, Copy, PartialEq, Eq)]
+pub enum Absent {
+    /// Impossible with and without them.
+    Impossible,
+    /// Possible, with the same verdict on each start.
+    Same,
+    /// Impossible, and possible without them.
+    Possible,
+    /// Possible, with another verdict, which must not be.
+    Differs,
+}
+
+impl Absent {
+    fn of(hall: &Hall, judgements: &[Judgement]) -> Self {
+        let absent = judge::judge_absent(&hall.book, hall.form, &hall.order);
+        let is_impossible = |of: &[Judgement]| of[0].verdict == Verdict::Impossible;
+        let same =
+            || judgements.iter().zip(&absent).all(|(of, absent)| of.verdict == absent.verdict);
+        match (is_impossible(judgements), is_impossible(&absent)) {
+            (true, true) => Self::Impossible,
+            (true, false) => Self::Possible,
+            _ if same() => Self::Same,
+            _ => Self::Differs,
+        }
+    }
 }
 
 /// A hall in one form of its book, and what the calls say of it.
@@ -77,11 +115,18 @@ impl Hall {
         Self { form, book, order, given }
     }
 
-    fn agrees(&self, calls: &impl Calls, plan: &Plan, judgements: &[Judgement]) -> bool {
+    /// `impossible` are the refusals of which an impossible book has one.
+    fn agrees(
+        &self,
+        calls: &impl Calls,
+        plan: &Plan,
+        judgements: &[Judgement],
+        impossible: &[Refusal],
+    ) -> bool {
         let given = &self.given;
         match judgements.first() {
             Some(Judgement { verdict: Verdict::Impossible, .. }) => {
-                given.impossible() && self.impossible_anyhow(calls, given.end_answer)
+                given.impossible(impossible) && self.impossible_anyhow(calls, given.end_answer)
             }
             _ => {
                 given.learned == Answer::success(plan.book.steps())
@@ -136,9 +181,9 @@ impl Given {
         Self { learned, sheet, end_answer, end }
     }
 
-    /// Both answer 11 or 12 alike, and write nothing.
-    fn impossible(&self) -> bool {
-        matches!(self.learned.number, 11 | 12)
+    /// Both answer one of these alike, and write nothing.
+    fn impossible(&self, refusals: &[Refusal]) -> bool {
+        refusals.iter().any(|&refusal| self.learned.number == refusal as u32)
             && self.learned == self.end_answer
             && untouched(&self.sheet)
             && untouched(&self.end)

@@ -17,22 +17,26 @@ type IsMet = fn(Answer, Answer) -> bool;
 pub type Outcomes = Kinds<IsMet>;
 
 const ELSEWHERE: IsMet = |book, other| book.number == 11 && book.place != other.place;
+const NEEDS_MET_ELSEWHERE: IsMet = |book, other| book.number == 28 && book.place != other.place;
 
 /// Of 24,000 cases 1,500.
 const LOOKED_OVER: [Kind<IsMet>; 1] =
     [Kind { name: "looked over", one_in: 16, is_met: |_, _| true }];
 
-/// Of 48,000 cases 6,000 that learn, and 2,000 of each refusal.
-const LEARNED: [Kind<IsMet>; 4] = [
+/// Of 48,000 cases 6,000 that learn, and 2,000 of each refusal; 600 by 28, which 11 and 12
+/// come before.
+const LEARNED: [Kind<IsMet>; 6] = [
     Kind { name: "learned", one_in: 8, is_met: |book, _| book.number == 0 },
     Kind { name: "11", one_in: 24, is_met: |book, _| book.number == 11 },
     Kind { name: "11 at another place", one_in: 24, is_met: ELSEWHERE },
     Kind { name: "12", one_in: 24, is_met: |book, _| book.number == 12 },
+    Kind { name: "28", one_in: 80, is_met: |book, _| book.number == 28 },
+    Kind { name: "28 at another place", one_in: 80, is_met: NEEDS_MET_ELSEWHERE },
 ];
 
 /// Of 24,000 cases 1,000 of each verdict, 300 from a later start; 120 of each refusal,
 /// since most orders come with a book that learns.
-const CHECKED: [Kind<IsMet>; 7] = [
+const CHECKED: [Kind<IsMet>; 9] = [
     Kind { name: "passes", one_in: 24, is_met: |book, _| book.number == 0 },
     Kind { name: "19", one_in: 24, is_met: |book, _| book.number == 19 },
     Kind { name: "20", one_in: 24, is_met: |book, _| book.number == 20 },
@@ -40,6 +44,8 @@ const CHECKED: [Kind<IsMet>; 7] = [
     Kind { name: "11", one_in: 200, is_met: |book, _| book.number == 11 },
     Kind { name: "11 at another place", one_in: 200, is_met: ELSEWHERE },
     Kind { name: "12", one_in: 200, is_met: |book, _| book.number == 12 },
+    Kind { name: "28", one_in: 200, is_met: |book, _| book.number == 28 },
+    Kind { name: "28 at another place", one_in: 200, is_met: NEEDS_MET_ELSEWHERE },
 ];
 
 /// None yet, of the kinds that a call must meet.
@@ -65,7 +71,7 @@ pub struct Permuted {
 /// its form, and of adding and converting.
 pub fn compare(calls: &impl Calls, agreed: &Agreed<'_>, rng: &mut Rng) -> Option<Permuted> {
     let JobCase { job, book, form, other, output, .. } = agreed.case;
-    let is_good = matches!(agreed.answer.number, 0 | 11..=20 | 22);
+    let is_good = matches!(agreed.answer.number, 0 | 11..=20 | 22 | 28);
     if !is_good || !matches!(job, Job::LookOver | Job::Learn | Job::Check) {
         return None;
     }
@@ -100,8 +106,12 @@ mod tests {
             "learned: 0 times, at least 6000 wanted",
             "11 at another place: 1999 times, at least 2000 wanted",
             "12: 0 times, at least 2000 wanted",
+            "28: 0 times, at least 600 wanted",
+            "28 at another place: 0 times, at least 600 wanted",
         ];
         assert_eq!(met.missing(), missing);
-        assert_eq!(met.to_string(), "learned 0, 11 5999, 11 at another place 1999, 12 0");
+        let text =
+            "learned 0, 11 5999, 11 at another place 1999, 12 0, 28 0, 28 at another place 0";
+        assert_eq!(met.to_string(), text);
     }
 }

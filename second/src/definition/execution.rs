@@ -41,7 +41,7 @@ fn alone(model: &[Rules], order: &OrderDraft, start: &[Fact]) -> Result<Vec<Fact
 
 impl Rule {
     /// Whether what is needed of the atom is so in this state.
-    fn is_met(&self, step: &Step, state: &[Fact]) -> bool {
+    pub(super) fn is_met(&self, step: &Step, state: &[Fact]) -> bool {
         let holds = state.contains(&self.atom.fact(step));
         (holds || !self.pre_pos) && !(holds && self.pre_neg)
     }

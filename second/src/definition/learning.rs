@@ -1,9 +1,10 @@
 //! What is learned of each lifted atom from its values before and after each step of
-//! its move; rows 11 and 12.
+//! its move that went; rows 11, 12 and 28.
 
 use super::atom::{atoms, Atom};
 use crate::answer::{Answer, Refusal};
 use crate::calls::Form;
+use crate::gen::draft::{action, went};
 use crate::gen::{BookDraft, Fact};
 
 /// What is learned of one lifted atom of a move.
@@ -29,17 +30,35 @@ pub(super) fn model(book: &BookDraft, form: Form) -> Result<Vec<Rules>, Answer> 
         let learned = atoms.into_iter().map(|atom| learned(book, number, atom));
         learned.collect::<Option<Rules>>().ok_or(Refusal::EffectConflict.at(number))
     };
-    (1..).zip(of_move).map(rules).collect()
+    let model: Vec<Rules> = (1..).zip(of_move).map(rules).collect::<Result<_, _>>()?;
+    match needs_met(book, form, &model) {
+        Some(place) => Err(Refusal::NeedsMet.at(place)),
+        None => Ok(model),
+    }
+}
+
+/// Where the first step stands that did not go, though what is learned of each atom was
+/// met in the state before it: row 28.
+fn needs_met(book: &BookDraft, form: Form, model: &[Rules]) -> Option<usize> {
+    for (record, layout) in book.records.iter().zip(book.in_form(form).layout().records) {
+        for (index, step) in record.steps.iter().enumerate().filter(|(_, step)| !went(step)) {
+            let before = &record.states[index];
+            if model[action(step)].iter().all(|rule| rule.is_met(step, before)) {
+                return Some(layout.steps[index]);
+            }
+        }
+    }
+    None
 }
 
 /// Where the first step stands that changes a fact which no atom of its move gives:
 /// row 11.
 fn unbound_change(book: &BookDraft, form: Form, of_move: &[Vec<Atom>]) -> Option<usize> {
     for (record, layout) in book.records.iter().zip(book.in_form(form).layout().records) {
-        for (index, step) in record.steps.iter().enumerate() {
+        for (index, step) in record.steps.iter().enumerate().filter(|(_, step)| went(step)) {
             let (before, after) = (&record.states[index], &record.states[index + 1]);
             let bound: Vec<Fact> =
-                of_move[usize::from(step[0]) - 1].iter().map(|atom| atom.fact(step)).collect();
+                of_move[action(step)].iter().map(|atom| atom.fact(step)).collect();
             let changed = |fact: &&Fact| before.contains(fact) != after.contains(fact);
             if before.iter().chain(after).filter(changed).any(|fact| !bound.contains(fact)) {
                 return Some(layout.steps[index]);
@@ -61,12 +80,12 @@ fn learned(book: &BookDraft, number: usize, atom: Atom) -> Option<Rule> {
     })
 }
 
-/// The atom's values before and after each step of the move of this number.
+/// The atom's values before and after each step of the move of this number that went.
 fn values(book: &BookDraft, number: usize, atom: &Atom) -> Vec<(bool, bool)> {
     let mut values = Vec::new();
     for record in &book.records {
         for (at, step) in record.steps.iter().enumerate() {
-            if usize::from(step[0]) == number {
+            if went(step) && action(step) + 1 == number {
                 let fact = atom.fact(step);
                 let holds = |state: usize| record.states[state].contains(&fact);
                 values.push((holds(at), holds(at + 1)));

@@ -1,6 +1,7 @@
-//! The form of books and orders: rows 1 to 10, 21, 24, 22 and 14 to 18. All that
+//! The form of books and orders: rows 1 to 10, 21, 24, 27, 22 and 14 to 18. All that
 //! reads a book is told whether it is a full or a short one.
 
+mod again;
 mod hall;
 mod header;
 mod kinds;
@@ -9,6 +10,7 @@ mod record;
 mod signature;
 mod state;
 
+pub use again::find_inapplicable;
 pub use hall::Hall;
 pub use header::Header;
 pub use order::Order;
@@ -41,7 +43,7 @@ pub fn walk(book: &[u8], form: Form, observer: &mut impl Observer) -> Result<Fro
     Ok(Front { header, signature, steps })
 }
 
-/// Rows 1 to 10, 21 and 24; success has the count of all steps as its place.
+/// Rows 1 to 10, 21, 24 and 27; success has the count of all steps as its place.
 #[must_use]
 pub fn look_over(book: &[u8], form: Form) -> Answer {
     walk(book, form, &mut ()).map_or_else(|refusal| refusal, |front| Answer::success(front.steps))

@@ -1,16 +1,41 @@
-//! Records (trajectories), walked in file order: rows 6 to 10, and 24.
+//! Records (trajectories), walked in file order: rows 6 to 10, 24 and 27.
 
 use super::state::{read_facts, State, States};
 use super::{two_bytes, Hall, Signature};
 use crate::answer::{Answer, Refusal};
 use crate::calls::Form;
-use crate::limits::{FACT_LIMIT, HEAD_LENGTH, OBJECT_LIMIT, STEP_LENGTH, STEP_LIMIT, TURN_LIMIT};
+use crate::limits::{
+    FACT_LIMIT, HEAD_LENGTH, INAPPLICABLE, OBJECT_LIMIT, STEP_LENGTH, STEP_LIMIT, TURN_LIMIT,
+};
 
-/// A step with the states before and after it, all of good form.
+/// A step with the states before and after it, all of good form. These are equal if
+/// it did not go.
 pub struct Transition<'a> {
     pub step_at: usize,
+    /// As it is filed.
     pub step: &'a [u8],
     pub states: States<'a>,
+}
+
+impl Transition<'_> {
+    #[inline]
+    #[must_use]
+    pub fn went(&self) -> bool {
+        went(self.step)
+    }
+
+    /// Of its move, from 0.
+    #[inline]
+    #[must_use]
+    pub fn action(&self) -> usize {
+        usize::from(self.step[0] & !INAPPLICABLE) - 1
+    }
+}
+
+/// Whether a recorded step went. 128 is move 0, of which there is none.
+#[inline]
+pub(super) fn went(step: &[u8]) -> bool {
+    step[0] < INAPPLICABLE
 }
 
 /// What a walk shows its transitions to.
@@ -96,6 +121,9 @@ impl<'a> Record<'a> {
             let count_at = cursor;
             let list = self.facts(&hall, list_limit(form), &mut cursor)?;
             let states = state.next(list).ok_or(Refusal::State.at(count_at))?;
+            if !went(step) && states.differ() {
+                return Err(Refusal::StatesDiffer.at(step_at));
+            }
             observer.observe(&Transition { step_at, step, states });
         }
         if cursor < self.bytes.len() {
@@ -126,7 +154,7 @@ impl<'a> Record<'a> {
         read_facts(self.bytes, hall, limit, cursor, Refusal::State)
     }
 
-    /// Rows 9 and 10; answers the step's bytes.
+    /// Rows 9 and 10, whether the step went or not; answers its bytes.
     fn step(
         &self,
         signature: &Signature,
@@ -135,7 +163,8 @@ impl<'a> Record<'a> {
     ) -> Result<&'a [u8], Answer> {
         let at = *cursor;
         let step = self.bytes.get(at..at + STEP_LENGTH).ok_or(Refusal::Step.at(at))?;
-        hall.check_step(signature, step).map_err(|refusal| refusal.at(at))?;
+        let plain = [step[0] & !INAPPLICABLE, step[1], step[2], step[3], step[4]];
+        hall.check_step(signature, &plain).map_err(|refusal| refusal.at(at))?;
         *cursor += STEP_LENGTH;
         Ok(step)
     }

@@ -48,6 +48,18 @@ pub enum States<'a> {
     Turned { turned: &'a [u8], after: &'a FactSet },
 }
 
+impl States<'_> {
+    /// Row 27. The facts of a state stand in one order, so equal ones have equal bytes.
+    #[inline]
+    #[must_use]
+    pub fn differ(&self) -> bool {
+        match self {
+            Self::Listed { before, after } => before != after,
+            Self::Turned { turned, .. } => !turned.is_empty(),
+        }
+    }
+}
+
 /// The state that a record has come to.
 #[allow(clippy::large_enum_variant, reason = "there is one at a time, on the stack")]
 pub enum State<'a> {

@@ -1,7 +1,8 @@
 //! The judge of the paper, by brute force, for moves of few lifted atoms.
 //!
 //! He enumerates every action model over the lifted atoms, keeps those that are
-//! consistent with each record, and carries the plan out under each. He knows
+//! consistent with each record and have an unmet need wherever a step did not go, and
+//! carries the plan out under each. He knows
 //! nothing of learned needs, of effects seen or of the rule sheet, and reads
 //! the bytes, which must be of good form, by himself. Of a short book he holds the
 //! models that are consistent with the states that its lists make.
@@ -66,6 +67,7 @@ struct GroundStep {
 
 struct Transition<const WORDS: usize> {
     step: GroundStep,
+    went: bool,
     before: State<WORDS>,
     after: State<WORDS>,
 }
@@ -89,10 +91,28 @@ pub fn verdicts(book: &[u8], form: Form, order: &[u8]) -> Vec<Verdict> {
 /// As [`verdicts`], with how many facts held at most.
 #[must_use]
 pub fn judge(book: &[u8], form: Form, order: &[u8]) -> Vec<Judgement> {
+    judge_by(book, form, order, Steps::All)
+}
+
+/// As if the steps that did not go were absent from the records, each other step keeping
+/// its own two states.
+#[must_use]
+pub fn judge_absent(book: &[u8], form: Form, order: &[u8]) -> Vec<Judgement> {
+    judge_by(book, form, order, Steps::Went)
+}
+
+/// The recorded steps that a rule list must fit.
+#[derive(Clone, Copy, PartialEq, Eq)]
+enum Steps {
+    All,
+    Went,
+}
+
+fn judge_by(book: &[u8], form: Form, order: &[u8], steps: Steps) -> Vec<Judgement> {
     if is_tiny(book, order) {
-        judge_in::<TINY>(book, form, order)
+        judge_in::<TINY>(book, form, order, steps)
     } else {
-        judge_in::<FULL>(book, form, order)
+        judge_in::<FULL>(book, form, order, steps)
     }
 }
 
@@ -104,8 +124,14 @@ pub fn failing(judgements: &[Judgement]) -> Option<(usize, &Judgement)> {
     (1..).zip(judgements).find(|(_, judgement)| !passes(judgement))
 }
 
-fn judge_in<const WORDS: usize>(book: &[u8], form: Form, order: &[u8]) -> Vec<Judgement> {
-    let (atoms, transitions) = read_book::<WORDS>(book, form);
+fn judge_in<const WORDS: usize>(
+    book: &[u8],
+    form: Form,
+    order: &[u8],
+    steps: Steps,
+) -> Vec<Judgement> {
+    let (atoms, mut transitions) = read_book::<WORDS>(book, form);
+    transitions.retain(|transition| transition.went || steps == Steps::All);
     let kept = consistent(&atoms, &transitions);
     let plan = read_order::<WORDS>(order, &atoms);
     plan.starts.iter().map(|start| judge_start(start, &plan, &kept)).collect()
@@ -214,8 +240,13 @@ impl Rules {
         }
     }
 
+    /// A step that did not go asks only that some need was unmet.
     fn fits<const WORDS: usize>(&self, transition: &Transition<WORDS>) -> bool {
-        self.applicable(&transition.step, &transition.before) && {
+        let applicable = self.applicable(&transition.step, &transition.before);
+        if !transition.went {
+            return !applicable;
+        }
+        applicable && {
             let mut state = transition.before.clone();
             self.change(&transition.step, &mut state);
             state == transition.after

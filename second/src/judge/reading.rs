@@ -4,8 +4,9 @@ use super::state::State;
 use super::{Atom, GroundStep, Plan, Transition};
 use crate::calls::Form;
 
+/// Of a step that did not go, 128 is no part of its move.
 fn ground<const WORDS: usize>(step: &[u8], atoms: &[Vec<Atom>]) -> GroundStep {
-    let action = usize::from(step[0]) - 1;
+    let action = usize::from(step[0]) % 128 - 1;
     let object = |parameter: Option<usize>| parameter.map_or(0, |parameter| step[1 + parameter]);
     let fact = |atom: &Atom| {
         let [first, second] = atom.parameters.map(object);
@@ -77,12 +78,14 @@ pub(super) fn read_book<const WORDS: usize>(
         reader.take(usize::from(head[0]));
         let mut before: State<WORDS> = reader.state();
         for _ in 0..head[1] {
-            let step = ground::<WORDS>(reader.take(5), &atoms);
+            let bytes = reader.take(5);
+            let (step, went) = (ground::<WORDS>(bytes, &atoms), bytes[0] < 128);
             let after: State<WORDS> = match form {
                 Form::Full => reader.state(),
                 Form::Short => reader.turned(before.clone()),
             };
-            transitions.push(Transition { step, before, after: after.clone() });
+            assert!(went || before == after, "a step that did not go changes nothing");
+            transitions.push(Transition { step, went, before, after: after.clone() });
             before = after;
         }
     }

@@ -105,6 +105,24 @@ pub fn m2() -> OrderDraft {
     order(&START, &[(1, AT_4)], &[ROLL_2_3, ROLL_3_4])
 }
 
+/// M2's order with a fault of each row that checking has behind the lent output, and the
+/// row's number.
+pub fn failing_orders() -> [(&'static str, Vec<u8>); 8] {
+    let m2 = || m2().bytes();
+    let changed = |at: usize, new: &[u8]| changed(m2(), &[(at, new)]);
+    [
+        ("14", m2()[..15].to_vec()),
+        ("22", changed(3, &[0])),
+        ("15", changed(16, &[0])),
+        ("16", changed(22, &[0])),
+        ("17", changed(31, &[2])),
+        ("18", changed(35, &[2])),
+        // The roll from a spot at which the bank is not; the bank at a third spot.
+        ("19", changed(37, &[4])),
+        ("20", changed(34, &[3])),
+    ]
+}
+
 /// One relation and `moves` moves, all without places; the fact is `F`.
 pub fn one_fact(moves: usize, records: impl IntoIterator<Item = RecordDraft>) -> BookDraft {
     BookDraft {

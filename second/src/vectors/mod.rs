@@ -10,6 +10,7 @@ mod bytes;
 pub mod file;
 mod further;
 mod hall;
+mod inapplicable;
 mod kinds;
 mod limits;
 mod no_steps;
@@ -20,6 +21,8 @@ mod short;
 mod starts;
 
 pub use file::{missing, parse, print, run, Failure, Vector};
+
+use crate::calls::{Form, Job};
 
 /// What the makers put into a vector.
 impl Vector {
@@ -57,6 +60,7 @@ pub fn all() -> Vec<Vector> {
     vectors.extend(no_steps::books::all());
     vectors.extend(no_steps::calls::all());
     vectors.extend(sequence::permuted::all());
+    vectors.extend(inapplicable::all());
     vectors
 }
 
@@ -114,6 +118,15 @@ fn twinned() -> Vec<Vector> {
         .chain(limits::largest::all())
         .chain(short::carried::all())
         .collect()
+}
+
+/// Every call that reads a book of this form.
+const fn jobs(form: Form) -> [Job; 5] {
+    let converter = match form {
+        Form::Full => Job::ToShort,
+        Form::Short => Job::ToFull,
+    };
+    [Job::LookOver, Job::Learn, Job::Check, Job::Add, converter]
 }
 
 /// The book with the record behind it, its record count and end renewed.

@@ -15,7 +15,9 @@ use Rattle.learner.proofs.observe_form.Statement.{statement}
 use Rattle.learner.proofs.observe_form.Tie as tie
 
 returns : tie.Need-returns
-returns c = at-sections _ _ _ (c .before .before .before .before .before .pre .0) _ _ _ (c .before .before .sections .ensures) (c .before .is-refused .ensures) (c .if1 .taken)
+returns c =
+    let d = c .before in
+    rw (c .stopped .ensures) (at-sections _ _ _ (d .before .before .before .before .before .pre .0) _ _ _ (d .before .before .sections .ensures) (d .before .is-refused .ensures) (d .if1 .taken))
 
 nothing-seen-requires : tie.Need-nothing-seen-requires
 nothing-seen-requires c κs =
@@ -50,5 +52,5 @@ returns-2 c =
 pub observe-form-spec : {M : Type 1} → statement M
 observe-form-spec =
     tie.close
-    (tie.spec (λ c κs. search needs) (λ c κs. search needs) returns nothing-seen-requires (λ c. search needs) (λ c. search needs) records-requires
+    (tie.spec (λ c κs. search needs) (λ c κs. search needs) (λ c κs. search needs) returns nothing-seen-requires (λ c. search needs) (λ c. search needs) records-requires
     (λ c. search needs) returns-2)

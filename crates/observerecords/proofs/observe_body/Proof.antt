@@ -57,7 +57,7 @@ observe-trajectory-requires c κs =
 
 returns-2 : tie.Need-returns-2
 returns-2 c =
-    let o = c .before .before .before in
+    let o = c .before .before .before .before in
     let v = o .before .before in
     let i = v .before .before .before .before .before .before in
     let d = i .before .before in

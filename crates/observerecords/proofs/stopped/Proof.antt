@@ -3,5 +3,8 @@ use borrow.Author.Needs.{needs}
 use Rattle.observerecords.proofs.stopped.Statement.{statement}
 use Rattle.observerecords.proofs.stopped.Tie as tie
 
+returns : tie.Need-returns
+returns c = rw (c .nothing-noticed .ensures)
+
 pub stopped-spec : {M : Type 1} → statement M
-stopped-spec = tie.close (tie.spec (λ c. search needs))
+stopped-spec = tie.close (tie.spec (λ c. search needs) returns)

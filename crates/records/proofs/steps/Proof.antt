@@ -5,16 +5,16 @@ use Rattle.terms.specs.declared.Fact.{Fact}
 use mathlib.Core.Path.{sym}
 use Rattle.mask.proofs.Laws.{length-empty}
 use Rattle.mask.proofs.Flips.{cardinality-empty}
-use Rattle.records.proofs.Going.{Going, first-turnable, going-first, going-count, going-refused, going-turnable, going-stops, going-on, going-none}
+use Rattle.records.proofs.Going.{Going, first-turnable, going-first, going-count, going-refused, going-turnable, going-listed, going-stops, going-on, going-none}
 use borrow.Author.Needs.{needs}
 use Rattle.records.proofs.steps.Statement.{statement}
 use Rattle.records.proofs.steps.Tie as tie
 
 abbrev Inv-loop : tie.InvT-loop
-Inv-loop book c kinds table first from state₀ count₀ left₀ at₀ state count left at = (before : List Fact) × Going book c first from before state count left at
+Inv-loop book c kinds table first from state₀ count₀ left₀ pre₀ at₀ state count left pre at = (before : List Fact) × Going book c first from before state count left pre at
 
 abbrev μ-loop : tie.MeasureT-loop
-μ-loop book c kinds table first from state₀ count₀ left₀ at₀ state count left at = left
+μ-loop book c kinds table first from state₀ count₀ left₀ pre₀ at₀ state count left pre at = left
 
 carry-requires : tie.Need-carry-requires Inv-loop μ-loop
 carry-requires c κs =
@@ -35,7 +35,7 @@ returns : tie.Need-returns Inv-loop μ-loop
 returns c =
     let d = c .before .before .before in
     let l = d .before .before in
-    going-refused _ _ _ _ (l .before .before .before .before .before .before .pre .0) _ _ _ _ _ _ _ (l .loop .inv .1) (d .before .loop-test .taken) _ (d .step .ensures) _ _ (c .before .k .given .1)
+    going-refused _ _ _ _ (l .before .before .before .before .before .before .pre .0) _ _ _ _ _ _ _ _ (l .loop .inv .1) (d .before .loop-test .taken) _ (d .step .ensures) _ _ (c .before .k .given .1)
 
 add-listed : tie.Need-add-listed Inv-loop μ-loop
 add-listed c = let n = c .before .before .before .before .before .loop .inv .1 .near in omega arith
@@ -47,18 +47,22 @@ carry-requires-2 c κs =
     let p = l .before .before .before .before .before .before .pre in (
       l .loop .inv .1 .long,
       λ short.
-          (going-turnable _ _ _ _ (p .0) _ _ _ _ _ _ _ (l .loop .inv .1) (d .before .loop-test .taken) _ (d .step .ensures) _ (c .before .before .next .given .1), going-count _ _ _ _ (p .0) _ _ _ _ _ _ _ (l .loop .inv .1) short),
+          (going-turnable _ _ _ _ (p .0) _ _ _ _ _ _ _ _ (l .loop .inv .1) (d .before .loop-test .taken) _ (d .step .ensures) _ (c .before .before .next .given .1), going-count _ _ _ _ (p .0) _ _ _ _ _ _ _ _ (l .loop .inv .1) short),
     )
 
 step-after-requires : tie.Need-step-after-requires Inv-loop μ-loop
-step-after-requires c κs = c .before .before .before .before .before .before .before .before .loop .inv .1 .near
+step-after-requires c κs =
+    let k = c .before in
+    let d = k .before .before .before .before .before in
+    let l = d .before .before in
+    going-listed _ _ _ _ (l .before .before .before .before .before .before .pre .0) _ _ _ _ _ _ _ _ (l .loop .inv .1) (d .before .loop-test .taken) _ (d .step .ensures) _ (k .before .before .before .next .given .1)
 
 returns-2 : tie.Need-returns-2 Inv-loop μ-loop
 returns-2 c =
     let k = c .before .before .before .before in
     let d = k .before .before .before .before .before in
     let l = d .before .before in
-    going-stops _ _ _ _ (l .before .before .before .before .before .before .pre .0) _ _ _ _ _ _ _ (l .loop .inv .1) (d .before .loop-test .taken) _ (d .step .ensures) _ (k .before .before .before .next .given .1) _ _ (k .carry2 .ensures .1)
+    going-stops _ _ _ _ (l .before .before .before .before .before .before .pre .0) _ _ _ _ _ _ _ _ (l .loop .inv .1) (d .before .loop-test .taken) _ (d .step .ensures) _ (k .before .before .before .next .given .1) _ _ (k .carry2 .ensures .1)
     _ (c .before .before .step-after .ensures) _ (c .before .is-refused .ensures) (c .if1 .taken)
 
 loop-again : tie.Need-loop-again Inv-loop μ-loop
@@ -68,12 +72,12 @@ loop-again c =
     let l = d .before .before in
     let m = k .carry2 .ensures in (
       _,
-      going-on _ _ _ _ (l .before .before .before .before .before .before .pre .0) _ _ _ _ _ _ _ (l .loop .inv .1) (d .before .loop-test .taken) _ (d .step .ensures) _ (k .before .before .before .next .given .1) _ _ (m .1)
+      going-on _ _ _ _ (l .before .before .before .before .before .before .pre .0) _ _ _ _ _ _ _ _ (l .loop .inv .1) (d .before .loop-test .taken) _ (d .step .ensures) _ (k .before .before .before .next .given .1) _ _ (m .1)
           _ (c .before .before .step-after .ensures) _ (c .before .is-refused .ensures) (m .0) (c .if1 .left),
     )
 
 returns-3 : tie.Need-returns-3 Inv-loop μ-loop
-returns-3 c = going-none _ _ _ _ (c .before .before .before .before .before .before .before .pre .0) _ _ _ _ _ _ _ (c .before .loop .inv .1) (omega arith)
+returns-3 c = going-none _ _ _ _ (c .before .before .before .before .before .before .before .pre .0) _ _ _ _ _ _ _ _ (c .before .loop .inv .1) (omega arith)
 
 pub steps-spec : {M : Type 1} → statement M
 steps-spec =

@@ -57,7 +57,7 @@ returns c =
     let g = e .before .before in
     let f = g .before in
     let a = f .before .before .before .before .before .before .before .before .pre in
-    let told = same-told _ _ _ _ _ _ _ _ (f .fact .ensures) (a .1 .0) (e .same-fact .ensures) (i .if1 .taken) (omega (arith, g .fact2 .ok)) (g .fact2 .ensures) (k .follows .ensures) in
+    let told = same-told _ _ _ _ _ _ _ _ (f .fact .ensures) (a .1 .0) (e .same .ensures) (i .if1 .taken) (omega (arith, g .fact2 .ok)) (g .fact2 .ensures) (k .follows .ensures) in
     (λ h. clash _ (c .wrong .ensures) h, looks-wrong _ _ _ _ told (a .0 .4) (u .if2 .taken) _ _ (c .wrong .ensures))
 
 returns-2 : tie.Need-returns-2
@@ -73,9 +73,9 @@ returns-2 c =
     let g = x .before in
     let f = g .before in
     let a = f .before .before .before .before .before .before .before .before .pre in
-    let told = same-told _ _ _ _ _ _ _ _ (f .fact .ensures) (a .1 .0) (e .same-fact .ensures) (i .if1 .taken) (omega (arith, g .fact2 .ok)) (g .fact2 .ensures) (k .follows .ensures) in
+    let told = same-told _ _ _ _ _ _ _ _ (f .fact .ensures) (a .1 .0) (e .same .ensures) (i .if1 .taken) (omega (arith, g .fact2 .ok)) (g .fact2 .ensures) (k .follows .ensures) in
     rw (c .going-on .ensures) (
-      λ _. marked-both _ _ _ _ _ _ _ (f .fact .ensures) _ (comes-plain _ _ (a .1 .1) (a .0 .2) (a .0 .4) _ (g .fact2 .ensures)) _ (e .same-fact .ensures) _ (x .pair .ensures)
+      λ _. marked-both _ _ _ _ _ _ _ (f .fact .ensures) _ (comes-plain _ _ (a .1 .1) (a .0 .2) (a .0 .4) _ (g .fact2 .ensures)) _ (e .same .ensures) _ (x .pair .ensures)
           (i .if1 .taken) _ _ _ _ (p .pass .ensures) (m .mark .ensures, plain-next _ _ (a .1 .1) _ (n .next .ensures)),
       looks-next _ _ _ _ told (a .0 .4) (u .if2 .left) _ (n .next .ensures),
     )
@@ -109,7 +109,7 @@ returns-5 c =
     let f = g .before in
     let a = f .before .before .before .before .before .before .before .before .pre in
     rw (c .going-on3 .ensures) (
-      λ _. marked-first _ _ _ _ _ _ _ (f .fact .ensures) _ (comes-plain _ _ (a .1 .1) (a .0 .2) (a .0 .4) _ (g .fact2 .ensures)) _ (e .same-fact .ensures)
+      λ _. marked-first _ _ _ _ _ _ _ (f .fact .ensures) _ (comes-plain _ _ (a .1 .1) (a .0 .2) (a .0 .4) _ (g .fact2 .ensures)) _ (e .same .ensures)
           (i .if1 .left) _ _ (x .pair .ensures) (v .if3 .left) (y .pair2 .ensures) _ (k .follows2 .ensures) (a .0 .2) (o .if5 .taken) _ _ (p .pass3 .ensures),
       looks-stay _ _ _,
     )
@@ -131,7 +131,7 @@ returns-6 c =
     let f = g .before in
     let a = f .before .before .before .before .before .before .before .before .pre in
     rw (c .going-on4 .ensures) (
-      λ _. marked-after _ _ _ _ _ _ _ (f .fact .ensures) _ (comes-plain _ _ (a .1 .1) (a .0 .2) (a .0 .4) _ (g .fact2 .ensures)) _ (e .same-fact .ensures)
+      λ _. marked-after _ _ _ _ _ _ _ (f .fact .ensures) _ (comes-plain _ _ (a .1 .1) (a .0 .2) (a .0 .4) _ (g .fact2 .ensures)) _ (e .same .ensures)
           (i .if1 .left) _ _ (x .pair .ensures) (v .if3 .left) (y .pair2 .ensures) _ (k .follows2 .ensures) (a .0 .1) (o .if5 .left) _ _
           (m .mark2 .ensures, plain-next _ _ (a .1 .1) _ (n .next2 .ensures)),
       looks-next _ _ _ _ (d .bad .ensures) (a .0 .4) (u .if4 .left) _ (n .next2 .ensures),

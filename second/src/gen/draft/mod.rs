@@ -12,6 +12,24 @@ use crate::calls::Form;
 pub type Fact = [u8; 3];
 pub type Step = [u8; 5];
 
+/// Whether a recorded step went; else 128 is added to its move.
+#[must_use]
+pub const fn went(step: &Step) -> bool {
+    step[0] < 128
+}
+
+/// The step of a record, filed as one that did not go.
+#[must_use]
+pub const fn not_gone(step: Step) -> Step {
+    [step[0] | 128, step[1], step[2], step[3], step[4]]
+}
+
+/// The index of a step's move, whether it went or not.
+#[must_use]
+pub const fn action(step: &Step) -> usize {
+    (step[0] % 128) as usize - 1
+}
+
 #[derive(Clone, Debug, Default)]
 pub struct BookDraft {
     /// What the states of its records say.
@@ -167,6 +185,12 @@ impl BookDraft {
     #[must_use]
     pub fn steps(&self) -> usize {
         self.records.iter().map(|record| record.steps.len()).sum()
+    }
+
+    /// Whether some recorded step did not go.
+    #[must_use]
+    pub fn has_inapplicable(&self) -> bool {
+        self.records.iter().flat_map(|record| &record.steps).any(|step| !went(step))
     }
 
     #[must_use]

@@ -9,3 +9,4 @@ mod parents;
 pub mod records;
 mod spoil;
 pub mod starts;
+mod states_differ;

@@ -1,7 +1,7 @@
 //! Faults in an order: rows 14 to 18 and 22; those of its starts are in
 //! `starts`.
 
-use super::spoil::{over, Scene, FACT_FAULTS, STEP_FAULTS, TWICE_FAULTS};
+use super::spoil::{over, Scene, FACT_FAULTS, ORDER_FAULTS, STEP_FAULTS, TWICE_FAULTS};
 use super::starts;
 use crate::answer::Refusal;
 use crate::gen::aim::{Aim, Hit};
@@ -156,7 +156,7 @@ fn goal_entries() -> Vec<Aim<Plan>> {
 }
 
 fn steps() -> impl Iterator<Item = Aim<Plan>> {
-    STEP_FAULTS.into_iter().chain(TWICE_FAULTS).map(|(what, spoil)| {
+    STEP_FAULTS.into_iter().chain(TWICE_FAULTS).chain(ORDER_FAULTS).map(|(what, spoil)| {
         Aim::new("plan step", what, Refusal::PlanStep, move |plan: &Plan, rng: &mut Rng| {
             let count = plan.order.steps.len();
             let index = (count > 0).then(|| rng.below(count))?;

@@ -1,8 +1,8 @@
 //! Faults in records and behind them: rows 6 to 10. Those of row 6 are in
-//! `head_and_tail`, those of row 24 in `no_steps`.
+//! `head_and_tail`, those of row 24 in `no_steps`, those of row 27 in `states_differ`.
 
 use super::spoil::{over, Scene, FACT_FAULTS, STEP_FAULTS, TWICE_FAULTS};
-use super::{head_and_tail, no_steps};
+use super::{head_and_tail, no_steps, states_differ};
 use crate::answer::Refusal;
 use crate::calls::Form;
 use crate::gen::aim::{Aim, Hit};
@@ -16,6 +16,7 @@ pub fn aims(form: Form) -> Vec<Aim<BookDraft>> {
     aims.extend(objects());
     aims.extend(states(form));
     aims.extend(steps());
+    aims.extend(states_differ::aims());
     aims
 }
 

@@ -1,6 +1,6 @@
 //! Single faults in a fact or in a step, for books and orders alike.
 
-use crate::gen::draft::{BookDraft, Fact, Step};
+use crate::gen::draft::{action, not_gone, BookDraft, Fact, Step};
 use crate::gen::rng::Rng;
 
 /// What facts and steps are judged by: the first sections and the objects.
@@ -17,7 +17,7 @@ impl Scene<'_> {
 
     /// The move of a good step.
     fn action(&self, step: Step) -> [u8; 6] {
-        self.book.moves[usize::from(step[0]) - 1]
+        self.book.moves[action(&step)]
     }
 
     /// Whether an object, from 1, suits a place or a parameter of this kind.
@@ -62,10 +62,23 @@ pub const FACT_FAULTS: [(&str, SpoilFact); 8] = [
 ];
 
 /// The faults of row 9, but for a cut step.
-pub const STEP_FAULTS: [(&str, SpoilStep); 9] = [
+pub const STEP_FAULTS: [(&str, SpoilStep); 11] = [
     ("move 0", |step, _, _| Some([0, step[1], step[2], step[3], step[4]])),
+    ("move 128", |step, _, _| Some([128, step[1], step[2], step[3], step[4]])),
     ("move over the count", |step, scene, rng| {
-        Some([over(scene.book.moves.len(), rng), step[1], step[2], step[3], step[4]])
+        let (count, number) = (scene.book.moves.len(), over(scene.book.moves.len(), rng));
+        // In a record these are the moves of steps that did not go.
+        let is_move = (1..=count).contains(&usize::from(number).saturating_sub(128));
+        (!is_move).then_some([number, step[1], step[2], step[3], step[4]])
+    }),
+    ("move over the count, and 128 more", |step, scene, rng| {
+        let next = scene.book.moves.len() + 1;
+        let number = match rng.below(4) {
+            0 => 127,
+            1 => rng.range(next, 127),
+            _ => next,
+        };
+        Some(not_gone([number as u8, step[1], step[2], step[3], step[4]]))
     }),
     ("used object 0", |step, scene, rng| {
         spoil_used(step, scene.action(step)[0], rng, |_, _| Some(0))
@@ -103,6 +116,10 @@ pub const TWICE_FAULTS: [(&str, SpoilStep); 2] = [
         repeat_object(step, scene, rng, |same_kind, suits| suits && !same_kind)
     }),
 ];
+
+/// What is wrong in an order alone.
+pub const ORDER_FAULTS: [(&str, SpoilStep); 1] =
+    [("a step that did not go", |step, _, _| Some(not_gone(step)))];
 
 /// Gives a parameter the object of another one. `wanted` is told whether the two
 /// are of one kind, and whether the object suits its new parameter.

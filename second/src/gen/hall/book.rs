@@ -1,5 +1,6 @@
 //! Good books of several sizes.
 
+use super::inapplicable::{filed, Inapplicable};
 use super::{Dynamics, Shape, World};
 use crate::calls::Form;
 use crate::gen::draft::BookDraft;
@@ -29,7 +30,8 @@ const SIZES: [(&str, Shape, usize); 5] = [
     ("large", LARGE, 10),
 ];
 
-/// Draws a size, then a book of that size and form that follows `dynamics`.
+/// Draws a size, then a book of that size and form that follows `dynamics`, in most
+/// cases with steps that did not go.
 pub fn any_size(form: Form, dynamics: Dynamics, rng: &mut Rng) -> (&'static str, BookDraft) {
     let mut drawn = rng.below(1000);
     for (label, shape, weight) in SIZES {
@@ -37,7 +39,7 @@ pub fn any_size(form: Form, dynamics: Dynamics, rng: &mut Rng) -> (&'static str,
             let mut world = World::draw(&shape, rng);
             let records = rng.count(shape.records);
             fill_in(form, &mut world, &shape, records, dynamics, rng);
-            return (label, world.book.in_form(form));
+            return (label, filed(world.book.in_form(form), Inapplicable::Any, rng));
         }
         drawn -= weight;
     }
@@ -80,7 +82,13 @@ fn fill_in(
     }
 }
 
-/// A draft to be damaged: small most of the time, for many cases in little time.
+/// A draft to be damaged, with steps that did not go in most cases.
+pub fn to_damage_any(form: Form, rng: &mut Rng) -> BookDraft {
+    filed(to_damage(form, rng), Inapplicable::Any, rng)
+}
+
+/// A draft to be damaged, all steps of which went: small most of the time, for many
+/// cases in little time.
 pub fn to_damage(form: Form, rng: &mut Rng) -> BookDraft {
     let shape = if rng.chance(92) { SMALL } else { MEDIUM };
     let dynamics = if rng.chance(50) { Dynamics::Follows } else { Dynamics::Random };

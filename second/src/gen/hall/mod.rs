@@ -2,12 +2,13 @@
 
 pub mod book;
 pub mod front;
+pub mod inapplicable;
 mod taught;
 
 use std::collections::BTreeSet;
 
 use super::draft::facts::{all_facts, random_fact};
-use super::draft::{BookDraft, Fact, RecordDraft, Step};
+use super::draft::{action, BookDraft, Fact, RecordDraft, Step};
 use super::rng::Rng;
 use front::draw_front;
 
@@ -248,7 +249,7 @@ impl World {
 /// Facts of a step's objects.
 impl World {
     fn bound_facts(&self, step: &Step) -> Vec<Fact> {
-        self.rules[usize::from(step[0]) - 1].iter().map(|atom| atom.fact(step)).collect()
+        self.rules[action(step)].iter().map(|atom| atom.fact(step)).collect()
     }
 
     /// Those that are not bound: an object suits a place that its parameter does

@@ -11,6 +11,7 @@ use super::starts::multiply;
 use super::tiny;
 use crate::gen::draft::kinds::draw_parents;
 use crate::gen::draft::BookDraft;
+use crate::gen::hall::inapplicable::{filed, Inapplicable};
 use crate::gen::hall::{book, Dynamics, Shape, World};
 use crate::gen::rng::Rng;
 use crate::limits::{OBJECT_LIMIT, PARAMETER_LIMIT};
@@ -45,7 +46,7 @@ pub fn draw(rng: &mut Rng) -> Plan {
             book::fill(&mut world, &SHAPE, records, dynamics, rng);
         }
         if all_recorded(&world.book) {
-            return Plan { book: world.book, order };
+            return Plan { book: filed(world.book, Inapplicable::Any, rng), order };
         }
     }
 }

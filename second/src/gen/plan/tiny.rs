@@ -2,6 +2,7 @@
 
 use super::order::{self, Plan};
 use crate::gen::draft::BookDraft;
+use crate::gen::hall::inapplicable::{filed, Inapplicable};
 use crate::gen::hall::{book, Dynamics, Shape, World};
 use crate::gen::rng::Rng;
 
@@ -29,7 +30,7 @@ fn draw_any(rng: &mut Rng) -> Plan {
     let records = rng.count(SHAPE.records);
     book::fill(&mut world, &SHAPE, records, dynamics, rng);
     let order = order::for_world(&world, &SHAPE, rng);
-    Plan { book: world.book, order }
+    Plan { book: filed(world.book, Inapplicable::Any, rng), order }
 }
 
 /// The models of one move number 12 to the power of its atoms: four atoms at

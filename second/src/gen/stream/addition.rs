@@ -8,6 +8,7 @@ use crate::gen::aim::{Aim, Label};
 use crate::gen::draft::twin::told;
 use crate::gen::draft::{BookDraft, RecordDraft};
 use crate::gen::extreme::{fullbook, turns};
+use crate::gen::hall::inapplicable::{filed, Inapplicable};
 use crate::gen::hall::{book, Dynamics, World};
 use crate::gen::rng::Rng;
 use crate::gen::{faults, JobCase};
@@ -16,6 +17,8 @@ pub struct AddStream {
     books: BookStream,
     record_aims: Vec<Aim<BookDraft>>,
     seed: u64,
+    /// Whether there may be steps that did not go, in the old book or in the record.
+    inapplicable: bool,
 }
 
 const DAMAGED_BOOK: &str = "old book damaged";
@@ -48,9 +51,16 @@ impl AddStream {
                     | "of a book, bytes put behind"
                     | "of a book, fewer announced"
                     | "of a record, the next one taken in"
+                    | "a fact more after it, and the next record's head wrong"
             )
         });
-        Self { books: BookStream::new(form, seed), record_aims, seed }
+        Self { books: BookStream::new(form, seed), record_aims, seed, inapplicable: true }
+    }
+
+    /// With good records all steps of which went.
+    #[must_use]
+    pub fn of_steps_that_went(form: Form, seed: u64) -> Self {
+        Self { inapplicable: false, ..Self::new(form, seed) }
     }
 
     #[must_use]
@@ -121,6 +131,9 @@ impl AddStream {
         }
         world.book.records.push(record);
         let mut draft = world.book.in_form(self.books.form());
+        if self.inapplicable && !what.ends_with("records before") {
+            draft = filed(draft, Inapplicable::Any, rng);
+        }
         let mut record = draft.records.pop().expect("the one to be added").bytes();
         let book = draft.bytes();
         let length = book.len() + record.len();
@@ -140,7 +153,7 @@ impl AddStream {
         (book, record, answer)
     }
 
-    /// The faults of rows 6 to 10 and 24 that a record added can have.
+    /// The faults of rows 6 to 10, 24 and 27 that a record added can have.
     #[must_use]
     pub fn record_aims(&self) -> &[Aim<BookDraft>] {
         &self.record_aims
@@ -150,7 +163,10 @@ impl AddStream {
     pub fn damaged_record(&self, index: usize, rng: &mut Rng) -> (Vec<u8>, Vec<u8>, Answer) {
         let aim = &self.record_aims[index % self.record_aims.len()];
         let draw = |rng: &mut Rng| {
-            let mut draft = book::to_damage(self.books.form(), rng);
+            let mut draft = match self.inapplicable {
+                true => book::to_damage_any(self.books.form(), rng),
+                false => book::to_damage(self.books.form(), rng),
+            };
             draft.records.truncate(1);
             draft
         };

@@ -6,11 +6,12 @@ use crate::answer::{Answer, Refusal};
 use crate::calls::{Form, Job};
 use crate::gen::aim::{Aim, Label};
 use crate::gen::draft::twin::told;
+use crate::gen::hall::inapplicable::{filed, Inapplicable};
 use crate::gen::plan::crowded::{self, Ending};
 use crate::gen::plan::order::{self, Plan};
 use crate::gen::plan::several::{self, Starts};
 use crate::gen::rng::Rng;
-use crate::gen::{faults, JobCase};
+use crate::gen::{faults, BookDraft, JobCase};
 use crate::limits::{END_SHEET_LENGTH, START_LIMIT};
 
 pub struct CheckStream {
@@ -55,27 +56,29 @@ impl CheckStream {
                 let plan = order::at_the_limits();
                 let answer = Answer::success(plan.order.steps.len());
                 let label = Label { part: "order", what: "at every limit but that of starts" };
-                self.aimed_plan(label, &plan, answer)
+                self.aimed_plan(label, plan, answer, rng)
             }
             14 => self.crowded_plan(Ending::ALL[round % Ending::ALL.len()], rng),
             15 => {
                 let kind = Starts::ALL[round % Starts::ALL.len()];
                 let (plan, answer) = several::case(kind, rng);
-                self.aimed_plan(kind.label(), &plan, answer)
+                self.aimed_plan(kind.label(), plan, answer, rng)
             }
             _ => {
                 let plan = order::draw(rng);
                 let label = Label { part: "order", what: "good" };
-                case(label, None, self.book(&plan), plan.order.bytes(), end_length(97, rng))
+                let book = self.book(plan.book, Inapplicable::Any, rng);
+                case(label, None, book, plan.order.bytes(), end_length(97, rng))
             }
         };
         case.form = told(form, rng);
         case
     }
 
-    /// Its book in the form of this stream; a plan's book is a full one.
-    fn book(&self, plan: &Plan) -> Vec<u8> {
-        plan.book.in_form(self.books.form()).bytes()
+    /// A plan's book, which is full and has no steps that did not go, with such and in the
+    /// form of this stream.
+    fn book(&self, book: BookDraft, which: Inapplicable, rng: &mut Rng) -> Vec<u8> {
+        filed(book, which, rng).in_form(self.books.form()).bytes()
     }
 
     fn damaged_order(&self, index: usize, rng: &mut Rng) -> JobCase {
@@ -87,7 +90,7 @@ impl CheckStream {
             END_SHEET_LENGTH => (aim.label, answer),
             _ => (Label { part: "order", what: "damaged, and 13 before" }, Refusal::Output.at(0)),
         };
-        case(label, Some(aimed), self.book(&plan), order, output)
+        case(label, Some(aimed), self.book(plan.book, Inapplicable::Barred, rng), order, output)
     }
 
     /// A plan in whose execution over 256 facts hold. At times it has equal starts:
@@ -98,12 +101,15 @@ impl CheckStream {
             let start = plan.order.starts[0].clone();
             plan.order.starts.resize(rng.range(2, START_LIMIT), start);
         }
-        self.aimed_plan(ending.label(), &plan, answer)
+        self.aimed_plan(ending.label(), plan, answer, rng)
     }
 
-    /// A plan that must get this answer, with an end sheet of the right length.
-    fn aimed_plan(&self, label: Label, plan: &Plan, answer: Answer) -> JobCase {
-        case(label, Some(answer), self.book(plan), plan.order.bytes(), END_SHEET_LENGTH)
+    /// A plan that must get this answer, with an end sheet of the right length. Steps that
+    /// did not go do not change it.
+    fn aimed_plan(&self, label: Label, plan: Plan, answer: Answer, rng: &mut Rng) -> JobCase {
+        let Plan { book, order } = plan;
+        let book = self.book(book, Inapplicable::Barred, rng);
+        case(label, Some(answer), book, order.bytes(), END_SHEET_LENGTH)
     }
 }
 

@@ -44,8 +44,8 @@ impl LearnStream {
 /// A book of good form, which may be impossible.
 pub(super) fn good_book(form: Form, rng: &mut Rng) -> (Label, BookDraft) {
     let (what, dynamics) = match rng.below(100) {
-        0..=44 => ("follows its rules", Dynamics::Follows),
-        45..=89 => ("slips", Dynamics::Slips),
+        0..=49 => ("follows its rules", Dynamics::Follows),
+        50..=89 => ("slips", Dynamics::Slips),
         _ => ("random states", Dynamics::Random),
     };
     let (_, draft) = book::any_size(form, dynamics, rng);

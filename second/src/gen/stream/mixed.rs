@@ -17,7 +17,7 @@ pub struct BookStream {
 }
 
 /// The rows of a book's form, in the order of the table.
-const FORM: [u32; 12] = [1, 2, 3, 21, 4, 5, 6, 24, 7, 8, 9, 10];
+const FORM: [u32; 13] = [1, 2, 3, 21, 4, 5, 6, 24, 7, 8, 9, 10, 27];
 
 /// Kinds of random damage, whose answer only an implementation can tell.
 const RANDOM: [&str; 8] = [
@@ -69,7 +69,7 @@ impl BookStream {
 
     fn aimed(&self, index: usize, rng: &mut Rng) -> BookCase {
         let aim = &self.aims[index % self.aims.len()];
-        let (_, book, answer) = aim.hit(rng, |rng| book::to_damage(self.form, rng));
+        let (_, book, answer) = aim.hit(rng, |rng| book::to_damage_any(self.form, rng));
         BookCase { label: aim.label, book, form: told(self.form, rng), aimed: Some(answer) }
     }
 
@@ -96,7 +96,7 @@ impl BookStream {
 
     fn random(&self, index: usize, rng: &mut Rng) -> BookCase {
         let what = RANDOM[index % RANDOM.len()];
-        let draft = book::to_damage(self.form, rng);
+        let draft = book::to_damage_any(self.form, rng);
         let mut bytes = draft.bytes();
         match what {
             "two faults" => bytes = self.two_faults(rng),
@@ -134,7 +134,7 @@ impl BookStream {
     fn two_faults(&self, rng: &mut Rng) -> Vec<u8> {
         let mut aim = || &self.aims[rng.below(self.aims.len())];
         let (first, second) = (aim(), aim());
-        let draft = book::to_damage(self.form, rng);
+        let draft = book::to_damage_any(self.form, rng);
         let good = draft.bytes();
         // Both faults are put into one draft; where their lengths agree, the
         // bytes that the second changed are copied over the first.

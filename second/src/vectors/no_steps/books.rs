@@ -7,7 +7,6 @@
 
 use crate::answer::{Answer, Refusal};
 use crate::calls::Form;
-use crate::calls::Job::{self, Add, Check, Learn, LookOver, ToFull, ToShort};
 use crate::gen::{BookDraft, RecordDraft};
 use crate::limits::BOOK_LIMIT;
 use crate::vectors::hall::{
@@ -15,19 +14,10 @@ use crate::vectors::hall::{
     RELATIONS, STATE, STEP,
 };
 use crate::vectors::short::converted_lengths::of_length;
-use crate::vectors::{added, Vector};
+use crate::vectors::{added, jobs, Vector};
 
 /// At the one record of the small hall.
 pub const MET: Answer = Refusal::NoSteps.at(HEAD);
-
-/// Every call that reads a book of this form.
-const fn jobs(form: Form) -> [Job; 5] {
-    let converter = match form {
-        Form::Full => ToShort,
-        Form::Short => ToFull,
-    };
-    [LookOver, Learn, Check, Add, converter]
-}
 
 pub fn all() -> Vec<Vector> {
     let of_form = |form: Form| {

@@ -7,8 +7,8 @@ use crate::calls::Job::{Add, Check, Learn};
 use crate::gen::{BookDraft, RecordDraft};
 use crate::limits::{BOOK_LIMIT, END_SHEET_LENGTH, RULES_LENGTH};
 use crate::vectors::hall::{
-    changed, empty_end, filed, m2, small_hall, still, unbound, unrecorded, with, without_steps,
-    HEAD, OBJECTS, STATE, STEP,
+    changed, empty_end, failing_orders, filed, m2, small_hall, still, unbound, unrecorded, with,
+    without_steps, HEAD, OBJECTS, STATE, STEP,
 };
 use crate::vectors::short::converted_lengths::{of_length, to_length};
 use crate::vectors::short::converting::refused;
@@ -63,26 +63,14 @@ fn learning(form: Form) -> Vec<Vector> {
 
 /// Checking meets it before the rows of an order, and before 19 and 20.
 fn orders(form: Form) -> Vec<Vector> {
-    let m2 = || m2().bytes();
-    let changed = |at: usize, new: &[u8]| changed(m2(), &[(at, new)]);
     let (book, answer) = behind(form, &[filed()]);
-    [
-        ("14", m2()[..15].to_vec()),
-        ("22", changed(3, &[0])),
-        ("15", changed(16, &[0])),
-        ("16", changed(22, &[0])),
-        ("17", changed(31, &[2])),
-        ("18", changed(35, &[2])),
-        // The roll from a spot at which the bank is not; the bank at a third spot.
-        ("19", changed(37, &[4])),
-        ("20", changed(34, &[3])),
-    ]
-    .map(|(row, order)| {
-        Vector::new(format!("check: before {row}"), &[Check], book.bytes(), answer)
-            .order(order)
-            .output(END_SHEET_LENGTH)
-    })
-    .into()
+    failing_orders()
+        .map(|(row, order)| {
+            Vector::new(format!("check: before {row}"), &[Check], book.bytes(), answer)
+                .order(order)
+                .output(END_SHEET_LENGTH)
+        })
+        .into()
 }
 
 /// With an output as long as the new book.

@@ -80,7 +80,7 @@ pub fn orders() -> Vec<Vector> {
 
 /// Adding: faults of the record added, then what only adding meets.
 pub fn additions() -> Vec<Vector> {
-    let stream = AddStream::new(Form::Full, 0);
+    let stream = AddStream::of_steps_that_went(Form::Full, 0);
     let with_fault = stream.record_aims().iter().enumerate().flat_map(|(index, aim)| {
         let name = name(aim.refusal as u32, "record added", aim.label);
         let stream = &stream;

@@ -4,7 +4,7 @@
 
 use std::collections::BTreeSet;
 
-use crate::answer::{Answer, Refusal};
+use crate::answer::Answer;
 use crate::calls::Form;
 use crate::calls::Job::{self, Check, Learn, ToFull, ToShort};
 use crate::gen::BookDraft;
@@ -31,7 +31,7 @@ pub fn of(vectors: &[Vector]) -> Vec<Vector> {
 /// Learning and checking, of a book that no row of its form refuses.
 fn is_taken(vector: &Vector) -> bool {
     let reads = |job: &Job| matches!(job, Learn | Check);
-    let good = matches!(vector.answer.number, 0 | 11..=20 | 22);
+    let good = matches!(vector.answer.number, 0 | 11..=20 | 22 | 28);
     good && vector.form == 0
         && vector.jobs.iter().all(reads)
         && vector.book.len() + vector.order.len() <= FEW
@@ -44,15 +44,15 @@ fn twin(vector: &Vector) -> Vector {
     twin.name = format!("short: {}", vector.name);
     twin.book = short.bytes();
     twin.form = Form::Short.number();
-    // The one place that is an offset in the book: the same step's.
-    if vector.answer.number == Refusal::UnboundChange as u32 {
+    // The places that are offsets in the book: the same step's.
+    if vector.answer.is_at_step() {
         let steps = |draft: &BookDraft| -> Vec<usize> {
             draft.layout().records.into_iter().flat_map(|record| record.steps).collect()
         };
         let place = vector.answer.place as usize;
         let index = steps(&full).iter().position(|&step| step == place);
-        let index = index.expect("the place of 11 is a step's");
-        twin.answer = Refusal::UnboundChange.at(steps(&short)[index]);
+        let index = index.expect("the place is a step's");
+        twin.answer.place = steps(&short)[index] as u32;
     }
     twin
 }

@@ -24,7 +24,7 @@ use types.Run.{look, init, forget, stop, hop, fld, from, load, addr, of-opd, and
 use sound.WpLaws.{FmC, fmOf, WpFn-mono}
 use denote.RattleType.{owns}
 use denote.Laws.{Is}
-use denote.Plain.{uint-vals, uint-tells, uint-makes, bool-vals, bool-tells, bool-makes}
+use denote.Plain.{uint-makes, bool-vals, bool-tells, bool-makes}
 use denote.Builtin.{u8, usize, bool}
 use denote.Ref.{RefT, now}
 use denote.Signature.{plain}
@@ -48,8 +48,11 @@ use Rattle.terms.proofs.Sections.Laws as N′
 use Rattle.reader.specs.declared.Reader.{Reader}
 use Rattle.reader.proofs.Reader.Laws as T′
 use Rattle.reader.proofs.Held.{Held, held-laws, Row, reader-twice, handed}
+use Rattle.observerecords.specs.declared.Noticed.{Noticed}
 use Rattle.observerecords.specs.declared.Walked.{Walked}
-use Rattle.observerecords.specs.Observing.{CanObserve, RecordObserved}
+use Rattle.observerecords.specs.Observing.{heldWith, CanObserve, RecordObserved}
+use Rattle.observerecords.proofs.Noticed as B
+use Rattle.observerecords.proofs.Noticed.Laws as B′
 use Rattle.observerecords.proofs.Walked as R
 use Rattle.observerecords.proofs.Walked.Laws as R′
 use Rattle.observerecords.proofs.Lent.{Tokens, Last, Given-up}
@@ -63,18 +66,18 @@ use Rattle.observerecords.proofs.walk.observe.Statement as stated
 use Rattle.observerecords.proofs.walk.observe.Code as code
 
 abbrev stayed : Stays (observe.ended .signature .params) (observe.ended .kept)
-stayed = (stay-none (λ κs. Row (κs .0, tt)) yes, (stay-none (λ _. bool) yes, (stay-none (λ _. N.the-row) yes, (gave-slice (1 ∷ []) tt (plain (λ _. u8)), (stay-none (λ _. usize) yes, tt)))))
+stayed = (stay-none (λ κs. Row (κs .0, tt)) yes, (stay-none (λ _. bool) yes, (stay-none (λ _. N.the-row) yes, (gave-slice (1 ∷ []) tt (plain (λ _. u8)), (stay-none (λ _. B.the-row) yes, tt)))))
 
 module _ {M : Type 1} (𝓤 : URA M) (H : Heap 𝓤) (A : Atoms 𝓤) (mem : Memory → SProp 𝓤) (run : Routine → Fun 𝓤) where
   -- the contract that the proof cites
   abbrev Work : Contract 𝓤
   Work = tripleOf 𝓤 H A work.signature (work.spec 𝓤 H A mem run)
 
-module _ {M : Type 1} (𝓤 : URA M) (H : Heap 𝓤) (A : Atoms 𝓤) (W : Given 𝓤 H A) (mem : Memory → SProp 𝓤) (run : Routine → Fun 𝓤) (κ κ′ : Lft) (q q′ : Share) (d : Reader) (short : Bool) (h : Sections) (x : RefT (List ℕ)) (n : ℕ) (ok : n < 2 ^ 64) where
+module _ {M : Type 1} (𝓤 : URA M) (H : Heap 𝓤) (A : Atoms 𝓤) (W : Given 𝓤 H A) (mem : Memory → SProp 𝓤) (run : Routine → Fun 𝓤) (κ κ′ : Lft) (q q′ : Share) (d : Reader) (short : Bool) (h : Sections) (x : RefT (List ℕ)) (n : Noticed) (n-is : Is B.the-row n (LL.val B.the-type B′.the-laws n ∷ [])) where
   abbrev κs : Lfts 2
   κs = (κ, (κ′, tt))
 
-  -- the machine values of the reader, its slice, the header and the memory, and of all that is passed
+  -- the machine values of the reader, its slice, the header, what is noticed and the memory, and of all that is passed
   abbrev mach : Val
   mach = T′.lowered d
 
@@ -84,6 +87,9 @@ module _ {M : Type 1} (𝓤 : URA M) (H : Heap 𝓤) (A : Atoms 𝓤) (W : Given
   abbrev hv : Val
   hv = LL.val N.the-type N′.the-laws h
 
+  abbrev nv : Val
+  nv = LL.val B.the-type B′.the-laws n
+
   abbrev xv : Val
   xv = sliceVal (x .ptr) (length (x .now))
 
@@ -91,14 +97,14 @@ module _ {M : Type 1} (𝓤 : URA M) (H : Heap 𝓤) (A : Atoms 𝓤) (W : Given
   a = (d, (short, (h, (x, (n, tt)))))
 
   abbrev at : Vals observe.signature κs
-  at = (mach ∷ [], (vbool short ∷ [], (hv ∷ [], (xv ∷ [], (vint w64 n ∷ [], tt)))))
+  at = (mach ∷ [], (vbool short ∷ [], (hv ∷ [], (xv ∷ [], (nv ∷ [], tt)))))
 
   abbrev Met : Type 0
   Met = CanObserve h (now (d .src)) (d .at) (now x)
 
   -- what is said of the result and the memory's last bytes
   abbrev Seen : Walked → List ℕ → Type 0
-  Seen w zs = RecordObserved short h (now (d .src)) (d .at) (record { masks = now x; named = n }) zs w
+  Seen w zs = RecordObserved short h (now (d .src)) (d .at) (heldWith (now x) n) zs w
 
   abbrev Post : Val → SProp 𝓤
   Post = walkOf 𝓤 H A observe.ended stayed (observe.clauses 𝓤 H A mem run) .post ((κs, (q, (q′, tt)), tt, a, at), tt)
@@ -121,24 +127,24 @@ module _ {M : Type 1} (𝓤 : URA M) (H : Heap 𝓤) (A : Atoms 𝓤) (W : Given
   b = (d .src, (short, (h, (d .at, (x, (n, tt))))))
 
   abbrev passed : Vals work.signature κs
-  passed = (v ∷ [], (vbool short ∷ [], (hv ∷ [], (vint w64 (d .at) ∷ [], (xv ∷ [], (vint w64 n ∷ [], tt))))))
+  passed = (v ∷ [], (vbool short ∷ [], (hv ∷ [], (vint w64 (d .at) ∷ [], (xv ∷ [], (nv ∷ [], tt))))))
 
   abbrev to : Work 𝓤 H A mem run .Ghost
   to = ((κs, (q, (q′, tt)), tt, b, passed), tt)
 
   asked : Met → ent 𝓤 (onEntry 𝓤 H A work.signature κs (q, (q′, tt)) b passed) (Work 𝓤 H A mem run .pre to)
-  asked met = qed W (Tokens 𝓤 κ q κ′ q′ ∷ ‵ (owns (ShrSlice (named 0) κ u8 ∷ bool ∷ N.the-row ∷ usize ∷ MutSlice (named 1) κ′ u8 ∷ usize ∷ []) b passed) ∷ []) ∵ says ! met $ frame ! $ done !
+  asked met = qed W (Tokens 𝓤 κ q κ′ q′ ∷ ‵ (owns (ShrSlice (named 0) κ u8 ∷ bool ∷ N.the-row ∷ usize ∷ MutSlice (named 1) κ′ u8 ∷ B.the-row ∷ []) b passed) ∷ []) ∵ says ! met $ frame ! $ done !
 
   -- what is owned gives what the call asks, and what the reader owns is kept
   apart : d .at < 2 ^ 64 → Is N.the-row h (hv ∷ []) → Met → ent 𝓤 (onEntry 𝓤 H A observe.signature κs (q, (q′, tt)) a at) (sep 𝓤 (Work 𝓤 H A mem run .pre to) (sem 𝓤 H A Own))
   apart fits h-is met =
-      qed W (Tokens 𝓤 κ q κ′ q′ ∷ ‵ (owns (Row (κ, tt) ∷ bool ∷ N.the-row ∷ MutSlice (named 1) κ′ u8 ∷ usize ∷ []) a at) ∷ []) ∵
+      qed W (Tokens 𝓤 κ q κ′ q′ ∷ ‵ (owns (Row (κ, tt) ∷ bool ∷ N.the-row ∷ MutSlice (named 1) κ′ u8 ∷ B.the-row ∷ []) a at) ∷ []) ∵
       move ! (1 ∷ []) $ fsplit ! $ use1 W (‵ Own ⊛ ‵ Own) (reader-twice 𝓤 H A W κ d mach) $ split ! $
       use1 W (given (mach ∷ [] ≡ mach ∷ []) (‵ (all-own (D .parts) L vd))) (own-open 𝓤 H A W D L vd mach) $ learn ! (λ _. use1 W (‵ (ownAt (D .parts) L 0 (d .src)) ⊛ ‵ (rest (D .parts) L 0 vd)) (own-out 𝓤 H A W (D .parts) L 0 vd) $ split ! $
       -- [what src owns; what at owns; what the reader owns; what the others own; the tokens]
       move ! (1 ∷ []) $ drop ! $ move ! (2 ∷ []) $ fsplit ! $ drop ! $ fsplit ! $ drop ! $ fsplit ! $ move ! (1 ∷ []) $ drop ! $
       -- [what the memory owns; what src owns; what the reader owns; the tokens]
-      nothing ! $ owned ! usize (Is usize) (uint-makes 𝓤 H A W w64) n _ (refl, ok) $ fjoin ! $ move ! (1 ∷ 0 ∷ []) $ fjoin ! $ owned ! usize (Is usize) (uint-makes 𝓤 H A W w64) (d .at) _ (refl, fits) $ fjoin ! $
+      nothing ! $ owned ! B.the-row (Is B.the-row) (LL.makes B.the-type B′.the-plain 𝓤 H A) n _ n-is $ fjoin ! $ move ! (1 ∷ 0 ∷ []) $ fjoin ! $ owned ! usize (Is usize) (uint-makes 𝓤 H A W w64) (d .at) _ (refl, fits) $ fjoin ! $
       owned ! N.the-row (Is N.the-row) (LL.makes N.the-type N′.the-plain 𝓤 H A) h _ h-is $ fjoin ! $ owned ! bool (Is bool) (bool-makes 𝓤 H A W) short _ refl $ fjoin ! $ move ! (1 ∷ 0 ∷ []) $ fjoin ! $
       move ! (2 ∷ 0 ∷ []) $ use2 W (raw (Work 𝓤 H A mem run .pre to)) (asked met) $ frame ! $ done !)
 
@@ -154,16 +160,16 @@ module _ {M : Type 1} (𝓤 : URA M) (H : Heap 𝓤) (A : Atoms 𝓤) (W : Given
   exits h-is w u last =
       qed W (‵ (finally u8 (x .name) (last .0)) ∷ ‵ (R.the-row .own w (u ∷ [])) ∷ Tokens 𝓤 κ q κ′ q′ ∷ ‵ Own ∷ []) ∵
       suffices ! _ (ends-at 𝓤 H A observe.ended stayed (observe.clauses 𝓤 H A mem run) W ((κs, (q, (q′, tt)), tt, a, at), tt) u w (tt, (tt, (tt, (last .0, (tt, tt))))) (tt, (tt, (tt, (last .1 .0, (tt, tt)))))) $ says ! (last .1 .1) $
-      move ! (2 ∷ []) $ frame ! $ nothing ! $ owned ! usize (Is usize) (uint-makes 𝓤 H A W w64) n _ (refl, ok) $ fjoin ! $ move ! (1 ∷ 0 ∷ []) $ fjoin ! $
+      move ! (2 ∷ []) $ frame ! $ nothing ! $ owned ! B.the-row (Is B.the-row) (LL.makes B.the-type B′.the-plain 𝓤 H A) n _ n-is $ fjoin ! $ move ! (1 ∷ 0 ∷ []) $ fjoin ! $
       owned ! N.the-row (Is N.the-row) (LL.makes N.the-type N′.the-plain 𝓤 H A) h _ h-is $ fjoin ! $ owned ! bool (Is bool) (bool-makes 𝓤 H A W) short _ refl $ fjoin ! $ move ! (2 ∷ 0 ∷ []) $ fjoin ! $ frame ! $ done !
 
   module _ (C : Calls 𝓤 H) (Λ : Loops 𝓤 H) (fm : FmC 𝓤 H (W .laws) C) (known : Triple 𝓤 (C #observerecords·observe-record) (Work 𝓤 H A mem run)) where
-    walk : Holds (hasTy (T′.mir (named 0)) mach) × WT mach → Is N.the-row h (hv ∷ []) → Room u8 (length (now x)) → Met → ent 𝓤 (onEntry 𝓤 H A observe.signature κs (q, (q′, tt)) a at) (WpFn 𝓤 H C Λ code.function (mach ∷ vbool short ∷ hv ∷ xv ∷ vint w64 n ∷ []) Post)
+    walk : Holds (hasTy (T′.mir (named 0)) mach) × WT mach → Is N.the-row h (hv ∷ []) → Room u8 (length (now x)) → Met → ent 𝓤 (onEntry 𝓤 H A observe.signature κs (q, (q′, tt)) a at) (WpFn 𝓤 H C Λ code.function (mach ∷ vbool short ∷ hv ∷ xv ∷ nv ∷ []) Post)
     walk wt h-is room met =
-        qed W (raw (onEntry 𝓤 H A observe.signature κs (q, (q′, tt)) a at) ∷ []) ∵ enter ! C Λ code.function (mach ∷ vbool short ∷ hv ∷ xv ∷ vint w64 n ∷ []) _ $
+        qed W (raw (onEntry 𝓤 H A observe.signature κs (q, (q′, tt)) a at) ∷ []) ∵ enter ! C Λ code.function (mach ∷ vbool short ∷ hv ∷ xv ∷ nv ∷ []) _ $
         alloc1 ! (λ l₀. alloc1 ! (λ l₁. alloc1 ! (λ l₂. alloc1 ! (λ l₃. alloc1 ! (λ l₄. alloc1 ! (λ l₅. alloc1 ! (λ l₆. alloc1 ! (λ l₇. alloc1 ! (λ l₈. alloc1 ! (λ l₉. alloc0 ! $ params1 ! $
         pass1 ! (init ! 16 refl wt) $ pass1 ! (init ! 14 refl (tt, tt)) $ pass1 ! (init ! 12 refl (LL.lawful N.the-type N′.the-laws 𝓤 H A W .typed h _ h-is .0)) $
-        pass1 ! (init ! 10 refl (tt, (tt, (record { fits = room .0 }, tt)))) $ pass1 ! (init ! 8 refl (tt, record { fits = ok })) $ pass0 ! $
+        pass1 ! (init ! 10 refl (tt, (tt, (record { fits = room .0 }, tt)))) $ pass1 ! (init ! 8 refl (LL.lawful B.the-type B′.the-laws 𝓤 H A W .typed n _ n-is .0)) $ pass0 ! $
         assigns ! (of-opd ! (load ! (from ! (fld ! refl (stop !))) (look-in ! 16 (sub ! 0 refl (whole !))))) (from ! (stop !)) (init ! 6 refl (tt, wt .1 .0)) $
         assigns ! (of-opd ! (load ! (from ! (fld ! refl (stop !))) (look-in ! 16 (sub ! 1 refl (whole !))))) (from ! (stop !)) (init ! 4 refl (tt, wt .1 .1 .0)) $
         assigns ! (addr ! (from ! (fld ! refl (hop ! (look-in ! 10 (sub ! 0 refl (whole !))) (stop !))))) (from ! (stop !)) (init ! 2 refl (tt, tt)) $
@@ -182,10 +188,10 @@ module _ {M : Type 1} (𝓤 : URA M) (H : Heap 𝓤) (A : Atoms 𝓤) (W : Given
   observe-walks : (C : Calls 𝓤 H) (Λ : Loops 𝓤 H) → FmC 𝓤 H (W .laws) C → Triple 𝓤 (C #observerecords·observe-record) (Work 𝓤 H A mem run)
       → Walks 𝓤 H A observe.ended stayed (WpFn 𝓤 H C Λ code.function) (observe.clauses 𝓤 H A mem run)
   observe-walks C Λ fm known = walked 𝓤 H A observe.ended stayed (observe.clauses 𝓤 H A mem run) (WpFn 𝓤 H C Λ code.function)
-      (λ κs. (LL.vals (Held (κs .0, tt)) (held-laws (κs .0, tt)), (bool-vals, (LL.vals N.the-type N′.the-laws, (slice-vals, (uint-vals w64, tt))))))
-      (λ κs. (LL.tells (Held (κs .0, tt)) (held-laws (κs .0, tt)), (bool-tells, (LL.tells N.the-type N′.the-laws, (mut-slice-tells (named 1) (κs .1 .0) u8, (uint-tells w64, tt))))))
+      (λ κs. (LL.vals (Held (κs .0, tt)) (held-laws (κs .0, tt)), (bool-vals, (LL.vals N.the-type N′.the-laws, (slice-vals, (LL.vals B.the-type B′.the-laws, tt))))))
+      (λ κs. (LL.tells (Held (κs .0, tt)) (held-laws (κs .0, tt)), (bool-tells, (LL.tells N.the-type N′.the-laws, (mut-slice-tells (named 1) (κs .1 .0) u8, (LL.tells B.the-type B′.the-laws, tt))))))
       (λ κs qs bounds a g are. needs 𝓤 _ _
-      (walk 𝓤 H A W mem run (κs .0) (κs .1 .0) (qs .0) (qs .1 .0) (a .0) (a .1 .0) (a .1 .1 .0) (a .1 .1 .1 .0) (a .1 .1 .1 .1 .0) (are .1 .1 .1 .1 .0 .1) C Λ fm known
+      (walk 𝓤 H A W mem run (κs .0) (κs .1 .0) (qs .0) (qs .1 .0) (a .0) (a .1 .0) (a .1 .1 .0) (a .1 .1 .1 .0) (a .1 .1 .1 .1 .0) (are .1 .1 .1 .1 .0) C Λ fm known
       (LL.lawful (Held (κs .0, tt)) (held-laws (κs .0, tt)) 𝓤 H A W .typed (a .0) _ (are .0) .0) (are .1 .1 .0) (are .1 .1 .1 .0 .0 .1)))
 
 observe-meets : {M : Type 1} (𝓤 : URA M) (H : Heap 𝓤) (A : Atoms 𝓤) (W : Given 𝓤 H A) (mem : Memory → SProp 𝓤) (run : Routine → Fun 𝓤) (𝓣 : Tables 𝓤 H)
@@ -193,7 +199,7 @@ observe-meets : {M : Type 1} (𝓤 : URA M) (H : Heap 𝓤) (A : Atoms 𝓤) (W 
     → Meets 𝓤 H A observe.signature (WpFn 𝓤 H (𝓣 .C) (𝓣 .Λ) code.function) (observe.spec 𝓤 H A mem run)
 observe-meets 𝓤 H A W mem run 𝓣 known-work =
     walk-meets 𝓤 H A observe.ended stayed W
-    (goes-none 𝓤 H A W 2 (λ κs. Row (κs .0, tt)) yes (λ κs x f. refl), (goes-none 𝓤 H A W 2 (λ _. bool) yes (λ κs x f. refl), (goes-none 𝓤 H A W 2 (λ _. N.the-row) yes (λ κs x f. refl), (goes-gave-slice 𝓤 H A W 2 1 tt (plain (λ _. u8)), (goes-none 𝓤 H A W 2 (λ _. usize) yes (λ κs x f. refl), tt)))))
+    (goes-none 𝓤 H A W 2 (λ κs. Row (κs .0, tt)) yes (λ κs x f. refl), (goes-none 𝓤 H A W 2 (λ _. bool) yes (λ κs x f. refl), (goes-none 𝓤 H A W 2 (λ _. N.the-row) yes (λ κs x f. refl), (goes-gave-slice 𝓤 H A W 2 1 tt (plain (λ _. u8)), (goes-none 𝓤 H A W 2 (λ _. B.the-row) yes (λ κs x f. refl), tt)))))
     (observe.clauses 𝓤 H A mem run) (WpFn 𝓤 H (𝓣 .C) (𝓣 .Λ) code.function) (WpFn-mono 𝓤 H (W .laws) 𝓣 code.function) (observe-walks 𝓤 H A W mem run (𝓣 .C) (𝓣 .Λ) (fmOf 𝓤 H (W .laws) 𝓣) known-work)
 
 pub observe-spec : {M : Type 1} → stated.statement M

@@ -53,8 +53,11 @@ use Rattle.reader.proofs.moved as moved
 use Rattle.reader.proofs.moved.Symbol as moved-def
 use Rattle.reader.proofs.moved.Symbol.{name as #reader·moved}
 use Rattle.reader.proofs.moved.Met as moved-thm
+use Rattle.observerecords.specs.declared.Noticed.{Noticed}
 use Rattle.observerecords.specs.declared.Walked.{Walked}
-use Rattle.observerecords.specs.Observing.{CanObserve, RecordObserved}
+use Rattle.observerecords.specs.Observing.{heldWith, CanObserve, RecordObserved}
+use Rattle.observerecords.proofs.Noticed as B
+use Rattle.observerecords.proofs.Noticed.Laws as B′
 use Rattle.observerecords.proofs.Walked as R
 use Rattle.observerecords.proofs.Walked.Laws as R′
 use Rattle.observerecords.proofs.Lent.{Tokens, Last, Given-up}
@@ -69,7 +72,7 @@ use Rattle.observerecords.proofs.walk.observe_from.Code as code
 
 abbrev stayed : Stays (from-book.ended .signature .params) (from-book.ended .kept)
 stayed =
-    (stay-none-slice (0 ∷ []) tt (plain (λ _. u8)) yes, (stay-none (λ _. usize) yes, (stay-none (λ _. bool) yes, (stay-none (λ _. N.the-row) yes, (gave-slice (1 ∷ []) tt (plain (λ _. u8)), (stay-none (λ _. usize) yes, tt))))))
+    (stay-none-slice (0 ∷ []) tt (plain (λ _. u8)) yes, (stay-none (λ _. usize) yes, (stay-none (λ _. bool) yes, (stay-none (λ _. N.the-row) yes, (gave-slice (1 ∷ []) tt (plain (λ _. u8)), (stay-none (λ _. B.the-row) yes, tt))))))
 
 module _ {M : Type 1} (𝓤 : URA M) (H : Heap 𝓤) (A : Atoms 𝓤) (mem : Memory → SProp 𝓤) (run : Routine → Fun 𝓤) where
   -- the contracts of the three that are called
@@ -82,16 +85,19 @@ module _ {M : Type 1} (𝓤 : URA M) (H : Heap 𝓤) (A : Atoms 𝓤) (mem : Mem
   abbrev Observe : Contract 𝓤
   Observe = tripleOf 𝓤 H A observe.signature (observe.spec 𝓤 H A mem run)
 
-module _ {M : Type 1} (𝓤 : URA M) (H : Heap 𝓤) (A : Atoms 𝓤) (W : Given 𝓤 H A) (mem : Memory → SProp 𝓤) (run : Routine → Fun 𝓤) (κ κ′ : Lft) (q q′ : Share) (s : RefT (List ℕ)) (k : ℕ) (k-fits : k < 2 ^ 64) (short : Bool) (h : Sections) (x : RefT (List ℕ)) (n : ℕ) (ok : n < 2 ^ 64) where
+module _ {M : Type 1} (𝓤 : URA M) (H : Heap 𝓤) (A : Atoms 𝓤) (W : Given 𝓤 H A) (mem : Memory → SProp 𝓤) (run : Routine → Fun 𝓤) (κ κ′ : Lft) (q q′ : Share) (s : RefT (List ℕ)) (k : ℕ) (k-fits : k < 2 ^ 64) (short : Bool) (h : Sections) (x : RefT (List ℕ)) (n : Noticed) (n-is : Is B.the-row n (LL.val B.the-type B′.the-laws n ∷ [])) where
   abbrev κs : Lfts 2
   κs = (κ, (κ′, tt))
 
-  -- the machine values of the slice, the header and the memory, and of all that is passed
+  -- the machine values of the slice, the header, what is noticed and the memory, and of all that is passed
   abbrev v : Val
   v = sliceVal (s .ptr) (length (s .now))
 
   abbrev hv : Val
   hv = LL.val N.the-type N′.the-laws h
+
+  abbrev nv : Val
+  nv = LL.val B.the-type B′.the-laws n
 
   abbrev xv : Val
   xv = sliceVal (x .ptr) (length (x .now))
@@ -100,14 +106,14 @@ module _ {M : Type 1} (𝓤 : URA M) (H : Heap 𝓤) (A : Atoms 𝓤) (W : Given
   a = (s, (k, (short, (h, (x, (n, tt))))))
 
   abbrev at : Vals from-book.signature κs
-  at = (v ∷ [], (vint w64 k ∷ [], (vbool short ∷ [], (hv ∷ [], (xv ∷ [], (vint w64 n ∷ [], tt))))))
+  at = (v ∷ [], (vint w64 k ∷ [], (vbool short ∷ [], (hv ∷ [], (xv ∷ [], (nv ∷ [], tt))))))
 
   abbrev Met : Type 0
   Met = CanObserve h (now s) k (now x)
 
   -- what is said of the result and the memory's last bytes
   abbrev Seen : Walked → List ℕ → Type 0
-  Seen w zs = RecordObserved short h (now s) k (record { masks = now x; named = n }) zs w
+  Seen w zs = RecordObserved short h (now s) k (heldWith (now x) n) zs w
 
   abbrev Post : Val → SProp 𝓤
   Post = walkOf 𝓤 H A from-book.ended stayed (from-book.clauses 𝓤 H A mem run) .post ((κs, (q, (q′, tt)), tt, a, at), tt)
@@ -128,7 +134,7 @@ module _ {M : Type 1} (𝓤 : URA M) (H : Heap 𝓤) (A : Atoms 𝓤) (W : Given
 
   goes-new : ent 𝓤 (onEntry 𝓤 H A from-book.signature κs (q, (q′, tt)) a at) (sep 𝓤 (New 𝓤 H A mem run .pre to-new) (mean 𝓤 H A Waits))
   goes-new =
-      qed W (Tokens 𝓤 κ q κ′ q′ ∷ ‵ (owns (ShrSlice (named 0) κ u8 ∷ usize ∷ bool ∷ N.the-row ∷ MutSlice (named 1) κ′ u8 ∷ usize ∷ []) a at) ∷ []) ∵
+      qed W (Tokens 𝓤 κ q κ′ q′ ∷ ‵ (owns (ShrSlice (named 0) κ u8 ∷ usize ∷ bool ∷ N.the-row ∷ MutSlice (named 1) κ′ u8 ∷ B.the-row ∷ []) a at) ∷ []) ∵
       move ! (1 ∷ []) $ fsplit ! $ move ! (1 ∷ []) $ fsplit ! $ drop ! $ fsplit ! $ drop ! $ fsplit ! $ drop ! $ fsplit ! $ move ! (1 ∷ []) $ drop ! $
       -- [what the memory owns; what s owns; the tokens]
       move ! (1 ∷ []) $ use1 W (‵ Own ⊛ ‵ Own) (slice-twice 𝓤 H A W κ s v) $ split ! $ move ! (3 ∷ []) $ split ! $ move ! (1 ∷ []) $ split ! $ move ! (1 ∷ []) $ drop ! $
@@ -167,13 +173,13 @@ module _ {M : Type 1} (𝓤 : URA M) (H : Heap 𝓤) (A : Atoms 𝓤) (W : Given
   b = (there, (short, (h, (x, (n, tt)))))
 
   abbrev passed : Val → Vals observe.signature κs
-  passed u = (u ∷ [], (vbool short ∷ [], (hv ∷ [], (xv ∷ [], (vint w64 n ∷ [], tt)))))
+  passed u = (u ∷ [], (vbool short ∷ [], (hv ∷ [], (xv ∷ [], (nv ∷ [], tt)))))
 
   abbrev to-observe : Val → Observe 𝓤 H A mem run .Ghost
   to-observe u = ((κs, (q, (q′, tt)), tt, b, passed u), tt)
 
   asked : Met → (u : Val) → ent 𝓤 (onEntry 𝓤 H A observe.signature κs (q, (q′, tt)) b (passed u)) (Observe 𝓤 H A mem run .pre (to-observe u))
-  asked met u = qed W (Tokens 𝓤 κ q κ′ q′ ∷ ‵ (owns (Row (κ, tt) ∷ bool ∷ N.the-row ∷ MutSlice (named 1) κ′ u8 ∷ usize ∷ []) b (passed u)) ∷ []) ∵ says ! met $ frame ! $ done !
+  asked met u = qed W (Tokens 𝓤 κ q κ′ q′ ∷ ‵ (owns (Row (κ, tt) ∷ bool ∷ N.the-row ∷ MutSlice (named 1) κ′ u8 ∷ B.the-row ∷ []) b (passed u)) ∷ []) ∵ says ! met $ frame ! $ done !
 
   goes-observe : Is N.the-row h (hv ∷ []) → Met → (u : Val)
       → ent 𝓤 (⋆ 𝓤 H A (‵ (Row (κ, tt) .own there (u ∷ [])) ∷ Token 𝓤 κ q ∷ Waits ∷ [])) (sep 𝓤 (Observe 𝓤 H A mem run .pre (to-observe u)) (sem 𝓤 H A Own))
@@ -182,7 +188,7 @@ module _ {M : Type 1} (𝓤 : URA M) (H : Heap 𝓤) (A : Atoms 𝓤) (W : Given
       move ! (2 ∷ []) $ split ! $ move ! (1 ∷ []) $ split ! $ move ! (4 ∷ []) $ split ! $
       -- [the slice's token; true; the memory's token; what the memory owns; what s owns; what the reader owns]
       move ! (2 ∷ 1 ∷ []) $ join ! $ move ! (1 ∷ 0 ∷ []) $ join ! $
-      nothing ! $ owned ! usize (Is usize) (uint-makes 𝓤 H A W w64) n _ (refl, ok) $ fjoin ! $ move ! (2 ∷ 0 ∷ []) $ fjoin ! $
+      nothing ! $ owned ! B.the-row (Is B.the-row) (LL.makes B.the-type B′.the-plain 𝓤 H A) n _ n-is $ fjoin ! $ move ! (2 ∷ 0 ∷ []) $ fjoin ! $
       owned ! N.the-row (Is N.the-row) (LL.makes N.the-type N′.the-plain 𝓤 H A) h _ h-is $ fjoin ! $ owned ! bool (Is bool) (bool-makes 𝓤 H A W) short _ refl $ fjoin ! $
       -- [what is passed beside the reader; the tokens; what s owns; what the reader owns]
       move ! (3 ∷ 0 ∷ []) $ fjoin ! $ move ! (1 ∷ 0 ∷ []) $ use2 W (raw (Observe 𝓤 H A mem run .pre (to-observe u))) (asked met u) $ frame ! $ done !
@@ -198,18 +204,18 @@ module _ {M : Type 1} (𝓤 : URA M) (H : Heap 𝓤) (A : Atoms 𝓤) (W : Given
   exits h-is w u last =
       qed W (‵ (finally u8 (x .name) (last .0)) ∷ ‵ (R.the-row .own w (u ∷ [])) ∷ Tokens 𝓤 κ q κ′ q′ ∷ ‵ Own ∷ []) ∵
       suffices ! _ (ends-at 𝓤 H A from-book.ended stayed (from-book.clauses 𝓤 H A mem run) W ((κs, (q, (q′, tt)), tt, a, at), tt) u w (tt, (tt, (tt, (tt, (last .0, (tt, tt)))))) (tt, (tt, (tt, (tt, (last .1 .0, (tt, tt))))))) $ says ! (last .1 .1) $
-      move ! (2 ∷ []) $ frame ! $ nothing ! $ owned ! usize (Is usize) (uint-makes 𝓤 H A W w64) n _ (refl, ok) $ fjoin ! $ move ! (1 ∷ 0 ∷ []) $ fjoin ! $
+      move ! (2 ∷ []) $ frame ! $ nothing ! $ owned ! B.the-row (Is B.the-row) (LL.makes B.the-type B′.the-plain 𝓤 H A) n _ n-is $ fjoin ! $ move ! (1 ∷ 0 ∷ []) $ fjoin ! $
       owned ! N.the-row (Is N.the-row) (LL.makes N.the-type N′.the-plain 𝓤 H A) h _ h-is $ fjoin ! $ owned ! bool (Is bool) (bool-makes 𝓤 H A W) short _ refl $ fjoin ! $
       owned ! usize (Is usize) (uint-makes 𝓤 H A W w64) k _ (refl, k-fits) $ fjoin ! $ move ! (2 ∷ 0 ∷ []) $ fjoin ! $ frame ! $ done !
 
   module _ (C : Calls 𝓤 H) (Λ : Loops 𝓤 H) (fm : FmC 𝓤 H (W .laws) C) (known-new : Triple 𝓤 (C #reader·new) (New 𝓤 H A mem run)) (known-moved : Triple 𝓤 (C #reader·moved) (Moved 𝓤 H A mem run)) (known-observe : Triple 𝓤 (C #observerecords·walk·observe) (Observe 𝓤 H A mem run)) where
     walk : Is (ShrSlice (named 0) κ u8) s (v ∷ []) → Is N.the-row h (hv ∷ []) → Room u8 (length (now x)) → Met
-        → ent 𝓤 (onEntry 𝓤 H A from-book.signature κs (q, (q′, tt)) a at) (WpFn 𝓤 H C Λ code.function (v ∷ vint w64 k ∷ vbool short ∷ hv ∷ xv ∷ vint w64 n ∷ []) Post)
+        → ent 𝓤 (onEntry 𝓤 H A from-book.signature κs (q, (q′, tt)) a at) (WpFn 𝓤 H C Λ code.function (v ∷ vint w64 k ∷ vbool short ∷ hv ∷ xv ∷ nv ∷ []) Post)
     walk p h-is room met =
-        qed W (raw (onEntry 𝓤 H A from-book.signature κs (q, (q′, tt)) a at) ∷ []) ∵ enter ! C Λ code.function (v ∷ vint w64 k ∷ vbool short ∷ hv ∷ xv ∷ vint w64 n ∷ []) _ $
+        qed W (raw (onEntry 𝓤 H A from-book.signature κs (q, (q′, tt)) a at) ∷ []) ∵ enter ! C Λ code.function (v ∷ vint w64 k ∷ vbool short ∷ hv ∷ xv ∷ nv ∷ []) _ $
         alloc1 ! (λ l₀. alloc1 ! (λ l₁. alloc1 ! (λ l₂. alloc1 ! (λ l₃. alloc1 ! (λ l₄. alloc1 ! (λ l₅. alloc1 ! (λ l₆. alloc1 ! (λ l₇. alloc1 ! (λ l₈. alloc1 ! (λ l₉. alloc1 ! (λ l₁₀. alloc0 ! $ params1 ! $
         pass1 ! (init ! 18 refl (shr-slice-lawful 𝓤 H A W (named 0) κ u8 .typed s (v ∷ []) p .0)) $ pass1 ! (init ! 16 refl (tt, record { fits = k-fits })) $ pass1 ! (init ! 14 refl (tt, tt)) $
-        pass1 ! (init ! 12 refl (LL.lawful N.the-type N′.the-laws 𝓤 H A W .typed h _ h-is .0)) $ pass1 ! (init ! 10 refl (tt, (tt, (record { fits = room .0 }, tt)))) $ pass1 ! (init ! 8 refl (tt, record { fits = ok })) $ pass0 ! $
+        pass1 ! (init ! 12 refl (LL.lawful N.the-type N′.the-laws 𝓤 H A W .typed h _ h-is .0)) $ pass1 ! (init ! 10 refl (tt, (tt, (record { fits = room .0 }, tt)))) $ pass1 ! (init ! 8 refl (LL.lawful B.the-type B′.the-laws 𝓤 H A W .typed n _ n-is .0)) $ pass0 ! $
         move ! (22 ∷ []) $ use1 W (raw (New 𝓤 H A mem run .pre to-new) ⊛ Waits) goes-new $ split ! $
         calls-at ! fm (New 𝓤 H A mem run) known-new to-new (and-then ! (load ! (from ! (stop !)) (look ! 20 refl)) (no-more !)) (λ u.
         returned ! κ q (Row (κ, tt)) (ensured 𝓤 H A new.ended (new.clauses 𝓤 H A mem run) (κ, tt) (s, tt) tt) At-start new-said (λ r e is.
@@ -236,10 +242,10 @@ module _ {M : Type 1} (𝓤 : URA M) (H : Heap 𝓤) (A : Atoms 𝓤) (W : Given
   observe-from-walks : (C : Calls 𝓤 H) (Λ : Loops 𝓤 H) → FmC 𝓤 H (W .laws) C → Triple 𝓤 (C #reader·new) (New 𝓤 H A mem run) → Triple 𝓤 (C #reader·moved) (Moved 𝓤 H A mem run) → Triple 𝓤 (C #observerecords·walk·observe) (Observe 𝓤 H A mem run)
       → Walks 𝓤 H A from-book.ended stayed (WpFn 𝓤 H C Λ code.function) (from-book.clauses 𝓤 H A mem run)
   observe-from-walks C Λ fm known-new known-moved known-observe = walked 𝓤 H A from-book.ended stayed (from-book.clauses 𝓤 H A mem run) (WpFn 𝓤 H C Λ code.function)
-      (λ κs. (slice-vals, (uint-vals w64, (bool-vals, (LL.vals N.the-type N′.the-laws, (slice-vals, (uint-vals w64, tt)))))))
-      (λ κs. (shr-slice-tells (named 0) (κs .0) u8, (uint-tells w64, (bool-tells, (LL.tells N.the-type N′.the-laws, (mut-slice-tells (named 1) (κs .1 .0) u8, (uint-tells w64, tt)))))))
+      (λ κs. (slice-vals, (uint-vals w64, (bool-vals, (LL.vals N.the-type N′.the-laws, (slice-vals, (LL.vals B.the-type B′.the-laws, tt)))))))
+      (λ κs. (shr-slice-tells (named 0) (κs .0) u8, (uint-tells w64, (bool-tells, (LL.tells N.the-type N′.the-laws, (mut-slice-tells (named 1) (κs .1 .0) u8, (LL.tells B.the-type B′.the-laws, tt)))))))
       (λ κs qs bounds a g are. needs 𝓤 _ _
-      (walk 𝓤 H A W mem run (κs .0) (κs .1 .0) (qs .0) (qs .1 .0) (a .0) (a .1 .0) (are .1 .0 .1) (a .1 .1 .0) (a .1 .1 .1 .0) (a .1 .1 .1 .1 .0) (a .1 .1 .1 .1 .1 .0) (are .1 .1 .1 .1 .1 .0 .1) C Λ fm known-new known-moved known-observe
+      (walk 𝓤 H A W mem run (κs .0) (κs .1 .0) (qs .0) (qs .1 .0) (a .0) (a .1 .0) (are .1 .0 .1) (a .1 .1 .0) (a .1 .1 .1 .0) (a .1 .1 .1 .1 .0) (a .1 .1 .1 .1 .1 .0) (are .1 .1 .1 .1 .1 .0) C Λ fm known-new known-moved known-observe
       (are .0) (are .1 .1 .1 .0) (are .1 .1 .1 .1 .0 .0 .1)))
 
 observe-from-meets : {M : Type 1} (𝓤 : URA M) (H : Heap 𝓤) (A : Atoms 𝓤) (W : Given 𝓤 H A) (mem : Memory → SProp 𝓤) (run : Routine → Fun 𝓤) (𝓣 : Tables 𝓤 H)
@@ -254,7 +260,7 @@ observe-from-meets 𝓤 H A W mem run 𝓣 known-new known-moved known-observe =
           goes-none 𝓤 H A W 2 (λ _. bool) yes (λ κs x f. refl),
           (
             goes-none 𝓤 H A W 2 (λ _. N.the-row) yes (λ κs x f. refl),
-            (goes-gave-slice 𝓤 H A W 2 1 tt (plain (λ _. u8)), (goes-none 𝓤 H A W 2 (λ _. usize) yes (λ κs x f. refl), tt)),
+            (goes-gave-slice 𝓤 H A W 2 1 tt (plain (λ _. u8)), (goes-none 𝓤 H A W 2 (λ _. B.the-row) yes (λ κs x f. refl), tt)),
           ),
         ),
       ),

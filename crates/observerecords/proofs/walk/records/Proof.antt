@@ -1,6 +1,7 @@
 -- `walk::records` meets its contract: the records that are left, observed after those before, come to the whole.
 use Prim.Native.Nat.{_+_, _*_, _≤_}
 use mathlib.Core.Path.{_≡_, refl, sym, _∙_}
+use mathlib.Core.Bool.{false}
 use native.Mathlib.Omega.{arith}
 use borrow.Author.Needs.{needs}
 use lib.ListN.{length}
@@ -13,33 +14,33 @@ use Rattle.format.specs.Records.{recordAt}
 use Rattle.format.specs.LookOver.{stepTotal}
 use Rattle.format.proofs.Records.{record-within}
 use Rattle.observed.specs.Observed.{observedAfterAll}
+use Rattle.observed.specs.Begun.{Begun}
 use Rattle.records.proofs.Laws.{all-refused, all-ended, total-none, total-more}
-use Rattle.observerecords.specs.Observing.{Begun}
-use Rattle.observerecords.proofs.Steps.{observedAs}
+use Rattle.observerecords.specs.Observing.{heldWith}
 use Rattle.observerecords.proofs.Records.{record-turn, records-done, refused-walked}
 use Rattle.observerecords.proofs.walk.records.Statement.{statement}
 use Rattle.observerecords.proofs.walk.records.Tie as tie
 
 abbrev Inv-loop : tie.InvT-loop
-Inv-loop s short h n from observed₀ left₀ at₀ total₀ named₀ observed left at total named =
+Inv-loop s short h n from observed₀ left₀ at₀ total₀ noticed₀ observed left at total noticed =
     (at ≤ maxLength)
     × (total + 255 * left ≤ 255 * n)
     × (walk (recordAt short h s) left at ≡ walk (recordAt short h s) n from)
     × (total + stepTotal s left at ≡ stepTotal s n from)
     × (length observed ≡ length observed₀)
     × Begun (schema h s) observed
-    × (observedAfterAll short (recordsAt s left at) at (observedAs observed named) ≡ observedAfterAll short (recordsAt s n from) from (observedAs observed₀ 0))
+    × (observedAfterAll short (recordsAt s left at) at (heldWith observed noticed) ≡ observedAfterAll short (recordsAt s n from) from (heldWith observed₀ (record { named = 0; failed = false })))
 
 abbrev μ-loop : tie.MeasureT-loop
-μ-loop s short h n from observed₀ left₀ at₀ total₀ named₀ observed left at total named = left
+μ-loop s short h n from observed₀ left₀ at₀ total₀ noticed₀ observed left at total noticed = left
 
 loop-holds : tie.Need-loop-holds Inv-loop μ-loop
-loop-holds c = let p = c .before .before .pre .0 in (p .near, omega arith, refl, omega arith, refl, p .begun, refl)
+loop-holds c = let p = c .before .before .before .pre .0 in (p .near, omega arith, refl, omega arith, refl, p .begun, rw (c .nothing-noticed .ensures) refl)
 
 observe-from-requires : tie.Need-observe-from-requires Inv-loop μ-loop
 observe-from-requires c κs =
     let l = c .before .before in
-    let p = l .before .before .before .pre .0 in
+    let p = l .before .before .before .before .pre .0 in
     let i = l .loop .inv in
     record { known = p .known; moves = p .moves; falling = p .falling; begun = i .5; size = p .size; near = i .0 }
 
@@ -53,10 +54,10 @@ returns c =
 
 loop-again : tie.Need-loop-again Inv-loop μ-loop
 loop-again c =
-    let a = c .before .before .before in
+    let a = c .before .before .before .before in
     let o = a .before .before .before .before in
     let l = o .before .before .before in
-    let p = l .before .before .before .pre .0 in
+    let p = l .before .before .before .before .pre .0 in
     let i = l .loop .inv in
     let e = a .answer2 .given .1 in
     let seen = o .observe-from .ensures in
@@ -65,7 +66,7 @@ loop-again c =
       omega (arith, p .size, w .1),
       omega arith,
       turn-good _ _ _ _ _ _ (i .2) some (seen .says) e,
-      total-more _ _ _ _ _ _ _ (i .3) some (c .before .read .ensures) (w .0),
+      total-more _ _ _ _ _ _ _ (i .3) some (c .before .before .read .ensures) (w .0),
       o .observe-from .kept .1 .1 .1 .1 .0 ∙ i .4,
       seen .observes _ e .1,
       record-turn _ _ _ _ _ _ _ _ _ _ _ some (sym (seen .says) ∙ e) (seen .observes _ e .0) (i .6),
@@ -82,6 +83,6 @@ returns-2 c =
 pub records-spec : {M : Type 1} → statement M
 records-spec =
     tie.close
-    (tie.spec Inv-loop μ-loop loop-holds observe-from-requires (λ c. search needs) (λ c κs. search needs) (λ c. search needs) returns
+    (tie.spec Inv-loop μ-loop (λ c κs. search needs) loop-holds observe-from-requires (λ c. search needs) (λ c κs. search needs) (λ c. search needs) returns
     (λ c. search needs) (λ c κs. search needs) (λ c. search needs) (λ c. search needs) (λ c. search needs) (λ c. search needs) loop-again
     (λ c κs. search needs) (λ c. search needs) returns-2)
