@@ -10,7 +10,7 @@
  *
  * Stack. A thread with a stack of 80 KiB can make every call, one of 32 KiB
  * every call but the three that write a book, which add a record and convert. In
- * these figures is what a call uses (at most some 18 KiB, those three some 64
+ * these figures is what a call uses (at most some 19 KiB, those three some 64
  * KiB), and what the C library takes of the same stack: for the thread itself
  * (some 4.5 KiB), and for the dynamic linker, which with lazy binding looks a
  * function up when it is first called, however deep in the call that is (some
