@@ -55,11 +55,17 @@ impl Hall {
         facts.len() / FACT_LENGTH
     }
 
-    /// Rows 9 and 10 for the bytes of one step, the first row before the second.
-    pub fn check_step(&self, signature: &Signature, step: &[u8]) -> Result<(), Refusal> {
-        // An array, so that the loop below has a fixed length.
-        let &[number, a, b, c, d] = step else { return Err(Refusal::Step) };
+    /// Rows 9 and 10 for a step's move, by its number, and its objects, the first row
+    /// before the second.
+    pub fn check_step(
+        &self,
+        signature: &Signature,
+        number: u8,
+        objects: &[u8],
+    ) -> Result<(), Refusal> {
         let action = move_numbered(signature, number).ok_or(Refusal::Step)?;
+        // An array, so that the loop below has a fixed length.
+        let &[a, b, c, d] = objects else { return Err(Refusal::Step) };
         let objects = [a, b, c, d];
         for (&object, &kind) in objects.iter().zip(&action.kinds) {
             let suitable = self.of_kind[usize::from(kind)];

@@ -40,7 +40,7 @@ impl<'a> Order<'a> {
             return Err(Refusal::GoalEntry.at(goal_at + good));
         }
         for (index, step) in order.steps.chunks_exact(STEP_LENGTH).enumerate() {
-            if hall.check_step(signature, step).is_err() {
+            if hall.check_step(signature, step[0], &step[1..]).is_err() {
                 return Err(Refusal::PlanStep.at(steps_at + STEP_LENGTH * index));
             }
         }

@@ -163,8 +163,8 @@ impl<'a> Record<'a> {
     ) -> Result<&'a [u8], Answer> {
         let at = *cursor;
         let step = self.bytes.get(at..at + STEP_LENGTH).ok_or(Refusal::Step.at(at))?;
-        let plain = [step[0] & !INAPPLICABLE, step[1], step[2], step[3], step[4]];
-        hall.check_step(signature, &plain).map_err(|refusal| refusal.at(at))?;
+        let number = step[0] & !INAPPLICABLE;
+        hall.check_step(signature, number, &step[1..]).map_err(|refusal| refusal.at(at))?;
         *cursor += STEP_LENGTH;
         Ok(step)
     }
