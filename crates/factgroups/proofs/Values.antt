@@ -14,19 +14,19 @@ use Rattle.mask.specs.Sets.{digit, number}
 use Rattle.mask.proofs.Numbers.{bit-number}
 use Rattle.atoms.proofs.Words.{number-same}
 use Rattle.factgroups.specs.declared.Placement.{Placement}
-use Rattle.factgroups.specs.Groups.{Indices, inPlace, columnSet, groupOf, facts, inColumns}
+use Rattle.factgroups.specs.Groups.{Indices, unused, inPlace, columnSet, groupOf, facts, inColumns}
 use Rattle.factgroups.proofs.Words.{number-cut, number-none}
 use Rattle.factgroups.proofs.Groups.{unused-small}
 use Rattle.factgroups.proofs.Needs.{groups-clear-by}
 
 -- ---- the columns in the second place
-pub columns-used : (places : ℕ) (xs : List ℕ) → 1 < places → Indices xs → (xs ≡ inPlace places 2 xs) × Indices xs
+pub columns-used : (places : ℕ) (xs : List ℕ) → 1 < places → xs ≡ inPlace places 2 xs
 unfolding inPlace
-columns-used places xs h small = (rw (le-leb 2 places h), small)
+columns-used places xs h = rw (le-leb 2 places h)
 
-pub columns-unused : (places : ℕ) (xs : List ℕ) → places ≤ 1 → ((0 ∷ 0 ∷ 0 ∷ 0 ∷ []) ≡ inPlace places 2 xs) × Indices (0 ∷ 0 ∷ 0 ∷ 0 ∷ [])
+pub columns-unused : (places : ℕ) (xs : List ℕ) → places ≤ 1 → unused ≡ inPlace places 2 xs
 unfolding inPlace
-columns-unused places xs h = (rw (lt-leb 2 places (omega arith)), unused-small)
+columns-unused places xs h = rw (lt-leb 2 places (omega arith))
 
 -- ---- a group
 pub digit-bit : (x y : ℕ) → x / 2 ^ y % 2 ≡ digit (bitOf x y)
@@ -43,6 +43,10 @@ pub in-columns-by : (group : ℕ) (ys : List ℕ) (a b c d : ℕ)
     → a + b * 2 + c * 4 + d * 8 ≡ inColumns group ys
 unfolding inColumns number
 in-columns-by group ys a b c d ea eb ec ed = omega (arith, ea, eb, ec, ed)
+
+-- where the second place is unused: the bit of column 0 for all four
+alone-columns : (group a : ℕ) → a ≡ digit (bitOf group 0) → a * 15 ≡ inColumns group unused
+alone-columns group a e = omega (arith, in-columns-by group unused a a a a e e e e)
 
 -- ---- the four groups of a relation
 module _ (m : List ℕ) (P : Placement) (ys : List ℕ) (small : Indices ys) where
@@ -83,3 +87,15 @@ module _ (m : List ℕ) (P : Placement) (ys : List ℕ) (small : Indices ys) whe
         let e : bitAnd (bitOr (bitOr (bitOr a b) c) d) all ≡ 0 = rw none (omega (arith, and-le-l 0 all)) in
         let clear = groups-clear-by m P ys small a b c d all ea eb ec ed refl e in
         sym (number-none _ 0 16 (λ j l. ap (λ (i : ℕ). testBit m (facts P ys i)) (zero-add j) ∙ clear j l))
+
+module _ (m : List ℕ) (P : Placement) (a b c d : ℕ)
+    (ea : a ≡ number (testBit m) (16 * groupOf P 0) 16) (eb : b ≡ number (testBit m) (16 * groupOf P 1) 16)
+    (ec : c ≡ number (testBit m) (16 * groupOf P 2) 16) (ed : d ≡ number (testBit m) (16 * groupOf P 3) 16) where
+  pub values-alone-by : (x y z w : ℕ) → x ≡ digit (bitOf a 0) → y ≡ digit (bitOf b 0) → z ≡ digit (bitOf c 0) → w ≡ digit (bitOf d 0)
+      → (x + y * 16 + z * 256 + w * 4096) * 15 ≡ number (λ j. testBit m (facts P unused j)) 0 16
+  values-alone-by x y z w ex ey ez ew =
+      omega (
+        arith,
+        values-by m P unused unused-small a b c d ea eb ec ed (x * 15) (y * 15) (z * 15) (w * 15)
+            (alone-columns a x ex) (alone-columns b y ey) (alone-columns c z ez) (alone-columns d w ew),
+      )

@@ -8,8 +8,8 @@ ghost use lib.ListN.{length};
 ghost use Rattle.limits.specs.Limits.{maxAtoms, maxObjects, maxParams, stateSize, atomsPerRelation};
 ghost use Rattle.mask.specs.Bits.{bitOf, testBit, Bytes};
 ghost use Rattle.mask.specs.Sets.{digit, number};
-ghost use Rattle.factgroups.specs.Groups.{StartsRelation, Indices, groupsFrom, placementOf, Within, groupOf, facts, columnSet, Tables, ForColumns};
-ghost use Rattle.factgroups.specs.Groups.{inPlace, inColumns, Clear, groupUnmet, wordUnmet, changed, putAt, inGroup, inWord};
+ghost use Rattle.factgroups.specs.Groups.{StartsRelation, Indices, unused, groupsFrom, placementOf, Within, groupOf, facts, columnSet, Tables, ForColumns};
+ghost use Rattle.factgroups.specs.Groups.{inColumns, Clear, groupUnmet, wordUnmet, changed, putAt, inGroup, inWord};
 
 // ---- words
 
@@ -124,17 +124,6 @@ fn columns(t: &[u16; 32], p: Placement, k: u16) -> u16
     t[i]
 }
 
-// The columns of the parameters in the second place of a relation with so many places.
-pub fn columns_of(places: u8, xs: [usize; 4]) -> [usize; 4]
-    requires { ⌜ Indices xs ⌝ }
-    ensures { λ ys. ⌜ (ys ≡ inPlace places 2 xs) × Indices ys ⌝ }
-{
-    if 1 < places {
-        return xs;
-    }
-    [0, 0, 0, 0]
-}
-
 // ---- values
 
 // The facts of a state in the group of a parameter.
@@ -177,6 +166,18 @@ pub fn values_at(p: Placement, ys: [usize; 4], state: &[u8]) -> u16
         return 0;
     }
     in_columns(a, ys) + in_columns(b, ys) * 16 + in_columns(c, ys) * 256 + in_columns(d, ys) * 4096
+}
+
+// The same where the second place is unused: all have column 0, so the four of a group have one bit.
+pub fn values_alone(p: Placement, state: &[u8]) -> u16
+    requires { ⌜ (length (now state) ≡ stateSize) × Within p ⌝ }
+    ensures { λ r. ⌜ r ≡ number (λ j. testBit (now (state .entry)) (facts p unused j)) 0 atomsPerRelation ⌝ }
+{
+    let a = bit_at(group_word(p, 0, state), 0);
+    let b = bit_at(group_word(p, 1, state), 0);
+    let c = bit_at(group_word(p, 2, state), 0);
+    let d = bit_at(group_word(p, 3, state), 0);
+    (a + b * 16 + c * 256 + d * 4096) * 15
 }
 
 // ---- needs

@@ -31,7 +31,8 @@ fn met_in(s: &[u8], h: Sections, at: usize, state: &[u8], observed: &[u8]) -> bo
 {
     let step = filed::read_step(s, at);
     let bound = observed::observed_set(observed, step.action, observed::BOUND);
-    let held = grounding::held_atoms(s, h, step.binding, &bound, state);
+    let mut held = mask::empty32();
+    grounding::mark_held(s, h, step.binding, &bound, state, &mut held);
     conflicts::needs_met(observed, step.action, held)
 }
 

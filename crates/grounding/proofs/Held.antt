@@ -7,10 +7,12 @@ use mathlib.Core.Path.{_≡_, sym, ap, _∙_}
 use mathlib.Core.Bool.{Bool, false, _&&_}
 use mathlib.Core.List.{List}
 use lib.Bits.{bitAnd}
+use lib.ListN.{length}
+use Rattle.limits.specs.Limits.{setSize}
 use Rattle.mask.specs.Bits.{bitOf, testBit}
 use Rattle.mask.specs.Sets.{empty, number}
 use Rattle.mask.proofs.Numbers.{bit-none, bit-number}
-use Rattle.mask.proofs.Whole.{below-none, below-end}
+use Rattle.mask.proofs.Whole.{length-maskOf, below-none, below-end}
 use Rattle.terms.specs.declared.Binding.{Binding}
 use Rattle.terms.specs.Schema.{Schema}
 use Rattle.terms.specs.Steps.{ground, atomRelation}
@@ -72,3 +74,8 @@ module _ (sch : Schema) (b : Binding) (atoms m : List ℕ) where
       e
       ∙ below-end 32 (λ j. testBit atoms j && testBit m (ground sch b j)) n
       (λ j l k. ap (λ (a : Bool). a && testBit m (ground sch b j)) (none j (omega arith)))
+
+-- the set, lent or not, has its 32 bytes
+pub held-long : (sch : Schema) (b : Binding) (atoms m set : List ℕ) → set ≡ heldAtoms sch b atoms m → length set ≡ setSize
+unfolding heldAtoms
+held-long sch b atoms m set e = ap length e ∙ length-maskOf setSize (λ n. testBit atoms n && testBit m (ground sch b n))

@@ -7,7 +7,7 @@ ghost use Prim.Native.Nat.{ℕ, _≤_};
 ghost use lib.ListN.{length};
 ghost use Rattle.limits.specs.Limits.{setSize, stateSize, atomsPerRelation};
 ghost use Rattle.mask.specs.Bits.{testBit};
-ghost use Rattle.mask.specs.Sets.{number};
+ghost use Rattle.mask.specs.Sets.{number, empty};
 ghost use Rattle.terms.specs.Schema.{schema};
 ghost use Rattle.terms.specs.Steps.{ground};
 ghost use Rattle.atoms.specs.Atoms.{atomsEnd};
@@ -53,11 +53,11 @@ fn held_word(book: &[u8], h: Sections, xs: [usize; 4], state: &[u8], n: usize) -
     ensures { λ w. ⌜ ForBindings xs (λ b. w ≡ number (λ j. testBit (now (state .entry)) (ground (schema h (now (book .entry))) b j)) n atomsPerRelation) ⌝ }
 {
     let places = h.places(book, terms::atom_relation(n));
-    factgroups::values_at(
-        factgroups::placement_of(places, xs, n),
-        factgroups::columns_of(places, xs),
-        state,
-    )
+    let p = factgroups::placement_of(places, xs, n);
+    if 1 < places {
+        return factgroups::values_at(p, xs, state);
+    }
+    factgroups::values_alone(p, state)
 }
 
 // Those of them that are asked for. Where none is, no group is read.
@@ -72,20 +72,26 @@ fn asked_word(book: &[u8], h: Sections, xs: [usize; 4], atoms: &[u8], state: &[u
     asked & held_word(book, h, xs, state, n)
 }
 
-// Which bound facts of a set hold in a state for a step's objects, relation by relation.
-pub fn held_atoms(book: &[u8], h: Sections, b: Binding, atoms: &[u8], state: &[u8]) -> [u8; 32]
-    requires { ⌜ Bounded b × (length (now atoms) ≡ setSize) × (length (now state) ≡ stateSize)
+// Puts into an empty set which bound facts of a set hold in a state for a step's objects, relation by relation. The set is lent: one that is returned is
+// copied at once, and the copy waits for the words just stored.
+pub fn mark_held(
+    book: &[u8],
+    h: Sections,
+    b: Binding,
+    atoms: &[u8],
+    state: &[u8],
+    set: &mut [u8; 32],
+)
+    requires { ⌜ Bounded b × (length (now atoms) ≡ setSize) × (length (now state) ≡ stateSize) × (now set ≡ empty setSize)
         × ((n : ℕ) → atomsEnd (h .relations .count) ≤ n → testBit (now atoms) n ≡ false) ⌝ }
-    ensures { λ r. ⌜ r ≡ heldAtoms (schema h (now (book .entry))) b (now (atoms .entry)) (now (state .entry)) ⌝ }
+    ensures { λ _. ⌜ now (set .exit) ≡ heldAtoms (schema h (now (book .entry))) b (now (atoms .entry)) (now (state .entry)) ⌝ }
 {
     let xs = indices(b);
     let end = atoms::atoms_end(h.relations.count);
-    let mut set = mask::empty32();
     let mut n = 0;
     while n < end {
         let bits = asked_word(book, h, xs, atoms, state, n);
-        atoms::store_word(&mut set, n, bits as u32);
+        atoms::store_word(set, n, bits as u32);
         n += limits::ATOMS_PER_RELATION;
     }
-    set
 }

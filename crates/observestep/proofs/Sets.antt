@@ -20,14 +20,14 @@ set-back f at k l m e d =
     rw (d, e, drop-drop 32 at l) (sym (append-assoc (take at l) (f (take 32 (drop at l))) (drop (at + 32) l)))
 
 -- what came back of a lent set is put where it was
-module _ (at : ℕ) (l m other : List ℕ) where
-  pub narrowed-back : m ≡ intersection (midOf at (at + 32 - at) l) other → putMid at (at + 32 - at) l m ≡ narrowed at other l
+module _ (at end : ℕ) (l m other : List ℕ) (ends : end ≡ at + 32) where
+  pub narrowed-back : m ≡ intersection (midOf at (end - at) l) other → putMid at (end - at) l m ≡ narrowed at other l
   unfolding narrowed
-  narrowed-back e = set-back (λ x. intersection x other) at (at + 32 - at) l m (omega arith) e
+  narrowed-back e = set-back (λ x. intersection x other) at (end - at) l m (omega (arith, ends)) e
 
-  pub widened-back : m ≡ union (midOf at (at + 32 - at) l) other → putMid at (at + 32 - at) l m ≡ widened at other l
+  pub widened-back : m ≡ union (midOf at (end - at) l) other → putMid at (end - at) l m ≡ widened at other l
   unfolding widened
-  widened-back e = set-back (λ x. union x other) at (at + 32 - at) l m (omega arith) e
+  widened-back e = set-back (λ x. union x other) at (end - at) l m (omega (arith, ends)) e
 
 module _ (a : ℕ) (before after l l₁ l₂ l₃ l₄ l₅ l₆ : List ℕ) (at₁ at₂ at₃ at₄ at₅ at₆ : ℕ) where
   pub noted-by : (1 ≤ a) × (a ≤ maxMoves) × (length l ≡ observedSize)

@@ -20,21 +20,20 @@ use answer::Answer;
 use terms::Move;
 use terms::Sections;
 
-// ---- after a step: its sets come by value, so that they share no memory with what is observed
+// ---- after a step: its sets come by value, so that they share no memory with what is observed. Where a set ends is given: were it computed here, the
+// compiler would write out each of these loops and call it, four times a step.
 
-fn narrow(observed: &mut [u8], at: usize, m: [u8; 32])
-    requires { ⌜ at + setSize ≤ length (now observed) ⌝ }
+fn narrow(observed: &mut [u8], at: usize, end: usize, m: [u8; 32])
+    requires { ⌜ (end ≡ at + setSize) × (end ≤ length (now observed)) ⌝ }
     ensures { λ _. ⌜ now (observed .exit) ≡ narrowed at m (now (observed .entry)) ⌝ }
 {
-    let end = at + limits::SET_SIZE;
     mask::intersect(&mut observed[at..end], &m);
 }
 
-fn widen(observed: &mut [u8], at: usize, m: [u8; 32])
-    requires { ⌜ at + setSize ≤ length (now observed) ⌝ }
+fn widen(observed: &mut [u8], at: usize, end: usize, m: [u8; 32])
+    requires { ⌜ (end ≡ at + setSize) × (end ≤ length (now observed)) ⌝ }
     ensures { λ _. ⌜ now (observed .exit) ≡ widened at m (now (observed .entry)) ⌝ }
 {
-    let end = at + limits::SET_SIZE;
     mask::unite(&mut observed[at..end], &m);
 }
 
@@ -52,26 +51,33 @@ fn note(observed: &mut [u8], a: Move, before: [u8; 32], after: [u8; 32])
     requires { ⌜ (1 ≤ a .0) × (a .0 ≤ maxMoves) × (length (now observed) ≡ observedSize) ⌝ }
     ensures { λ _. ⌜ now (observed .exit) ≡ noted (a .0) before after (now (observed .entry)) ⌝ }
 {
+    let always_before = observed::set_at(a, observed::ALWAYS_BEFORE);
+    let ever_before = observed::set_at(a, observed::EVER_BEFORE);
+    let always_after = observed::set_at(a, observed::ALWAYS_AFTER);
+    let ever_after = observed::set_at(a, observed::EVER_AFTER);
+    let added = observed::set_at(a, observed::ADDED);
+    let deleted = observed::set_at(a, observed::DELETED);
     narrow(
         observed,
-        observed::set_at(a, observed::ALWAYS_BEFORE),
+        always_before,
+        always_before + limits::SET_SIZE,
         before,
     );
-    widen(observed, observed::set_at(a, observed::EVER_BEFORE), before);
-    narrow(observed, observed::set_at(a, observed::ALWAYS_AFTER), after);
-    widen(observed, observed::set_at(a, observed::EVER_AFTER), after);
-    widen_by_change(
+    widen(
         observed,
-        observed::set_at(a, observed::ADDED),
+        ever_before,
+        ever_before + limits::SET_SIZE,
         before,
+    );
+    narrow(
+        observed,
+        always_after,
+        always_after + limits::SET_SIZE,
         after,
     );
-    widen_by_change(
-        observed,
-        observed::set_at(a, observed::DELETED),
-        after,
-        before,
-    );
+    widen(observed, ever_after, ever_after + limits::SET_SIZE, after);
+    widen_by_change(observed, added, before, after);
+    widen_by_change(observed, deleted, after, before);
 }
 
 // The offset of the first step that row 11 names, 0 for none: `named` of the steps before, and the step at `at` if it is `unbound`.
@@ -159,7 +165,15 @@ pub fn observe_turned(
     let list = at + limits::STEP_SIZE;
     let bound = observed::set_at(step.action, observed::BOUND);
     let end = bound + limits::SET_SIZE;
-    let before = grounding::held_atoms(s, h, step.binding, &observed[bound..end], state);
+    let mut before = mask::empty32();
+    grounding::mark_held(
+        s,
+        h,
+        step.binding,
+        &observed[bound..end],
+        state,
+        &mut before,
+    );
     let mut after = before;
     let turned = stepmasks::mark_turned(
         s,
@@ -188,13 +202,12 @@ fn first_sets(observed: &mut [u8], a: Move, atoms: [u8; 32])
     requires { ⌜ (1 ≤ a .0) × (a .0 ≤ maxMoves) × (length (now observed) ≡ observedSize) ⌝ }
     ensures { λ _. ⌜ now (observed .exit) ≡ firstSets (a .0) atoms (now (observed .entry)) ⌝ }
 {
-    widen(
-        observed,
-        observed::set_at(a, observed::ALWAYS_BEFORE),
-        atoms,
-    );
-    widen(observed, observed::set_at(a, observed::ALWAYS_AFTER), atoms);
-    widen(observed, observed::set_at(a, observed::BOUND), atoms);
+    let before = observed::set_at(a, observed::ALWAYS_BEFORE);
+    let after = observed::set_at(a, observed::ALWAYS_AFTER);
+    let bound = observed::set_at(a, observed::BOUND);
+    widen(observed, before, before + limits::SET_SIZE, atoms);
+    widen(observed, after, after + limits::SET_SIZE, atoms);
+    widen(observed, bound, bound + limits::SET_SIZE, atoms);
 }
 
 // The bound facts of all moves are made here, once for a book.

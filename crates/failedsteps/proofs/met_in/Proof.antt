@@ -14,25 +14,28 @@ observed-set-requires c κs =
     let move = asked-move _ _ _ _ p in
     ((p .book .begun .sized, rw e (move .0), rw e (move .1)), omega arith)
 
-held-atoms-requires : tie.Need-held-atoms-requires
-held-atoms-requires c κs =
-    let p = c .before .before .before .before .before .before .pre in
-    let e = c .before .before .read-step .ensures in
-    let o = c .before .observed-set .ensures in
-    (rw e (asked-bounded _ _ _ _ (p .0)), omega arith, p .1, rw (o, e) (asked-ended _ _ _ _ (p .0)))
+mark-held-requires : tie.Need-mark-held-requires
+mark-held-requires c κs =
+    let set = c .before .before .before in
+    let p = set .before .before .before .before .before .pre in
+    let e = set .before .read-step .ensures in
+    let o = set .observed-set .ensures in
+    (rw e (asked-bounded _ _ _ _ (p .0)), omega arith, p .1, c .before .before .empty32 .ensures, rw (o, e) (asked-ended _ _ _ _ (p .0)))
 
 needs-met-requires : tie.Need-needs-met-requires
 needs-met-requires c κs =
-    let p = c .before .before .before .before .before .before .before .pre .0 in
-    let e = ap (λ (step : Step). step .action .0) (c .before .before .before .read-step .ensures) in
+    let step = c .before .before .before .before .before in
+    let p = step .before .before .before .before .pre .0 in
+    let e = ap (λ (step : Step). step .action .0) (step .read-step .ensures) in
     let move = asked-move _ _ _ _ p in
     (p .book .begun .sized, rw e (move .0), rw e (move .1))
 
 returns : tie.Need-returns
 returns c =
-    let o = c .before .before .before in
-    met-by _ _ _ _ _ _ _ _ (o .before .read-step .ensures) (o .observed-set .ensures) (c .before .held-atoms .ensures) (c .needs-met .ensures)
+    let held = c .before in
+    let o = held .before .before .before .before in
+    met-by _ _ _ _ _ _ _ _ (o .before .read-step .ensures) (o .observed-set .ensures) (held .mark-held .ensures) (c .needs-met .ensures)
 
 pub met-in-spec : {M : Type 1} → statement M
 met-in-spec =
-    tie.close (tie.spec (λ c κs. search needs) observed-set-requires (λ c. search needs) held-atoms-requires needs-met-requires returns)
+    tie.close (tie.spec (λ c κs. search needs) observed-set-requires (λ c κs. search needs) (λ c. search needs) mark-held-requires needs-met-requires returns)

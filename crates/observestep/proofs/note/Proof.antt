@@ -13,14 +13,20 @@ widen-by-change-requires-2 c κs =
 returns : tie.Need-returns
 returns c =
     let x₆ = c .before .before in
-    let x₅ = x₆ .before .before .before .before .before in
-    let x₄ = x₅ .before .before .before .before .before in
-    let x₃ = x₄ .before .before .before .before .before in
-    let x₂ = x₃ .before .before .before .before .before in
-    let x₁ = x₂ .before .before .before .before .before in
-    noted-by _ _ _ _ _ _ _ _ _ _ _ _ _ _ _ _ (x₁ .before .before .before .before .pre)
-    (x₁ .before .set-at .ensures .0) (x₂ .before .set-at2 .ensures .0) (x₃ .before .set-at3 .ensures .0)
-    (x₄ .before .set-at4 .ensures .0) (x₅ .before .set-at5 .ensures .0) (x₆ .before .set-at6 .ensures .0)
+    let x₅ = x₆ .before .before .before .before in
+    let x₄ = x₅ .before .before .before .before in
+    let x₃ = x₄ .before .before .before .before in
+    let x₂ = x₃ .before .before .before .before in
+    let x₁ = x₂ .before .before .before .before in
+    let at₆ = x₁ .before .before in
+    let at₅ = at₆ .before in
+    let at₄ = at₅ .before in
+    let at₃ = at₄ .before in
+    let at₂ = at₃ .before in
+    let at₁ = at₂ .before in
+    noted-by _ _ _ _ _ _ _ _ _ _ _ _ _ _ _ _ (at₁ .before .before .pre)
+    (at₁ .set-at .ensures .0) (at₂ .set-at2 .ensures .0) (at₃ .set-at3 .ensures .0)
+    (at₄ .set-at4 .ensures .0) (at₅ .set-at5 .ensures .0) (at₆ .set-at6 .ensures .0)
     (x₁ .narrow .ensures) (x₂ .widen .ensures) (x₃ .narrow2 .ensures) (x₄ .widen2 .ensures)
     (x₅ .widen-by-change .ensures) (x₆ .widen-by-change2 .ensures)
 
@@ -28,5 +34,5 @@ pub note-spec : {M : Type 1} → statement M
 note-spec =
     tie.close
     (tie.spec (λ c κs. search needs) (λ c κs. search needs) (λ c κs. search needs) (λ c κs. search needs) (λ c κs. search needs) (λ c κs. search needs)
-    (λ c κs. search needs) (λ c κs. search needs) (λ c κs. search needs) (λ c κs. search needs) (λ c κs. search needs) widen-by-change-requires-2
-    (λ c. search needs) returns)
+    (λ c. search needs) (λ c κs. search needs) (λ c. search needs) (λ c κs. search needs) (λ c. search needs) (λ c κs. search needs)
+    (λ c. search needs) (λ c κs. search needs) (λ c κs. search needs) widen-by-change-requires-2 (λ c. search needs) returns)
