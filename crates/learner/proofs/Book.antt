@@ -24,7 +24,7 @@ use Rattle.observed.specs.Rules.{unboundAnswer, conflictAmong, sheetObserved, r
 use Rattle.observed.specs.Begun.{Begun}
 use Rattle.onewalk.proofs.Sections.{nothing-alone}
 use Rattle.onewalk.proofs.OneWalk.{observed-taught, observed-seen, refuted-held, unrefuted-held}
-use Rattle.observerecords.specs.declared.Walked.{Walked}
+use Rattle.observerecords.specs.declared.noticed.Walked.{Walked}
 use Rattle.observerecords.specs.Observing.{heldWith, IsHeld, RecordsObserved}
 use Rattle.learner.specs.Learner.{FormObserved, BookObserved, LearnOutcome}
 

@@ -9,7 +9,7 @@ use Rattle.format.specs.Form.{Form}
 use Rattle.format.specs.LookOver.{lookOver}
 use Rattle.observed.specs.Observed.{observedOf}
 use Rattle.jobs.specs.Learn.{learnable, learn, learnBytes}
-use Rattle.observerecords.specs.declared.Walked.{Walked}
+use Rattle.observerecords.specs.declared.noticed.Walked.{Walked}
 use Rattle.observerecords.specs.Observing.{IsHeld}
 
 -- rows 1 to 10 and 27, and what is held where they are good

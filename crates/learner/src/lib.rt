@@ -3,7 +3,7 @@
 // Uses sections and observerecords for the rows of the form, observestep for what is observed before any record, rulesheet and conflicts for what comes of what is
 // observed, failedsteps for row 28, answer, limits and terms, and the definitions of jobs and observed.
 use answer::Answer;
-use observerecords::Walked;
+use observerecords::noticed::Walked;
 use terms::Sections;
 ghost use mathlib.Core.Path.{_≡_};
 ghost use Prim.Native.Nat.{ℕ};
@@ -23,7 +23,7 @@ fn observe_form(s: &[u8], short: bool, h: Sections, observed: &mut [u8]) -> Walk
 {
     let a = sections::sections(s, h);
     if answer::is_refused(a) {
-        return observerecords::stopped(a);
+        return observerecords::noticed::stopped(a);
     }
     observestep::nothing_seen(s, h, observed);
     observerecords::walk::records(

@@ -28,8 +28,8 @@ use Rattle.records.specs.Readable.{schemaIn, scopeOf, Readable}
 use Rattle.observed.specs.Observed.{Observed, observeAll}
 use Rattle.observed.specs.Begun.{Begun}
 use Rattle.observed.proofs.Records.{observed-record}
-use Rattle.observerecords.specs.declared.Noticed.{Noticed}
-use Rattle.observerecords.specs.declared.Walked.{Walked}
+use Rattle.observerecords.specs.declared.noticed.Noticed.{Noticed}
+use Rattle.observerecords.specs.declared.noticed.Walked.{Walked}
 use Rattle.observerecords.specs.Observing.{IsHeld, Observable, Observes, RecordObserved}
 
 -- ---- a refusal says nothing of what is observed

@@ -13,7 +13,7 @@ use Rattle.format.specs.Parts.{recordPart, recordsAt}
 use Rattle.format.specs.Records.{recordAt}
 use Rattle.observed.specs.Observed.{Observed, observedAfter, observedAfterAll}
 use Rattle.observed.proofs.Records.{held-none, held-more}
-use Rattle.observerecords.specs.declared.Noticed.{Noticed}
+use Rattle.observerecords.specs.declared.noticed.Noticed.{Noticed}
 use Rattle.observerecords.specs.Observing.{heldWith, IsHeld, RecordsObserved}
 use Rattle.observerecords.proofs.Steps.{held-path, path-held}
 

@@ -33,7 +33,7 @@ use Rattle.records.proofs.Going.{Going, going-first, going-on}
 use Rattle.observestep.specs.declared.Noted.{Noted}
 use Rattle.observestep.specs.Notes.{IsObserved}
 use Rattle.observerecords.proofs.Ready.{listed-whole, step-move}
-use Rattle.observerecords.specs.declared.Noticed.{Noticed}
+use Rattle.observerecords.specs.declared.noticed.Noticed.{Noticed}
 use Rattle.observerecords.specs.Observing.{heldWith, IsHeld, Observable, Ready, Done}
 
 pub held-path : (h : Observed) (bytes : List ℕ) (noticed : Noticed) → IsHeld h bytes noticed → heldWith bytes noticed ≡ h
@@ -58,27 +58,29 @@ module _ (x : RecordedStep) (masks : List ℕ) (noticed : Noticed) (masks′ : L
   abbrev unnoticed : Observed
   unnoticed = record { masks = masks; named = noticed .named; failed = false }
 
-  noticed-step : IsObserved (observe x unnoticed) masks′ named′ → IsHeld (observe x (heldWith masks noticed)) masks′ (record { named = named′; failed = noticed .failed || not (x .went) })
+  abbrev HeldAfter : Type 0
+  HeldAfter = IsHeld (observe x (heldWith masks noticed)) masks′ (record { named = named′; failed = noticed .failed || not (x .went) })
+
+  noticed-step : IsObserved (observe x unnoticed) masks′ named′ → HeldAfter
   unfolding heldWith observeBy failureSeen
   noticed-step o = go (decide (x .went))
     where
-      go : (x .went ≡ true) ⊎ (x .went ≡ false) → IsHeld (observe x (heldWith masks noticed)) masks′ (record { named = named′; failed = noticed .failed || not (x .went) })
-      go (inl e) =
-          let was = observe-went x unnoticed e in
-          let is = observe-went x (heldWith masks noticed) e in
+      -- observed from either, the step comes to the same masks and the same name; `b` is whether some step did not go then
+      alike : (ms : List ℕ) (n : ℕ) (u b : Bool)
+          → observe x unnoticed ≡ record { masks = ms; named = n; failed = u }
+          → observe x (heldWith masks noticed) ≡ record { masks = ms; named = n; failed = b }
+          → (noticed .failed || not (x .went)) ≡ b
+          → HeldAfter
+      alike ms n u b was is e =
           record {
             masks = o .masks ∙ ap (λ h. h .masks) was ∙ sym (ap (λ h. h .masks) is);
             named = o .named ∙ ap (λ h. h .named) was ∙ sym (ap (λ h. h .named) is);
-            failed = still (noticed .failed) (x .went) e ∙ sym (ap (λ h. h .failed) is);
+            failed = e ∙ sym (ap (λ h. h .failed) is);
           }
-      go (inr e) =
-          let was = observe-failed x unnoticed e in
-          let is = observe-failed x (heldWith masks noticed) e in
-          record {
-            masks = o .masks ∙ ap (λ h. h .masks) was ∙ sym (ap (λ h. h .masks) is);
-            named = o .named ∙ ap (λ h. h .named) was ∙ sym (ap (λ h. h .named) is);
-            failed = from-now (noticed .failed) (x .went) e ∙ sym (ap (λ h. h .failed) is);
-          }
+
+      go : (x .went ≡ true) ⊎ (x .went ≡ false) → HeldAfter
+      go (inl e) = alike _ _ _ _ (observe-went x unnoticed e) (observe-went x (heldWith masks noticed) e) (still (noticed .failed) (x .went) e)
+      go (inr e) = alike _ _ _ _ (observe-failed x unnoticed e) (observe-failed x (heldWith masks noticed) e) (from-now (noticed .failed) (x .went) e)
 
 -- Where the loop stands: the steps left answer as all do (records/proofs/Going), the facts before them are stood for, and what is observed with them
 -- after what was is the whole.

@@ -26,8 +26,8 @@ use Rattle.observed.specs.Begun.{Begun}
 use Rattle.observestep.specs.declared.Noted.{Noted}
 use Rattle.format.specs.Decode.{recordedStep}
 use Rattle.observestep.specs.Notes.{IsObserved}
-use Rattle.observerecords.specs.declared.Noticed.{Noticed}
-use Rattle.observerecords.specs.declared.Walked.{Walked}
+use Rattle.observerecords.specs.declared.noticed.Noticed.{Noticed}
+use Rattle.observerecords.specs.declared.noticed.Walked.{Walked}
 
 -- ---- what is held
 

@@ -1,17 +1,21 @@
 // One record of a book looked over and observed at once, rows 6 to 10 and 27: each list of facts is read once for both, and the state of a short book's record is
 // carried on once.
-// Uses records for the parts of a record that are no lists, states for the first state, observestep for a list behind a step, lifting for the table that it is
-// lent, turning for a short book's state, tables, mask, answer, limits, terms, and the definitions of format and observed.
+// Uses noticed for what the walk over steps notices, records for the parts of a record that are no lists, states for the first state, observestep for a list behind
+// a step, lifting for the table that it is lent, turning for a short book's state, filed, tables, mask, answer, limits, terms, and the definitions of format and
+// observed.
+pub mod noticed; // what a walk notices and comes to
 pub mod walk; // the records of a book, one after the other
 
 use answer::Answer;
+use noticed::Noticed;
+use noticed::Walked;
 use observestep::Noted;
 use records::Scope;
 use terms::Head;
 use terms::Sections;
 ghost use mathlib.Core.Path.{_≡_};
-ghost use mathlib.Core.Bool.{true, false, _||_, not};
-ghost use Prim.Native.Nat.{ℕ, _+_, _≤_, _<_};
+ghost use mathlib.Core.Bool.{true};
+ghost use Prim.Native.Nat.{ℕ, _+_, _≤_};
 ghost use lib.ListN.{length};
 ghost use Rattle.limits.specs.Limits.{maxLength, maxObjects, maxRelations, maxMoves, stepSize, stateSize, nearCeiling};
 ghost use Rattle.answer.specs.declared.Answer.the-variants.{Good};
@@ -32,59 +36,6 @@ ghost use Rattle.terms.specs.Head.{headOf};
 ghost use Rattle.records.specs.Readable.{schemaIn, typedIn, stepListed};
 ghost use Rattle.lifting.specs.Pairs.{noDigits};
 ghost use Rattle.observerecords.specs.Observing.{heldWith, CanObserve, Observable, ObservableBy, Ready, Whole, DoneReady, Observes, RecordObserved};
-
-// What is held beside the masks: the offset of the first step that row 11 names, 0 where none is, and whether some step did not go.
-pub struct Noticed {
-    pub named: usize,
-    pub failed: bool,
-}
-
-// What a walk over records comes to: its answer, and what it noticed.
-pub struct Walked {
-    pub answer: Answer,
-    pub noticed: Noticed,
-}
-
-// Before any record.
-pub fn nothing_noticed() -> Noticed
-    ensures { λ r. ⌜ r ≡ record { named = 0; failed = false } ⌝ }
-{
-    Noticed {
-        named: 0,
-        failed: false,
-    }
-}
-
-// A walk that came to a refusal, by which nothing is noticed.
-pub fn stopped(answer: Answer) -> Walked
-    ensures { λ r. ⌜ r ≡ record { answer = answer; noticed = record { named = 0; failed = false } } ⌝ }
-{
-    Walked {
-        answer,
-        noticed: nothing_noticed(),
-    }
-}
-
-// A walk that came to its end.
-pub fn ended(value: usize, noticed: Noticed) -> Walked
-    ensures { λ r. ⌜ r ≡ record { answer = Good value; noticed = noticed } ⌝ }
-{
-    Walked {
-        answer: Answer::Good(value),
-        noticed,
-    }
-}
-
-// What is noticed after the step at an offset, by the step that row 11 names then and whether some step before it did not go.
-fn notice(s: &[u8], at: usize, named: usize, failed: bool) -> Noticed
-    requires { ⌜ at < length (now s) ⌝ }
-    ensures { λ r. ⌜ r ≡ record { named = named; failed = failed || not (wentAt (now (s .entry)) at) } ⌝ }
-{
-    Noticed {
-        named,
-        failed: failed | !filed::went(s, at),
-    }
-}
 
 // The list behind a step that did not go, looked over. Nothing is observed; in a short book its facts turn.
 fn pass_list(
@@ -221,14 +172,14 @@ fn observe_steps(
         let answer = r.answer;
         match answer {
             Answer::Refused(k, p) => {
-                return stopped(Answer::Refused(k, p));
+                return noticed::stopped(Answer::Refused(k, p));
             }
             Answer::Good(next) => {
                 let after = records::step_after(s, c.short, pre, at, r.count, next);
                 if answer::is_refused(after) {
-                    return stopped(after);
+                    return noticed::stopped(after);
                 }
-                found = notice(s, at, r.named, found.failed);
+                found = noticed::notice(s, at, r.named, found.failed);
                 pre = at + limits::STEP_SIZE;
                 held = r.count;
                 at = next;
@@ -236,7 +187,7 @@ fn observe_steps(
         }
         left -= 1;
     }
-    ended(at, found)
+    noticed::ended(at, found)
 }
 
 // A state, then steps each with the state after it, as `records::trajectory`.
@@ -254,7 +205,7 @@ fn observe_trajectory(
 {
     let first = states::state(8, book, table, c.end, at);
     if answer::is_refused(first) {
-        return stopped(first);
+        return noticed::stopped(first);
     }
     observe_steps(
         book,
@@ -286,7 +237,7 @@ fn observe_body(
     let c = records::scope_of(short, h, head, at, end);
     let first = records::objects(s, h.kinds, end, head.objects as usize, c.objects.at);
     if answer::is_refused(first) {
-        return stopped(first);
+        return noticed::stopped(first);
     }
     let kinds = tables::kinds_of(s, h, s, c.objects);
     let table = tables::table_of(s, h, &kinds);
@@ -322,7 +273,7 @@ pub fn observe_record(
     let head = Head::read(s, at);
     let end = records::record_head(s, head, at);
     if answer::is_refused(end) {
-        return stopped(end);
+        return noticed::stopped(end);
     }
     observe_body(
         s,

@@ -1,8 +1,8 @@
 // The learner's walk over the records of a book, once and in file order: each looked over to its end, rows 6 to 10 and 27, and observed on the way.
-// Uses this crate's root for one record, reader for where the walk stands, records for the book's tail, answer, terms, and the definitions of format and
-// observed. Where a book is looked over alone, lookover walks, with nothing lent.
-use super::Noticed;
-use super::Walked;
+// Uses this crate's root for one record, noticed for what the walk comes to, reader for where it stands, records for the book's tail, answer, terms, and the
+// definitions of format and observed. Where a book is looked over alone, lookover walks, with nothing lent.
+use super::noticed::Noticed;
+use super::noticed::Walked;
 use answer::Answer;
 use reader::Reader;
 use terms::Head;
@@ -63,13 +63,13 @@ pub fn records(
     let mut left = n;
     let mut at = from;
     let mut total: usize = 0;
-    let mut noticed = super::nothing_noticed();
+    let mut noticed = super::noticed::nothing_noticed();
     while 0 < left {
         let w = observe_from(s, at, short, h, observed, noticed);
         let answer = w.answer;
         match answer {
             Answer::Refused(k, p) => {
-                return super::stopped(Answer::Refused(k, p));
+                return super::noticed::stopped(Answer::Refused(k, p));
             }
             Answer::Good(next) => {
                 let head = Head::read(s, at);

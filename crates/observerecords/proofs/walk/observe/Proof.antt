@@ -48,13 +48,13 @@ use Rattle.terms.proofs.Sections.Laws as N′
 use Rattle.reader.specs.declared.Reader.{Reader}
 use Rattle.reader.proofs.Reader.Laws as T′
 use Rattle.reader.proofs.Held.{Held, held-laws, Row, reader-twice, handed}
-use Rattle.observerecords.specs.declared.Noticed.{Noticed}
-use Rattle.observerecords.specs.declared.Walked.{Walked}
+use Rattle.observerecords.specs.declared.noticed.Noticed.{Noticed}
+use Rattle.observerecords.specs.declared.noticed.Walked.{Walked}
 use Rattle.observerecords.specs.Observing.{heldWith, CanObserve, RecordObserved}
-use Rattle.observerecords.proofs.Noticed as B
-use Rattle.observerecords.proofs.Noticed.Laws as B′
-use Rattle.observerecords.proofs.Walked as R
-use Rattle.observerecords.proofs.Walked.Laws as R′
+use Rattle.observerecords.proofs.noticed.Noticed as B
+use Rattle.observerecords.proofs.noticed.Noticed.Laws as B′
+use Rattle.observerecords.proofs.noticed.Walked as R
+use Rattle.observerecords.proofs.noticed.Walked.Laws as R′
 use Rattle.observerecords.proofs.Lent.{Tokens, Last, Given-up}
 use Rattle.observerecords.proofs.observe_record as work
 use Rattle.observerecords.proofs.observe_record.Symbol as work-def

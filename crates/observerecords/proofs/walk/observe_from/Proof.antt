@@ -53,13 +53,13 @@ use Rattle.reader.proofs.moved as moved
 use Rattle.reader.proofs.moved.Symbol as moved-def
 use Rattle.reader.proofs.moved.Symbol.{name as #reader·moved}
 use Rattle.reader.proofs.moved.Met as moved-thm
-use Rattle.observerecords.specs.declared.Noticed.{Noticed}
-use Rattle.observerecords.specs.declared.Walked.{Walked}
+use Rattle.observerecords.specs.declared.noticed.Noticed.{Noticed}
+use Rattle.observerecords.specs.declared.noticed.Walked.{Walked}
 use Rattle.observerecords.specs.Observing.{heldWith, CanObserve, RecordObserved}
-use Rattle.observerecords.proofs.Noticed as B
-use Rattle.observerecords.proofs.Noticed.Laws as B′
-use Rattle.observerecords.proofs.Walked as R
-use Rattle.observerecords.proofs.Walked.Laws as R′
+use Rattle.observerecords.proofs.noticed.Noticed as B
+use Rattle.observerecords.proofs.noticed.Noticed.Laws as B′
+use Rattle.observerecords.proofs.noticed.Walked as R
+use Rattle.observerecords.proofs.noticed.Walked.Laws as R′
 use Rattle.observerecords.proofs.Lent.{Tokens, Last, Given-up}
 use Rattle.observerecords.proofs.walk.observe as observe
 use Rattle.observerecords.proofs.walk.observe.Symbol as observe-def

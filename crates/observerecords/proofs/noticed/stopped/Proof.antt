@@ -1,7 +1,7 @@
--- `stopped` meets its contract.
+-- `noticed::stopped` meets its contract.
 use borrow.Author.Needs.{needs}
-use Rattle.observerecords.proofs.stopped.Statement.{statement}
-use Rattle.observerecords.proofs.stopped.Tie as tie
+use Rattle.observerecords.proofs.noticed.stopped.Statement.{statement}
+use Rattle.observerecords.proofs.noticed.stopped.Tie as tie
 
 returns : tie.Need-returns
 returns c = rw (c .nothing-noticed .ensures)

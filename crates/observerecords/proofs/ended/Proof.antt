@@ -1,7 +1,0 @@
--- `ended` meets its contract.
-use borrow.Author.Needs.{needs}
-use Rattle.observerecords.proofs.ended.Statement.{statement}
-use Rattle.observerecords.proofs.ended.Tie as tie
-
-pub ended-spec : {M : Type 1} → statement M
-ended-spec = tie.close (tie.spec (λ c. search needs))
