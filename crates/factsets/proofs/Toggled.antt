@@ -240,6 +240,11 @@ pub merge-both : (f : Fact) (fs ts : List Fact) → toggled (f ∷ fs) (f ∷ ts
 unfolding toggled
 merge-both f fs ts = ap (λ (l : List Fact). toggled l ts) (toggle-same f fs)
 
+-- all facts turned leave none
+pub toggled-self : (fs : List Fact) → toggled fs fs ≡ []
+toggled-self [] = toggled-nothing []
+toggled-self (f ∷ fs) = merge-both f fs fs ∙ toggled-self fs
+
 -- ---- length
 pub toggle-length-bound : (t : Fact) (fs : List Fact) → length (toggle t fs) ≤ suc (length fs)
 unfolding toggle

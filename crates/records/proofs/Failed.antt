@@ -3,7 +3,7 @@
 use Prim.Native.Nat.{ℕ, _+_}
 use mathlib.Core.Path.{_≡_, refl, sym, ap, _∙_}
 use mathlib.Core.Bool.{Bool, true, false, not}
-use mathlib.Core.List.{List, [], _∷_}
+use mathlib.Core.List.{List, []}
 use lib.Dec.{eqb}
 use lib.ListN.{length}
 use borrow.Author.Tests.{eqb-true, eq-eqb}
@@ -20,7 +20,7 @@ use Rattle.format.specs.Form.{Form, stateAfter}
 use Rattle.format.specs.Records.{failedChanges}
 use Rattle.factsets.specs.Right.{Increasing}
 use Rattle.factsets.proofs.States.{length-facts}
-use Rattle.factsets.proofs.Toggled.{toggled-back, toggled-nothing, merge-both}
+use Rattle.factsets.proofs.Toggled.{toggled-back, toggled-nothing, toggled-self}
 use Rattle.records.specs.Rows.{changesListed}
 
 -- row 27 by the lists, as the code meets it
@@ -36,11 +36,6 @@ module _ (form : Form) (s : List ℕ) (pre at : ℕ) (b : Bool) (told : b ≡ we
   pub listed-full : b ≡ false → form ≡ false → (same : Bool) → same ≡ sameFacts (listAt s pre) (listAt s (at + stepSize)) → not same ≡ changesListed form s pre at
   unfolding changesListed
   listed-full e full same compared = rw (← told, e, full, compared)
-
--- all facts turned leave none
-toggled-self : (fs : List Fact) → toggled fs fs ≡ []
-toggled-self [] = toggled-nothing []
-toggled-self (f ∷ fs) = merge-both f fs fs ∙ toggled-self fs
 
 -- a state stays as it was only if no fact turns
 unturned : (fs ts : List Fact) → Increasing noFact fs → Increasing noFact ts → fs ≡ toggled fs ts → ts ≡ []

@@ -1,22 +1,21 @@
 // Rows 6 to 10 and 27 of the refusal table, row 24 among them: one record of a book, to its end. In a short book the state is carried on from step to step.
 // Uses answer, input, limits, mask, terms, filed, tables, states, turning, and the definitions of format.
+mod unchanged; // row 27, of a step that did not go
+
 use answer::Answer;
-use terms::Fact;
 use terms::Head;
 use terms::Objects;
 use terms::Sections;
 ghost use mathlib.Core.Path.{_≡_};
 ghost use mathlib.Core.Bool.{false};
-ghost use Prim.Native.Nat.{_+_, _*_, _≤_};
+ghost use Prim.Native.Nat.{_+_, _≤_};
 ghost use lib.ListN.{length};
 ghost use Rattle.answer.specs.Walk.{walk};
 ghost use Rattle.terms.specs.Head.{headOf};
-ghost use Rattle.input.specs.Bytes.{two};
-ghost use Rattle.terms.specs.Facts.{sameFacts};
 ghost use Rattle.terms.specs.Schema.{schema, typedObjects};
-ghost use Rattle.limits.specs.Limits.{maxLength, maxObjects, maxRelations, maxTurns, factSize, stepSize, nearCeiling, farCeiling};
+ghost use Rattle.limits.specs.Limits.{maxLength, maxObjects, maxRelations, maxTurns, stepSize, nearCeiling};
 ghost use Rattle.format.specs.Filed.{filedFact};
-ghost use Rattle.format.specs.Lists.{factsAt, listAt, listEnd};
+ghost use Rattle.format.specs.Lists.{listAt};
 ghost use Rattle.format.specs.Form.{mostListed};
 ghost use Rattle.format.specs.States.{state};
 ghost use Rattle.format.specs.Records.{headBad, recordHead, object, stepRefused, steps, trajectory, closed, body, recordAt};
@@ -135,60 +134,6 @@ fn step(book: &[u8], c: Scope, kinds: &[u32; 256], table: &[u32; 512], at: usize
     )
 }
 
-// Whether two runs of facts, as many in each, are the same.
-fn same_facts(s: &[u8], n: usize, p: usize, q: usize) -> bool
-    requires { ⌜ (p + factSize * n ≤ length (now s)) × (q + factSize * n ≤ length (now s)) × (p + factSize * n ≤ farCeiling) × (q + factSize * n ≤ farCeiling) ⌝ }
-    ensures { λ r. ⌜ r ≡ sameFacts (factsAt (now (s .entry)) n p) (factsAt (now (s .entry)) n q) ⌝ }
-{
-    let mut left = n;
-    let mut i = p;
-    let mut j = q;
-    while 0 < left {
-        let f = Fact::read(s, i);
-        let g = Fact::read(s, j);
-        if !f.same(g) {
-            return false;
-        }
-        i += limits::FACT_SIZE;
-        j += limits::FACT_SIZE;
-        left -= 1;
-    }
-    true
-}
-
-// Whether two lists of facts are the same, the second of which has so many.
-fn same_lists(s: &[u8], p: usize, q: usize, count: u16) -> bool
-    requires { ⌜ (listEnd (now s) p ≤ length (now s)) × (listEnd (now s) q ≤ length (now s)) × (p ≤ nearCeiling) × (q ≤ nearCeiling) × (count ≡ two (now s) q) ⌝ }
-    ensures { λ r. ⌜ r ≡ sameFacts (listAt (now (s .entry)) p) (listAt (now (s .entry)) q) ⌝ }
-{
-    let n = input::two_at(s, p);
-    if count != n {
-        return false;
-    }
-    same_facts(
-        s,
-        n as usize,
-        p + limits::COUNT_SIZE,
-        q + limits::COUNT_SIZE,
-    )
-}
-
-// Row 27 of the step at an offset. In a full book the state before it is the list at `pre`.
-fn changes(s: &[u8], short: bool, pre: usize, at: usize) -> bool
-    requires { ⌜ StepsListed (now s) short pre at ⌝ }
-    ensures { λ r. ⌜ r ≡ changesListed short (now (s .entry)) pre at ⌝ }
-{
-    let list = at + limits::STEP_SIZE;
-    if filed::went(s, at) {
-        return false;
-    }
-    let count = input::two_at(s, list);
-    if short {
-        return count != 0;
-    }
-    !same_lists(s, pre, list, count)
-}
-
 // The step at an offset, once the list behind it is good, by how many facts hold after it: row 8 for too many, then row 27, else where the next step
 // starts.
 pub fn step_after(s: &[u8], short: bool, pre: usize, at: usize, held: usize, next: usize) -> Answer
@@ -198,7 +143,7 @@ pub fn step_after(s: &[u8], short: bool, pre: usize, at: usize, held: usize, nex
     if (limits::MAX_FACTS as usize) < held {
         return Answer::Refused(8, at + limits::STEP_SIZE);
     }
-    if changes(s, short, pre, at) {
+    if unchanged::changes(s, short, pre, at) {
         return Answer::Refused(27, at);
     }
     Answer::Good(next)

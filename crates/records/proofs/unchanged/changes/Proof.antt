@@ -3,8 +3,8 @@ use native.Mathlib.Omega.{arith}
 use Rattle.format.specs.Lists.{listEnd}
 use Rattle.records.proofs.Failed.{listed-went, listed-short, listed-full}
 use borrow.Author.Needs.{needs}
-use Rattle.records.proofs.changes.Statement.{statement}
-use Rattle.records.proofs.changes.Tie as tie
+use Rattle.records.proofs.unchanged.changes.Statement.{statement}
+use Rattle.records.proofs.unchanged.changes.Tie as tie
 
 went-requires : tie.Need-went-requires
 unfolding listEnd

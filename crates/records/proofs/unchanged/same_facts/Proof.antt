@@ -9,8 +9,8 @@ use Rattle.terms.specs.Facts.{sameFacts}
 use Rattle.format.specs.Lists.{factsAt}
 use Rattle.records.proofs.Compared.{runs-none, runs-differ, runs-on}
 use borrow.Author.Needs.{needs}
-use Rattle.records.proofs.same_facts.Statement.{statement}
-use Rattle.records.proofs.same_facts.Tie as tie
+use Rattle.records.proofs.unchanged.same_facts.Statement.{statement}
+use Rattle.records.proofs.unchanged.same_facts.Tie as tie
 
 abbrev Inv-loop : tie.InvT-loop
 Inv-loop s n p q left₀ i₀ j₀ left i j =

@@ -3,8 +3,8 @@ use native.Mathlib.Omega.{arith}
 use Rattle.format.specs.Lists.{listEnd}
 use Rattle.records.proofs.Compared.{lists-differ, lists-alike}
 use borrow.Author.Needs.{needs}
-use Rattle.records.proofs.same_lists.Statement.{statement}
-use Rattle.records.proofs.same_lists.Tie as tie
+use Rattle.records.proofs.unchanged.same_lists.Statement.{statement}
+use Rattle.records.proofs.unchanged.same_lists.Tie as tie
 
 returns : tie.Need-returns
 returns c = lists-differ _ _ _ _ _ (c .before .two-at .ensures) (c .before .before .before .pre .4) (c .if1 .taken)
