@@ -1,5 +1,6 @@
 -- As if absent: wherever some model fits a book, plans come to what they would come to without the steps that did not go. Said over the recorded
--- steps, and not over another book's bytes: each step that went keeps its own two states, and a record that is left with none is no record of nothing.
+-- steps, each step that went with its own two states. It can't be said over the bytes of a book without those steps: a record that has no other would
+-- be left without steps, and be refused (24).
 use Prim.Native.Nat.{ℕ}
 use mathlib.Core.Path.{_≡_}
 use mathlib.Core.Logic.{_↔_}

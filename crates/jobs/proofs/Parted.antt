@@ -10,8 +10,8 @@ use Rattle.quantify.proofs.Chosen.{chosen-take, chosen-skip, chosen-none, chose
 use Rattle.quantify.proofs.Mapped.{mem-map-out}
 use Rattle.format.specs.Form.{Form}
 use Rattle.format.specs.Decode.{RecordedStep, placedAt, placedBy}
-use Rattle.model.specs.Domain.{Transition, Failed}
-use Rattle.jobs.specs.Planning.{transition, failed, wentSteps, failedSteps, schemaOf, stepsOfBook, transitionsOf, failedOf}
+use Rattle.model.specs.Domain.{Transition}
+use Rattle.jobs.specs.Planning.{transition, wentSteps, failedSteps, schemaOf, stepsOfBook, transitionsOf}
 
 pub went-in : (xs : List RecordedStep) {x : RecordedStep} → Mem x xs → x .went ≡ true → Mem x (wentSteps xs)
 unfolding wentSteps
@@ -20,10 +20,6 @@ went-in xs m e = chosen-in _ xs m e
 pub went-out : (xs : List RecordedStep) {x : RecordedStep} → Mem x (wentSteps xs) → Mem x xs × (x .went ≡ true)
 unfolding wentSteps
 went-out xs m = chosen-out _ xs m
-
-pub failed-in : (xs : List RecordedStep) {x : RecordedStep} → Mem x xs → x .went ≡ false → Mem x (failedSteps xs)
-unfolding failedSteps
-failed-in xs m e = chosen-in _ xs m (not-in _ e)
 
 pub failed-out : (xs : List RecordedStep) {x : RecordedStep} → Mem x (failedSteps xs) → Mem x xs × (x .went ≡ false)
 unfolding failedSteps
@@ -47,10 +43,6 @@ module _ (x : RecordedStep) (xs : List RecordedStep) where
   unfolding failedSteps
   failed-skip e = chosen-skip _ x xs (rw e)
 
-pub went-append : (xs ys : List RecordedStep) → wentSteps (xs ++ ys) ≡ wentSteps xs ++ wentSteps ys
-unfolding wentSteps
-went-append xs ys = chosen-append _ xs ys
-
 pub failed-append : (xs ys : List RecordedStep) → failedSteps (xs ++ ys) ≡ failedSteps xs ++ failedSteps ys
 unfolding failedSteps
 failed-append xs ys = chosen-append _ xs ys
@@ -69,19 +61,11 @@ pub failed-placed : (to : ℕ → ℕ) (xs : List RecordedStep) → failedSteps 
 unfolding failedSteps placedBy placedAt
 failed-placed to xs = chosen-map (λ x. not (x .went)) (λ x. not (x .went)) (λ x. placedAt (to (x .place)) x) (λ x. refl) xs
 
--- a transition of a book is a recorded step that went, and a failed execution one that did not
+-- a transition of a book is a recorded step that went
 pub transition-out : (form : Form) (s : List ℕ) {t : Transition} → Mem t (transitionsOf form s)
     → (x : RecordedStep) × Mem x (stepsOfBook form s) × (x .went ≡ true) × (transition (schemaOf s) x ≡ t)
 unfolding transitionsOf
 transition-out form s m =
     let (x, k, e) = mem-map-out (transition (schemaOf s)) (wentSteps (stepsOfBook form s)) m in
     let (l, went) = went-out (stepsOfBook form s) k in
-    (x, l, went, e)
-
-pub failure-out : (form : Form) (s : List ℕ) {u : Failed} → Mem u (failedOf form s)
-    → (x : RecordedStep) × Mem x (stepsOfBook form s) × (x .went ≡ false) × (failed (schemaOf s) x ≡ u)
-unfolding failedOf
-failure-out form s m =
-    let (x, k, e) = mem-map-out (failed (schemaOf s)) (failedSteps (stepsOfBook form s)) m in
-    let (l, went) = failed-out (stepsOfBook form s) k in
     (x, l, went, e)
