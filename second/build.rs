@@ -2,6 +2,9 @@
 //!
 //! Without an archive the bins still build and say that there is nothing to
 //! compare with, so that the library and its tests never depend on it.
+//!
+//! With `CHANGEOVER_PLACE=n` the code of `bench` is linked 16 n bytes further on: how
+//! fast a loop is depends on where it lies, and a function lies anywhere that 16 divides.
 
 use std::env;
 use std::path::PathBuf;
@@ -9,7 +12,13 @@ use std::path::PathBuf;
 fn main() {
     println!("cargo:rustc-check-cfg=cfg(archive)");
     println!("cargo:rerun-if-env-changed=CHANGEOVER_LIB_DIR");
+    println!("cargo:rerun-if-env-changed=CHANGEOVER_PLACE");
     println!("cargo:rerun-if-changed=build.rs");
+    if let Some(place) = env::var("CHANGEOVER_PLACE").ok().and_then(|n| n.parse::<usize>().ok()) {
+        // Far behind whatever stands before the code.
+        let start = (1 << 24) + 16 * place;
+        println!("cargo:rustc-link-arg-bin=bench=-Wl,--section-start=.text={start:#x}");
+    }
 
     let folder = env::var_os("CHANGEOVER_LIB_DIR").map_or_else(default_folder, PathBuf::from);
     let archive = folder.join("libchangeover.a");
