@@ -48,7 +48,6 @@ static int fills(const uint8_t *move, unsigned parameter, uint8_t kind)
     return parameter == 0 ? kind == 0 : kind != 0 && move[parameter] == kind;
 }
 
-/* Of the last three sets a bound fact is in one at most. */
 static void print_rule(const uint8_t *sheet, unsigned move, unsigned relation, unsigned first,
                        unsigned second)
 {
@@ -58,9 +57,8 @@ static void print_rule(const uint8_t *sheet, unsigned move, unsigned relation, u
         in[set] = changeover_in_rules(sheet, move, (enum changeover_set)set, relation, first,
                                       second);
     printf("%u %u %u %u %c %c\n", move, relation, first, second,
-           "FH"[in[CHANGEOVER_NEEDED_TO_HOLD]],
-           "KARM"[in[CHANGEOVER_ADDED] + 2 * in[CHANGEOVER_REMOVED] +
-                  3 * in[CHANGEOVER_MAY_REMOVE]]);
+           "FHNB"[in[CHANGEOVER_NEEDED_TO_HOLD] + 2 * in[CHANGEOVER_NEEDED_NOT_TO_HOLD]],
+           "KAR"[in[CHANGEOVER_ADDED] + 2 * in[CHANGEOVER_REMOVED]]);
 }
 
 /*
@@ -94,11 +92,7 @@ static int learn(uint8_t *sheet)
     return 1;
 }
 
-/*
- * The order has one start, so the end sheet is written. Every fact of it is known
- * here: the record shows all that the roll changes. two_banks.c has a fact that is
- * open, and orders with several starts.
- */
+/* The order has one start, so the end sheet is written. two_banks.c has orders with several. */
 static int check(void)
 {
     uint8_t end[CHANGEOVER_END_LEN];
@@ -107,9 +101,9 @@ static int check(void)
                                         end, sizeof end)))
         return 0;
     for (unsigned spot = 2; spot <= 4; spot++) {
-        if (changeover_end_value(end, 1, 1, spot) == CHANGEOVER_HOLDS)
+        if (changeover_in_end(end, 1, 1, spot))
             printf("at the end the bank is at %u\n", spot);
-        if (changeover_end_value(end, 2, spot, 0) == CHANGEOVER_HOLDS)
+        if (changeover_in_end(end, 2, spot, 0))
             printf("at the end spot %u is clear\n", spot);
     }
     return 1;

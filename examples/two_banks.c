@@ -1,12 +1,11 @@
 /*
  * A hall with two banks and a lift (two_banks.h): its book is built with
  * builder.h, looked over and learned, plans (two_banks_plans.h) are checked, some
- * of them from several starts, and records are added. By the book of one record a
- * fact is open at the end of a plan, and by the book of two it is known; by that of
- * four a plan passes that was refused before. Then records of a roll that did not go
- * are added: by the first the rules stay, by the second no rule list fits the book.
- * What is printed (two_banks_print.h) says why. The exit status is 0 if each answer
- * is the one that was to come.
+ * of them from several starts, and a record is added, by which a plan passes that
+ * was refused before. Then records of a roll that did not go are added: by the first
+ * the rules stay, by the second no rule list fits the book. What is printed
+ * (two_banks_print.h) says why. The exit status is 0 if each answer is the one that
+ * was to come.
  */
 #include "changeover.h"
 #include "two_banks.h"
@@ -17,7 +16,7 @@
 #include <stdio.h>
 #include <string.h>
 
-/* A book, a record or an order; the longest here has 496 bytes. */
+/* A book, a record or an order; the longest here has 403 bytes. */
 struct bytes {
     uint8_t at[500];
     size_t len;
@@ -108,31 +107,17 @@ static struct plan from_start(const struct plan *plan, size_t position)
     return alone;
 }
 
-/*
- * What is known after the first so many steps of a plan, from one of its starts: the
- * end sheet of these steps with no goal. They pass, unless the plan stops at one of
- * them.
- */
-static int known_after(const struct bytes *book, const struct plan *plan, size_t steps,
-                       size_t position, uint8_t *end)
-{
-    struct plan front = from_start(plan, position);
-
-    front.goal_count = 0;
-    front.step_count = steps;
-    return changeover_ok(check(book, &front, end));
-}
-
 /* With more than one start the end sheet is not written; so each start is checked alone. */
 static void print_ends(const struct bytes *book, const struct plan *plan)
 {
     uint8_t end[CHANGEOVER_END_LEN];
 
     for (size_t i = 1; i <= plan->start_count; i++) {
+        struct plan alone = from_start(plan, i);
         char when[40];
 
         snprintf(when, sizeof when, "at the end, from start %u", (unsigned)i);
-        if (known_after(book, plan, plan->step_count, i, end))
+        if (changeover_ok(check(book, &alone, end)))
             print_end(end, when);
     }
 }
@@ -147,40 +132,43 @@ static struct fact fact_in_step(const struct fact *bound, const struct step *ste
     return fact;
 }
 
-/* Which needs of a step are unmet. The check gives the numbers of the step and the start alone. */
+/*
+ * Which needs of a step are unmet. The check gives only the numbers of the step
+ * and of the start; but from that start alone the plan up to that step, with no
+ * goal, passes, and its end sheet has the facts that hold before the step.
+ */
 static void print_unmet(const struct bytes *book, const uint8_t *sheet, const struct plan *plan,
                         size_t number, size_t position)
 {
     const struct step *step = &plan->steps[number - 1];
+    struct plan up_to_step = from_start(plan, position);
     struct fact bound[FACTS_MAX];
     size_t count = all_facts(moves[step->move - 1].kinds, 4, bound);
     uint8_t end[CHANGEOVER_END_LEN];
 
-    if (!known_after(book, plan, number - 1, position, end))
+    up_to_step.goal_count = 0;
+    up_to_step.step_count = number - 1;
+    if (!changeover_ok(check(book, &up_to_step, end)))
         return;
     for (size_t i = 0; i < count; i++) {
         struct fact fact = fact_in_step(&bound[i], step);
-        enum changeover_value known = value(end, &fact);
+        int needed = need(sheet, step->move, &bound[i]);
 
-        if (need(sheet, step->move, &bound[i]) && known != CHANGEOVER_HOLDS) {
+        if (needed & (in_end(end, &fact) ? 2 : 1)) {
             printf("    unmet: ");
             print_fact(hall_words, &fact);
-            printf(", which %s\n", value_words[known]);
+            printf(", %s\n", need_words[needed]);
         }
     }
 }
 
 /* Entries are numbered as they stand in the order, sorted; so the entry is read there. */
-static void print_missed(const struct bytes *book, const struct plan *plan, size_t number,
-                         size_t position)
+static void print_missed(const struct plan *plan, size_t number)
 {
     struct bytes order;
     const uint8_t *entry;
     struct fact fact;
-    uint8_t end[CHANGEOVER_END_LEN];
 
-    if (!known_after(book, plan, plan->step_count, position, end))
-        return;
     make_order(&order, plan);
     entry = order.at + (order.at[12] << 8 | order.at[13]) + 4 * (number - 1);
     fact.relation = entry[1];
@@ -188,8 +176,7 @@ static void print_missed(const struct bytes *book, const struct plan *plan, size
     fact.second = entry[3];
     printf("    missed: ");
     print_fact(hall_words, &fact);
-    printf(", which %s, but %s\n", entry[0] ? "shall hold" : "shall not hold",
-           value_words[value(end, &fact)]);
+    printf(", which %s\n", entry[0] ? "shall hold" : "shall not hold");
 }
 
 /* Checks a plan, which must have this number, place and position, and prints why. */
@@ -215,7 +202,7 @@ static int checked(const struct bytes *book, const uint8_t *sheet, const struct 
     if (number == CHANGEOVER_NEED_UNMET)
         print_unmet(book, sheet, plan, place, position);
     else
-        print_missed(book, plan, place, position);
+        print_missed(plan, place);
     return 1;
 }
 
@@ -238,8 +225,8 @@ static int add(const struct bytes *book, size_t count, struct bytes *longer)
 
 /*
  * Adds the two records of a roll that did not go. Before the first, one of the roll's
- * learned needs does not hold: "to level". Before the second all of them hold, and
- * still the bank did not roll.
+ * learned needs is unmet: "to raised" is needed not to hold. Before the second all of
+ * them are met, and still the bank did not roll.
  */
 static int add_failed(const struct bytes *book, const uint8_t *sheet)
 {
@@ -258,53 +245,39 @@ static int add_failed(const struct bytes *book, const uint8_t *sheet)
     printf("    record 6: %s\n", records[5].words);
     answer = changeover_learn(met.at, met.len, CHANGEOVER_FULL, later, sheet_len);
     print_answer("  ", answer);
-    return expect(answer, CHANGEOVER_ALL_NEEDS_MET, 477, 0);
-}
-
-/*
- * In the record of the first book no bank is turned, so a roll may remove "turned":
- * from start 2 it is open at the end whether bank 1 is turned, and a goal entry about
- * it is missed. In the second record a turned bank rolls and stays turned: then it is
- * known.
- */
-static int settle(const struct bytes *first, const uint8_t *first_sheet, struct bytes *second,
-                  uint8_t *second_sheet)
-{
-    if (!checked(first, first_sheet, &move_up, CHANGEOVER_SUCCESS, 2, 0) ||
-        !checked(first, first_sheet, &unturned, CHANGEOVER_GOAL_MISSED, 3, 2) ||
-        !add(first, 1, second) || !learn(second, 2, 5, second_sheet))
-        return 0;
-    print_rules(second_sheet, first_sheet);
-    return checked(second, second_sheet, &move_up, CHANGEOVER_SUCCESS, 2, 0);
+    return expect(answer, CHANGEOVER_ALL_NEEDS_MET, 390, 0);
 }
 
 int main(void)
 {
-    struct bytes first, second, book, longer;
-    uint8_t first_sheet[CHANGEOVER_SHEET_MAX], second_sheet[CHANGEOVER_SHEET_MAX];
-    uint8_t sheet[CHANGEOVER_SHEET_MAX], longer_sheet[CHANGEOVER_SHEET_MAX];
+    struct bytes first, book, longer;
+    uint8_t first_sheet[CHANGEOVER_SHEET_MAX], sheet[CHANGEOVER_SHEET_MAX];
+    uint8_t longer_sheet[CHANGEOVER_SHEET_MAX];
 
     make_book(&first, 1);
     if (!learn(&first, 1, 2, first_sheet))
         return 1;
     print_rules(first_sheet, NULL);
+
+    printf("\n");
+    make_book(&book, 3);
+    if (!learn(&book, 3, 8, sheet))
+        return 1;
+    print_rules(sheet, first_sheet);
+
     print_starts();
-    if (!settle(&first, first_sheet, &second, second_sheet))
-        return 1;
 
-    /* The last plan fails from start 2 by 20, and from start 3 by 19: start 2 is told of. */
-    if (!checked(&second, second_sheet, &one_start_more, CHANGEOVER_NEED_UNMET, 1, 3) ||
-        !checked(&second, second_sheet, &unturned, CHANGEOVER_GOAL_MISSED, 3, 2))
-        return 1;
-
-    if (!add(&second, 2, &book) || !learn(&book, 3, 8, sheet))
-        return 1;
-    print_rules(sheet, second_sheet);
     if (!checked(&book, sheet, &swap, CHANGEOVER_SUCCESS, 4, 0) ||
         !checked(&book, sheet, &no_turn, CHANGEOVER_GOAL_MISSED, 4, 1) ||
         !checked(&book, sheet, &onto_raised, CHANGEOVER_NEED_UNMET, 2, 1) ||
         !checked(&book, sheet, &back, CHANGEOVER_NEED_UNMET, 2, 1) ||
         !checked(&book, sheet, &high, CHANGEOVER_NEED_UNMET, 2, 1))
+        return 1;
+
+    /* The last plan fails from start 2 by 20, and from start 3 by 19: start 2 is told of. */
+    if (!checked(&book, sheet, &move_up, CHANGEOVER_SUCCESS, 2, 0) ||
+        !checked(&book, sheet, &one_start_more, CHANGEOVER_NEED_UNMET, 1, 3) ||
+        !checked(&book, sheet, &unturned, CHANGEOVER_GOAL_MISSED, 3, 2))
         return 1;
 
     if (!add(&book, 3, &longer) || !learn(&longer, 4, 11, longer_sheet))

@@ -12,7 +12,7 @@
 
 /* The numbers of the book. They count from 1. */
 enum { BANK = 1, SPOT, LIFT, WAGON, KINDS = WAGON };
-enum { AT = 1, CLEAR, TURNED, UNDER, LEVEL, RELATIONS = LEVEL };
+enum { AT = 1, CLEAR, TURNED, UNDER, RAISED, RELATIONS = RAISED };
 enum { ROLL = 1, TURN, TURN_BACK, RAISE, LOWER, MOVES = LOWER };
 
 /* A wagon is a bank: what is asked of a bank a wagon does too, and what banks taught holds for it. */
@@ -24,14 +24,12 @@ struct relation {
 };
 
 /*
- * A spot is level with the floor, unless the lift under it is raised. A move can only
- * need that a fact holds, and only facts over its own parameters: so it is not the
- * lift that is raised, but the spot that is level. Roll has spots among its
- * parameters, and no lift.
+ * What is raised is the spot and not the lift under it: a move can only need
+ * facts over its own parameters, and roll has spots among them, but no lift.
  */
 static const struct relation relations[RELATIONS] = {
     {"at", {BANK, SPOT}},    {"clear", {SPOT, 0}},  {"turned", {BANK, 0}},
-    {"under", {LIFT, SPOT}}, {"level", {SPOT, 0}},
+    {"under", {LIFT, SPOT}}, {"raised", {SPOT, 0}},
 };
 
 struct move {
@@ -52,12 +50,9 @@ static const struct move moves[MOVES] = {
 static size_t rolling(struct builder *b)
 {
     static const uint8_t objects[] = {BANK, SPOT, SPOT, SPOT};
-    static const struct fact at_2[] = {{LEVEL, 2, 0}, {LEVEL, 3, 0}, {LEVEL, 4, 0},
-                                       {AT, 1, 2},    {CLEAR, 3, 0}, {CLEAR, 4, 0}};
-    static const struct fact at_3[] = {{LEVEL, 2, 0}, {LEVEL, 3, 0}, {LEVEL, 4, 0},
-                                       {AT, 1, 3},    {CLEAR, 2, 0}, {CLEAR, 4, 0}};
-    static const struct fact at_4[] = {{LEVEL, 2, 0}, {LEVEL, 3, 0}, {LEVEL, 4, 0},
-                                       {AT, 1, 4},    {CLEAR, 2, 0}, {CLEAR, 3, 0}};
+    static const struct fact at_2[] = {{AT, 1, 2}, {CLEAR, 3, 0}, {CLEAR, 4, 0}};
+    static const struct fact at_3[] = {{AT, 1, 3}, {CLEAR, 2, 0}, {CLEAR, 4, 0}};
+    static const struct fact at_4[] = {{AT, 1, 4}, {CLEAR, 2, 0}, {CLEAR, 3, 0}};
 
     record_begin(b, objects, COUNT(objects));
     record_state(b, at_2, COUNT(at_2));
@@ -72,14 +67,10 @@ static size_t rolling(struct builder *b)
 static size_t rolling_turned(struct builder *b)
 {
     static const uint8_t objects[] = {SPOT, SPOT, SPOT, BANK, BANK};
-    static const struct fact before[] = {{LEVEL, 1, 0}, {LEVEL, 2, 0}, {LEVEL, 3, 0},
-                                         {AT, 4, 1},    {AT, 5, 2},    {CLEAR, 3, 0}};
-    static const struct fact turned[] = {{LEVEL, 1, 0}, {LEVEL, 2, 0}, {LEVEL, 3, 0}, {AT, 4, 1},
-                                         {AT, 5, 2},    {CLEAR, 3, 0}, {TURNED, 4, 0}};
-    static const struct fact rolled[] = {{LEVEL, 1, 0}, {LEVEL, 2, 0}, {LEVEL, 3, 0}, {AT, 4, 3},
-                                         {AT, 5, 2},    {CLEAR, 1, 0}, {TURNED, 4, 0}};
-    static const struct fact both[] = {{LEVEL, 1, 0}, {LEVEL, 2, 0}, {LEVEL, 3, 0}, {AT, 4, 3},
-                                       {AT, 5, 1},    {CLEAR, 2, 0}, {TURNED, 4, 0}};
+    static const struct fact before[] = {{AT, 4, 1}, {AT, 5, 2}, {CLEAR, 3, 0}};
+    static const struct fact turned[] = {{AT, 4, 1}, {AT, 5, 2}, {CLEAR, 3, 0}, {TURNED, 4, 0}};
+    static const struct fact rolled[] = {{AT, 4, 3}, {AT, 5, 2}, {CLEAR, 1, 0}, {TURNED, 4, 0}};
+    static const struct fact both[] = {{AT, 4, 3}, {AT, 5, 1}, {CLEAR, 2, 0}, {TURNED, 4, 0}};
 
     record_begin(b, objects, COUNT(objects));
     record_state(b, before, COUNT(before));
@@ -95,11 +86,9 @@ static size_t rolling_turned(struct builder *b)
 static size_t lifting(struct builder *b)
 {
     static const uint8_t objects[] = {LIFT, SPOT, BANK, SPOT};
-    static const struct fact low[] = {
-        {AT, 3, 4}, {CLEAR, 2, 0}, {UNDER, 1, 2}, {LEVEL, 2, 0}, {LEVEL, 4, 0}};
-    static const struct fact high[] = {{AT, 3, 4}, {CLEAR, 2, 0}, {UNDER, 1, 2}, {LEVEL, 4, 0}};
-    static const struct fact rolled[] = {
-        {AT, 3, 2}, {CLEAR, 4, 0}, {UNDER, 1, 2}, {LEVEL, 2, 0}, {LEVEL, 4, 0}};
+    static const struct fact low[] = {{AT, 3, 4}, {CLEAR, 2, 0}, {UNDER, 1, 2}};
+    static const struct fact high[] = {{AT, 3, 4}, {CLEAR, 2, 0}, {UNDER, 1, 2}, {RAISED, 2, 0}};
+    static const struct fact rolled[] = {{AT, 3, 2}, {CLEAR, 4, 0}, {UNDER, 1, 2}};
 
     record_begin(b, objects, COUNT(objects));
     record_state(b, low, COUNT(low));
@@ -115,10 +104,10 @@ static size_t lifting(struct builder *b)
 static size_t lifting_bank(struct builder *b)
 {
     static const uint8_t objects[] = {BANK, LIFT, SPOT};
-    static const struct fact low[] = {{AT, 1, 3}, {UNDER, 2, 3}, {LEVEL, 3, 0}};
-    static const struct fact high[] = {{AT, 1, 3}, {UNDER, 2, 3}};
-    static const struct fact turned[] = {{AT, 1, 3}, {UNDER, 2, 3}, {TURNED, 1, 0}};
-    static const struct fact lowered[] = {{AT, 1, 3}, {UNDER, 2, 3}, {TURNED, 1, 0}, {LEVEL, 3, 0}};
+    static const struct fact low[] = {{AT, 1, 3}, {UNDER, 2, 3}};
+    static const struct fact high[] = {{AT, 1, 3}, {UNDER, 2, 3}, {RAISED, 3, 0}};
+    static const struct fact turned[] = {{AT, 1, 3}, {UNDER, 2, 3}, {RAISED, 3, 0}, {TURNED, 1, 0}};
+    static const struct fact lowered[] = {{AT, 1, 3}, {UNDER, 2, 3}, {TURNED, 1, 0}};
 
     record_begin(b, objects, COUNT(objects));
     record_state(b, low, COUNT(low));
@@ -134,7 +123,7 @@ static size_t lifting_bank(struct builder *b)
 static size_t roll_onto_raised(struct builder *b)
 {
     static const uint8_t objects[] = {BANK, SPOT, SPOT, LIFT};
-    static const struct fact raised[] = {{AT, 1, 2}, {CLEAR, 3, 0}, {UNDER, 4, 3}, {LEVEL, 2, 0}};
+    static const struct fact raised[] = {{AT, 1, 2}, {CLEAR, 3, 0}, {UNDER, 4, 3}, {RAISED, 3, 0}};
 
     record_begin(b, objects, COUNT(objects));
     record_state(b, raised, COUNT(raised));
@@ -143,15 +132,15 @@ static size_t roll_onto_raised(struct builder *b)
     return record_end(b);
 }
 
-static size_t roll_to_level(struct builder *b)
+static size_t roll_to_clear(struct builder *b)
 {
     static const uint8_t objects[] = {BANK, SPOT, SPOT};
-    static const struct fact level[] = {{AT, 1, 2}, {CLEAR, 3, 0}, {LEVEL, 2, 0}, {LEVEL, 3, 0}};
+    static const struct fact clear[] = {{AT, 1, 2}, {CLEAR, 3, 0}};
 
     record_begin(b, objects, COUNT(objects));
-    record_state(b, level, COUNT(level));
+    record_state(b, clear, COUNT(clear));
     record_failed_step(b, ROLL, 1, 2, 3, 0);
-    record_state(b, level, COUNT(level));
+    record_state(b, clear, COUNT(clear));
     return record_end(b);
 }
 
@@ -165,8 +154,8 @@ static const struct record records[] = {
     {"a bank is turned and rolls, another rolls", rolling_turned},
     {"a lift with no bank on it is raised and lowered, a bank rolls onto it", lifting},
     {"a lift with a bank on it is raised, the bank is turned, the lift is lowered", lifting_bank},
-    {"a bank does not roll to a spot that is not level", roll_onto_raised},
-    {"a bank does not roll to a spot that is clear and level", roll_to_level},
+    {"a bank does not roll to a spot that is raised", roll_onto_raised},
+    {"a bank does not roll to a spot that is clear and not raised", roll_to_clear},
 };
 
 #endif

@@ -13,13 +13,11 @@ static const char *const hall_words[] = {"bank 1", "wagon 2", "spot 3",
                                          "spot 4", "spot 5",  "lift 6"};
 
 /* The states that the hall may be left in. */
-static const struct fact as_usual[] = {{UNDER, 6, 5}, {CLEAR, 5, 0}, {AT, 2, 4},   {AT, 1, 3},
-                                       {LEVEL, 3, 0}, {LEVEL, 4, 0}, {LEVEL, 5, 0}};
-static const struct fact bank_turned[] = {{UNDER, 6, 5}, {CLEAR, 5, 0}, {AT, 2, 4},
-                                          {AT, 1, 3},    {LEVEL, 3, 0}, {LEVEL, 4, 0},
-                                          {LEVEL, 5, 0}, {TURNED, 1, 0}};
-static const struct fact lift_raised[] = {{UNDER, 6, 5}, {CLEAR, 5, 0}, {AT, 2, 4},
-                                          {AT, 1, 3},    {LEVEL, 3, 0}, {LEVEL, 4, 0}};
+static const struct fact as_usual[] = {{UNDER, 6, 5}, {CLEAR, 5, 0}, {AT, 2, 4}, {AT, 1, 3}};
+static const struct fact bank_turned[] = {
+    {UNDER, 6, 5}, {CLEAR, 5, 0}, {AT, 2, 4}, {AT, 1, 3}, {TURNED, 1, 0}};
+static const struct fact lift_raised[] = {
+    {UNDER, 6, 5}, {CLEAR, 5, 0}, {AT, 2, 4}, {AT, 1, 3}, {RAISED, 5, 0}};
 
 struct start {
     const struct fact *facts;
@@ -65,7 +63,7 @@ static const struct step back_steps[] = {{TURN, {1, 3, 0, 0}}, {TURN_BACK, {1, 3
 static const struct plan back = {
     "turn bank 1, turn it back", starts, 1, not_turned, 1, back_steps, 2};
 
-static const struct goal_entry turned_high[] = {{1, {TURNED, 1, 0}}, {0, {LEVEL, 5, 0}}};
+static const struct goal_entry turned_high[] = {{1, {TURNED, 1, 0}}, {1, {RAISED, 5, 0}}};
 static const struct step high_steps[] = {
     {ROLL, {1, 3, 5, 0}}, {RAISE, {6, 5, 0, 0}}, {TURN, {1, 5, 0, 0}}};
 static const struct plan high = {"raise the lift with bank 1 on it, turn the bank there",

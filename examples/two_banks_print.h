@@ -1,8 +1,8 @@
 /*
  * What two_banks.c prints of its hall, with the words of two_banks.h and
  * two_banks_plans.h: the rules of a rule sheet, the starts and plans of orders,
- * and the facts of an end sheet. The sheets have bits for each fact, so every fact
- * that there may be is asked for.
+ * and the facts of an end sheet. A sheet has a bit for each fact, so every fact
+ * that may hold is asked for.
  */
 #ifndef TWO_BANKS_PRINT_H
 #define TWO_BANKS_PRINT_H
@@ -52,26 +52,28 @@ static void print_fact(const char *const *words, const struct fact *fact)
         printf(" %s", words[fact->second - 1]);
 }
 
-static const char *const need_words[] = {"not needed", "needed to hold"};
-static const char *const effect_words[] = {"", ", added", ", removed", ", may be removed"};
+static const char *const need_words[] = {"not needed", "needed to hold", "needed not to hold",
+                                         "needed both ways"};
+static const char *const effect_words[] = {"", ", added", ", removed"};
 
-static int in_set(const uint8_t *sheet, unsigned move, enum changeover_set set,
-                  const struct fact *bound)
+/* Of two sets, whether a bound fact is in the first (1), the second (2), both (3) or none (0). */
+static int in_sets(const uint8_t *sheet, unsigned move, const struct fact *bound,
+                   enum changeover_set one, enum changeover_set two)
 {
-    return changeover_in_rules(sheet, move, set, bound->relation, bound->first, bound->second);
+    unsigned relation = bound->relation, first = bound->first, second = bound->second;
+
+    return changeover_in_rules(sheet, move, one, relation, first, second) +
+           2 * changeover_in_rules(sheet, move, two, relation, first, second);
 }
 
 static int need(const uint8_t *sheet, unsigned move, const struct fact *bound)
 {
-    return in_set(sheet, move, CHANGEOVER_NEEDED_TO_HOLD, bound);
+    return in_sets(sheet, move, bound, CHANGEOVER_NEEDED_TO_HOLD, CHANGEOVER_NEEDED_NOT_TO_HOLD);
 }
 
-/* Which of effect_words; a bound fact is in one of these sets at most. */
 static int effect(const uint8_t *sheet, unsigned move, const struct fact *bound)
 {
-    return in_set(sheet, move, CHANGEOVER_ADDED, bound) +
-           2 * in_set(sheet, move, CHANGEOVER_REMOVED, bound) +
-           3 * in_set(sheet, move, CHANGEOVER_MAY_REMOVE, bound);
+    return in_sets(sheet, move, bound, CHANGEOVER_ADDED, CHANGEOVER_REMOVED);
 }
 
 /* The rules of all moves; if there is an earlier sheet, those that changed. */
@@ -124,36 +126,22 @@ static void print_plan(const struct plan *plan)
     }
 }
 
-/* By enum changeover_value. */
-static const char *const value_words[] = {"does not hold", "holds", "is open"};
-
-static enum changeover_value value(const uint8_t *end, const struct fact *fact)
+static int in_end(const uint8_t *end, const struct fact *fact)
 {
-    return changeover_end_value(end, fact->relation, fact->first, fact->second);
+    return changeover_in_end(end, fact->relation, fact->first, fact->second);
 }
 
-/* The facts of one value, in a line; none if there are none. */
-static void print_those(const uint8_t *end, enum changeover_value known, const char *before)
+static void print_end(const uint8_t *end, const char *when)
 {
     struct fact facts[FACTS_MAX];
     size_t count = all_facts(hall, COUNT(hall), facts);
-    int none = 1;
 
     for (size_t i = 0; i < count; i++)
-        if (value(end, &facts[i]) == known) {
-            printf("%s", none ? before : ", ");
+        if (in_end(end, &facts[i])) {
+            printf("    %s: ", when);
             print_fact(hall_words, &facts[i]);
-            none = 0;
+            printf("\n");
         }
-    printf("%s", none ? "" : "\n");
-}
-
-/* All facts that are not told of are known not to hold. */
-static void print_end(const uint8_t *end, const char *when)
-{
-    printf("    %s\n", when);
-    print_those(end, CHANGEOVER_HOLDS, "        known to hold: ");
-    print_those(end, CHANGEOVER_OPEN, "        open: ");
 }
 
 #endif

@@ -36,27 +36,10 @@
  * parameter has an object that there is, of a kind that suits, the bytes of
  * unused ones are 0, and no object of a step stands twice; else it is wrong.
  * An order has one plan and 1 to 16 starts, each a state that the hall may be in
- * when the plan begins. A rule list says of each move which of its bound facts it
- * needs, which it adds and which it removes. What a move needs must hold before it;
- * no list needs that a fact does not hold. A list fits a book if by it each recorded
- * step that went goes, and yields the state filed after it. MEANING.md says all of
- * this at length, FORMAT.md has the bytes of books, orders and sheets; they are in
- * share/doc/changeover, in the sources in docs. Beside them, in examples, are
- * programs and builder.h, which makes the bytes of books and orders.
- *
- * Open facts. Records need not show all that a move removes. If a bound fact was
- * neither seen added by a move nor seen to hold before it, some fitting lists have
- * the move remove it, and others do not: the move may remove it. So in a plan a fact
- * is known to hold, known not to hold, or open. In a start each fact is known. A step
- * changes what is known as follows, and leaves all else as it was:
- *   - a fact that its move was seen to add or remove is known, whatever it was before
- *   - a fact that its move may remove is open, unless it was known not to hold
- * No plan can rely on an open fact: a need that is open is unmet (19), and a goal
- * entry whose fact is open is missed (20), whether it asks for 1 or for 0. One more
- * record may settle it: a step of the move that went, with the fact holding before
- * it, shows whether the move removes it. To plan on from where a plan ends, look in
- * the hall whether the fact holds, or give the next order a start for each case, with
- * the fact and without it.
+ * when the plan begins. MEANING.md says all of this at length, FORMAT.md has the
+ * bytes of books, orders and sheets; they are in share/doc/changeover, in the
+ * sources in docs. Beside them, in examples, are programs and builder.h, which
+ * makes the bytes of books and orders.
  *
  * Steps that did not go. A record may also have a step that was tried and did not
  * go. Its move byte is 128 higher, so 129 or more; its move is the byte less 128
@@ -64,10 +47,11 @@
  * 27; in a short book that is so exactly if the list behind the step is empty.
  * Such steps count in all totals, and a record may have them alone. They teach no
  * need and no effect: 11 and 12 pass them over, and a move of which only such steps
- * are filed is a move never recorded. But a rule list fits such a step only if some
- * need does not hold before it. So no list fits the book if all needs that are
- * learned from it hold before such a step: 28. Wherever some list fits, plans pass
- * just as if such steps were absent. A plan has none: in an order such a byte is 18.
+ * are filed is a move never recorded. But a rule list, which says what each move
+ * needs and changes, fits such a step only if some need is unmet before it. So no
+ * list fits the book if all needs that are learned from it, to hold and not to
+ * hold, are met before such a step: 28. Wherever some list fits, plans pass just as
+ * if such steps were absent. A plan has none: in an order such a byte is 18.
  *
  * Forms. A book is full or short. In a full book each state lists the facts that
  * hold. In a short one a record's first state does so too, and each later one
@@ -127,11 +111,10 @@
  *                                                          offset
  *   12   a bound fact was changed to one value, and after  smallest such move
  *        another step of the move has the other
- *   28   step that did not go: all learned needs held      first such step's
+ *   28   step that did not go: all learned needs were met  first such step's
  *        before it                                         offset
  *   23   the converted book would pass 60,000 bytes        0
- *   13   a lent output of wrong length; that of an end     0
- *        sheet is 1,024, with several starts too
+ *   13   a lent output of wrong length                     0
  *   14   order header: length under 16, or objects, goal   0
  *        entries or steps over their limit
  *   22   order header: no start, or over 16 of them        0
@@ -144,9 +127,8 @@
  *   17   goal entry: first byte over 1; fact wrong or out  offset in the order
  *        of order
  *   18   plan step wrong, as 9 or 10                       offset in the order
- *   19   a learned need does not hold, or is open, in the  step number from 1
- *        plan
- *   20   a goal entry is false, or open, at the end        entry number from 1
+ *   19   a learned need is unmet in the plan               step number from 1
+ *   20   a goal entry is false at the end                  entry number from 1
  *
  * Cut means reaching past the end of the record, for a record's head past that
  * of the book, for a start past the offset of the goal; the place is where the
@@ -165,15 +147,14 @@
  * sees but faults mended. Another minor version adds: calls, functions, numbers
  * of refusals, and books that were refused before; what was not refused has the
  * same answer, what was refused may have another number.
- * Another major version may change the parameters of a call, the header's
- * functions and names, the bytes of books, orders and sheets, which of them are
- * good, which plans pass, and what the bits of an answer mean; the shared library's
- * soname has its number.
+ * Another major version may change the parameters of a call, the bytes of
+ * books, orders and sheets, which of them are good, and what the bits of an
+ * answer mean; the shared library's soname has its number.
  */
-#define CHANGEOVER_VERSION_MAJOR 5
-#define CHANGEOVER_VERSION_MINOR 0
+#define CHANGEOVER_VERSION_MAJOR 4
+#define CHANGEOVER_VERSION_MINOR 2
 #define CHANGEOVER_VERSION_PATCH 0
-#define CHANGEOVER_VERSION_STRING "5.0.0"
+#define CHANGEOVER_VERSION_STRING "4.2.0"
 /* One number that grows with the version, for #if. */
 #define CHANGEOVER_VERSION                                                    \
     (CHANGEOVER_VERSION_MAJOR * 1000000 + CHANGEOVER_VERSION_MINOR * 1000 +   \
@@ -227,8 +208,7 @@ enum changeover_form { CHANGEOVER_FULL = 0, CHANGEOVER_SHORT = 1 };
 
 /*
  * Lengths in bytes, and the limits of moves and starts. No good order is longer
- * than CHANGEOVER_ORDER_MAX; the calls take longer ones, and refuse them. An end
- * sheet has two halves of CHANGEOVER_STATE_LEN.
+ * than CHANGEOVER_ORDER_MAX; the calls take longer ones, and refuse them.
  */
 enum changeover_lengths {
     CHANGEOVER_BOOK_MIN = 16,
@@ -239,8 +219,7 @@ enum changeover_lengths {
     CHANGEOVER_SHEET_MAX = 4096,
     CHANGEOVER_STARTS_MAX = 16,
     CHANGEOVER_ORDER_MAX = 12928,
-    CHANGEOVER_STATE_LEN = 512,
-    CHANGEOVER_END_LEN = 1024,
+    CHANGEOVER_END_LEN = 512,
     CHANGEOVER_MESSAGE_MAX = 256
 };
 
@@ -251,30 +230,13 @@ enum changeover_stack {
     CHANGEOVER_STACK_CONVERT = 80 * 1024
 };
 
-/*
- * The four sets of a move's 128 bytes in a rule sheet, in their order, by the
- * recorded steps of the move that went:
- *   needed to hold   held before each of them
- *   may remove       neither added by one of them nor held before one
- *   added            did not hold before one of them, and held after it
- *   removed          held before one of them, and did not after it
- * So a move without such a step has each of its bound facts in the first two. No
- * bound fact is in two of the last three. One that is in none of these stays as it
- * was wherever the move goes.
- */
+/* The four sets of a move's 128 bytes in a rule sheet, in their order. */
 enum changeover_set {
     CHANGEOVER_NEEDED_TO_HOLD = 0,
-    CHANGEOVER_MAY_REMOVE = 1,
+    CHANGEOVER_NEEDED_NOT_TO_HOLD = 1,
     CHANGEOVER_ADDED = 2,
     CHANGEOVER_REMOVED = 3
 };
-
-/*
- * What is known of a fact at the end of a plan that passes: every rule list that
- * fits the book ends without it, every one ends with it, or some end with it and
- * others without it.
- */
-enum changeover_value { CHANGEOVER_HOLDS_NOT = 0, CHANGEOVER_HOLDS = 1, CHANGEOVER_OPEN = 2 };
 
 /*
  * Looks a book over: rows 1 to 10. Writes nothing.
@@ -297,19 +259,11 @@ uint64_t changeover_learn(const uint8_t *book, size_t book_len, uint32_t form, u
  * if it would pass from each start of the order alone. Else 19 or 20 with its
  * place is what the first start, in file order, that fails would give alone, and
  * changeover_position tells which start that is.
- * The end sheet must be exactly 1,024 bytes, else 13, however many starts there
+ * The end sheet must be exactly 512 bytes, else 13, however many starts there
  * are. On success (the plan passes) the place is the plan's step count. If the
- * order has more than one start, the end sheet stays as it was. If it has one, every
- * byte of the end sheet is then written. It has two halves of 512 bytes, and in each
- * of them every fact has a bit, at the same place: that of the first half is 1 if
- * the fact is known to hold after the last step, that of the second half if it is
- * open.
- *   first  second
- *     1      0     known to hold: it holds under every rule list that fits the book
- *     0      0     known not to hold: it holds under none
- *     0      1     open: it holds under some of them, and not under others
- * changeover_end_value reads the two. The first half alone does not tell a fact that
- * does not hold from one that is open.
+ * order has one start, every byte of the end sheet is then written, its bits
+ * being the facts that hold after the last step; if it has more, the end sheet
+ * stays as it was.
  */
 uint64_t changeover_check(const uint8_t *book, size_t book_len, uint32_t form,
                           const uint8_t *order, size_t order_len, uint8_t *end, size_t end_len);
@@ -408,9 +362,9 @@ static inline const char *changeover_words(enum changeover_numbers number)
     case CHANGEOVER_PLAN_STEP:
         return "plan step wrong, or with an object twice";
     case CHANGEOVER_NEED_UNMET:
-        return "a learned need does not hold, or is open, in the plan";
+        return "a learned need is unmet in the plan";
     case CHANGEOVER_GOAL_MISSED:
-        return "a goal entry is false, or open, at the end";
+        return "a goal entry is false at the end";
     case CHANGEOVER_PARENT:
         return "a kind's parent is not smaller than the kind";
     case CHANGEOVER_START_COUNT:
@@ -423,7 +377,7 @@ static inline const char *changeover_words(enum changeover_numbers number)
         return "a step did not go, and the state after it is not the state before it; "
                "the book may be of the other form";
     case CHANGEOVER_ALL_NEEDS_MET:
-        return "a step did not go, though all learned needs held before it";
+        return "a step did not go, though all learned needs were met before it";
     }
     return "no such number";
 }
@@ -498,8 +452,8 @@ static inline size_t changeover_put_(char *buffer, size_t length, size_t at, con
 /*
  * Writes an answer as a text for messages: the number, the place as what it is,
  * by 19 and 20 the start, and the words of the number:
- *   refused 19, step 2, start 1: a learned need does not hold, or is open, in the plan
- *   refused 20, goal entry 4, start 3: a goal entry is false, or open, at the end
+ *   refused 19, step 2, start 1: a learned need is unmet in the plan
+ *   refused 20, goal entry 4, start 3: a goal entry is false at the end
  *   refused 7, offset 34 in the book: object cut, or of no such kind
  *   refused 15, offset 16 in the order: order object of no such kind
  *   refused 13: lent output of wrong length
@@ -564,22 +518,17 @@ static inline int changeover_in_rules(const uint8_t *sheet, unsigned move, enum 
 }
 
 /*
- * What is known of a fact at the plan's end, by both halves of the end sheet of an
- * order with one start. There are three values, and two of them are not 0: so ask
- * for one by its name, and do not take the value for a truth value. All numbers
- * count from 1, the two objects being 0 where unused. They must be in the hall's
- * range.
+ * Whether a fact holds at the plan's end, 1 or 0, by the end sheet of an order
+ * with one start. All numbers count from 1, the two objects being 0 where
+ * unused. They must be in the hall's range.
  */
-static inline enum changeover_value changeover_end_value(const uint8_t *end, unsigned relation,
-                                                         unsigned first, unsigned second)
+static inline int changeover_in_end(const uint8_t *end, unsigned relation, unsigned first,
+                                    unsigned second)
 {
     size_t n = 256 * (size_t)(relation - 1) + 16 * (size_t)(first ? first - 1 : 0) +
                (size_t)(second ? second - 1 : 0);
-    const uint8_t *second_half = end + CHANGEOVER_STATE_LEN;
 
-    if (second_half[n / 8] >> (n % 8) & 1)
-        return CHANGEOVER_OPEN;
-    return end[n / 8] >> (n % 8) & 1 ? CHANGEOVER_HOLDS : CHANGEOVER_HOLDS_NOT;
+    return end[n / 8] >> (n % 8) & 1;
 }
 
 #ifdef __cplusplus

@@ -11,7 +11,7 @@ use std::process::Command;
 use super::list::Edit;
 
 /// A checker, as files and folders of `src`.
-const CHECKER: [&str; 12] = [
+const CHECKER: [&str; 11] = [
     "add.rs",
     "answer.rs",
     "change.rs",
@@ -22,7 +22,6 @@ const CHECKER: [&str; 12] = [
     "learn.rs",
     "limits.rs",
     "mask.rs",
-    "partial.rs",
     "plan.rs",
 ];
 /// The runner of vectors.

@@ -10,7 +10,6 @@ pub mod implementation;
 pub mod learn;
 pub mod limits;
 pub mod mask;
-pub mod partial;
 pub mod plan;
 
 // Under the name that the implementation has for it.

@@ -5,8 +5,7 @@ use crate::calls::Form;
 use crate::form::Order;
 use crate::learn::ActionModel;
 use crate::limits::{END_SHEET_LENGTH, GOAL_LENGTH, STEP_LENGTH};
-use crate::mask::fact_number;
-use crate::partial::PartialState;
+use crate::mask::{fact_number, FactSet};
 use crate::plan::GroundPlan;
 
 /// Every row; on a pass the place is the plan's step count. With one start the
@@ -24,7 +23,7 @@ pub fn check(book: &[u8], form: Form, order: &[u8], end_sheet: &mut [u8]) -> Ans
         Err(refusal) => return refusal,
     };
     let plan = GroundPlan::of(order.steps, &model);
-    let mut end = PartialState::EMPTY;
+    let mut end = FactSet::EMPTY;
     for (index, start) in order.starts().enumerate() {
         end = match passes(&plan, start, order.goal) {
             Ok(end) => end,
@@ -39,24 +38,19 @@ pub fn check(book: &[u8], form: Form, order: &[u8], end_sheet: &mut [u8]) -> Ans
 }
 
 /// Rows 19 and 20 for one start alone; answers the end state.
-fn passes(plan: &GroundPlan, start: &[u8], goal: &[u8]) -> Result<PartialState, Answer> {
-    let end = plan.carry_out(PartialState::of(start))?;
+fn passes(plan: &GroundPlan, start: &[u8], goal: &[u8]) -> Result<FactSet, Answer> {
+    let end = plan.carry_out(FactSet::of(start))?;
     match missed_entry(goal, &end) {
         Some(entry) => Err(Refusal::GoalMissed.at(entry)),
         None => Ok(end),
     }
 }
 
-/// Row 20: the number, from 1, of the first entry that is not known to be true.
-fn missed_entry(goal: &[u8], end: &PartialState) -> Option<usize> {
+/// Row 20: the number, from 1, of the first entry that is false.
+fn missed_entry(goal: &[u8], end: &FactSet) -> Option<usize> {
     goal.chunks_exact(GOAL_LENGTH)
         .position(|entry| {
-            let fact = fact_number(entry[1], entry[2], entry[3]);
-            if entry[0] == 1 {
-                !end.is_known(fact)
-            } else {
-                end.is_possible(fact)
-            }
+            (entry[0] == 1) != end.contains(fact_number(entry[1], entry[2], entry[3]))
         })
         .map(|index| index + 1)
 }

@@ -12,13 +12,13 @@ use crate::form::{self, Front, Observer, Signature, Transition};
 use crate::limits::{MOVE_LIMIT, RULES_LENGTH, SET_LENGTH};
 use crate::mask::AtomMask;
 
-/// The lifted atoms of one action, and of these the learned preconditions, which are
-/// facts that hold, and the effects: those seen, and the deletes that may be.
+/// The lifted atoms of one action, and of these the learned preconditions and
+/// effects.
 #[derive(Clone, Copy, Debug, PartialEq, Eq)]
 pub struct Rules {
     pub atoms: AtomMask,
-    pub pre: AtomMask,
-    pub possible_delete: AtomMask,
+    pub pre_pos: AtomMask,
+    pub pre_neg: AtomMask,
     pub add: AtomMask,
     pub delete: AtomMask,
 }
@@ -52,7 +52,7 @@ impl ActionModel {
 impl Rules {
     /// Whether the learned needs are met where just these of the atoms hold.
     fn are_met(&self, held: AtomMask) -> bool {
-        self.pre.without(held).is_empty()
+        self.pre_pos.without(held).is_empty() && self.pre_neg.and(held).is_empty()
     }
 }
 
@@ -67,7 +67,7 @@ pub fn learn(book: &[u8], form: Form, sheet: &mut [u8]) -> Answer {
         return Refusal::Output.at(0);
     }
     for (part, rules) in sheet.chunks_exact_mut(RULES_LENGTH).zip(&model.actions) {
-        let sets = [rules.pre, rules.possible_delete, rules.add, rules.delete];
+        let sets = [rules.pre_pos, rules.pre_neg, rules.add, rules.delete];
         for (bytes, set) in part.chunks_exact_mut(SET_LENGTH).zip(sets) {
             bytes.copy_from_slice(&set.bytes());
         }
@@ -89,7 +89,7 @@ struct Observed {
 }
 
 impl Observed {
-    /// Of an action never recorded: every atom is needed and may be deleted.
+    /// Of an action never recorded: every atom is needed both ways.
     const NOTHING: Self = Self {
         atoms: AtomMask::EMPTY,
         always_before: AtomMask::FULL,
@@ -120,8 +120,8 @@ impl Observed {
     fn rules(&self) -> Rules {
         Rules {
             atoms: self.atoms,
-            pre: self.atoms.and(self.always_before),
-            possible_delete: self.atoms.without(self.ever_before.or(self.added)),
+            pre_pos: self.atoms.and(self.always_before),
+            pre_neg: self.atoms.without(self.ever_before),
             add: self.added,
             delete: self.deleted,
         }

@@ -21,7 +21,6 @@ pub mod learn;
 pub mod limits;
 pub mod listing;
 pub mod mask;
-mod partial;
 mod plan;
 pub mod vectors;
 

@@ -34,6 +34,4 @@ pub const INAPPLICABLE: u8 = 128;
 pub const SET_LENGTH: usize = 32;
 /// The four sets of one move.
 pub const RULES_LENGTH: usize = 4 * SET_LENGTH;
-/// One half of an end sheet: the facts known to hold, or those that are open.
-pub const END_SHEET_HALF: usize = 512;
-pub const END_SHEET_LENGTH: usize = 2 * END_SHEET_HALF;
+pub const END_SHEET_LENGTH: usize = 512;

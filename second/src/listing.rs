@@ -49,8 +49,16 @@ fn refused(refusal: Answer) -> String {
 }
 
 fn letters(rules: &Rules, atom: usize) -> (char, char) {
-    let need = if rules.pre.contains(atom) { 'H' } else { 'F' };
-    let effects = [(rules.add, 'A'), (rules.delete, 'R'), (rules.possible_delete, 'M')];
-    let effect = effects.into_iter().find(|(set, _)| set.contains(atom));
-    (need, effect.map_or('K', |(_, letter)| letter))
+    let need = match (rules.pre_pos.contains(atom), rules.pre_neg.contains(atom)) {
+        (true, true) => 'B',
+        (true, false) => 'H',
+        (false, true) => 'N',
+        (false, false) => 'F',
+    };
+    let effect = match (rules.add.contains(atom), rules.delete.contains(atom)) {
+        (true, _) => 'A',
+        (_, true) => 'R',
+        _ => 'K',
+    };
+    (need, effect)
 }

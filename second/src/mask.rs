@@ -1,6 +1,8 @@
 //! Sets of lifted atoms and of facts, as the bits of the paper's sheets.
 
-use crate::limits::{FACT_LENGTH, OBJECT_LIMIT, PARAMETER_LIMIT, RELATION_LIMIT, SET_LENGTH};
+use crate::limits::{
+    END_SHEET_LENGTH, FACT_LENGTH, OBJECT_LIMIT, PARAMETER_LIMIT, RELATION_LIMIT, SET_LENGTH,
+};
 
 /// The facts that a state has for one relation and one first object, as bits.
 pub type Row = u16;
@@ -92,9 +94,7 @@ impl AtomMask {
     #[must_use]
     pub fn bytes(self) -> [u8; SET_LENGTH] {
         let mut bytes = [0; SET_LENGTH];
-        for (part, word) in bytes.chunks_exact_mut(2).zip(self.0) {
-            part.copy_from_slice(&word.to_le_bytes());
-        }
+        write_words(&mut bytes, &self.0);
         bytes
     }
 }
@@ -119,7 +119,7 @@ impl FactSet {
     }
 
     pub fn insert(&mut self, fact: usize) {
-        self.0[usize::from((fact / 16) as u8)] |= 1 << (fact % 16);
+        self.insert_all((fact / 16) as u8, 1 << (fact % 16));
     }
 
     /// Turns a fact's value; answers whether it holds now.
@@ -130,11 +130,32 @@ impl FactSet {
         *row >> (fact % 16) & 1 == 1
     }
 
+    #[inline]
+    pub fn insert_all(&mut self, row: u8, facts: Row) {
+        let row = usize::from(row);
+        self.0[row] |= facts;
+    }
+
+    #[inline]
+    pub fn remove_all(&mut self, row: u8, facts: Row) {
+        let row = usize::from(row);
+        self.0[row] &= !facts;
+    }
+
     /// Those of a row's facts that hold.
     #[inline]
     #[must_use]
     pub fn held(&self, row: u8, facts: Row) -> Row {
         self.0[usize::from(row)] & facts
+    }
+
+    #[must_use]
+    pub fn contains(&self, fact: usize) -> bool {
+        self.0[fact / 16] >> (fact % 16) & 1 == 1
+    }
+
+    pub fn write(&self, sheet: &mut [u8; END_SHEET_LENGTH]) {
+        write_words(sheet, &self.0);
     }
 }
 
@@ -144,4 +165,10 @@ impl FactSet {
 pub fn fact_number(relation: u8, first: u8, second: u8) -> usize {
     let from_zero = |number: u8| usize::from(number.saturating_sub(1));
     256 * from_zero(relation) + 16 * from_zero(first) + from_zero(second)
+}
+
+fn write_words(bytes: &mut [u8], words: &[u16]) {
+    for (part, word) in bytes.chunks_exact_mut(2).zip(words) {
+        part.copy_from_slice(&word.to_le_bytes());
+    }
 }

@@ -5,8 +5,7 @@ use crate::answer::{Answer, Refusal};
 use crate::form::Relation;
 use crate::learn::{ActionModel, Rules};
 use crate::limits::{OBJECT_LIMIT, PARAMETER_LIMIT, RELATION_LIMIT, STEP_LENGTH};
-use crate::mask::Row;
-use crate::partial::{two_rows, PartialState, TwoRows};
+use crate::mask::{FactSet, Row};
 
 pub struct GroundPlan {
     /// Those of all steps, one after another, and likewise the effects.
@@ -19,15 +18,16 @@ pub struct GroundPlan {
 /// What a step needs of one row of a state.
 struct RowNeeds {
     row: u8,
-    pre: Row,
+    pre_pos: Row,
+    pre_neg: Row,
 }
 
 /// What a step does to one row of a state. Its objects differ, so that no row
 /// comes twice.
 struct RowEffects {
     row: u8,
-    add: TwoRows,
-    delete: TwoRows,
+    add: Row,
+    delete: Row,
 }
 
 /// The rows that a step has needs of at most.
@@ -58,17 +58,15 @@ impl GroundPlan {
             let facts = binding.second_objects(relation);
             for first in 0..PARAMETER_LIMIT {
                 let row = (OBJECT_LIMIT * index + binding.first_object(relation, first)) as u8;
-                let pre = facts[rules.pre.seconds(index, first)];
-                if pre != 0 {
-                    self.needs.push(RowNeeds { row, pre });
+                let pre_pos = facts[rules.pre_pos.seconds(index, first)];
+                let pre_neg = facts[rules.pre_neg.seconds(index, first)];
+                if pre_pos | pre_neg != 0 {
+                    self.needs.push(RowNeeds { row, pre_pos, pre_neg });
                 }
                 let add = facts[rules.add.seconds(index, first)];
                 let delete = facts[rules.delete.seconds(index, first)];
-                let possible_delete = facts[rules.possible_delete.seconds(index, first)];
-                if add | delete | possible_delete != 0 {
-                    // What may be deleted is no longer known, but still possible.
-                    let delete = two_rows(delete | possible_delete, delete);
-                    self.effects.push(RowEffects { row, add: two_rows(add, add), delete });
+                if add | delete != 0 {
+                    self.effects.push(RowEffects { row, add, delete });
                 }
             }
         }
@@ -76,14 +74,15 @@ impl GroundPlan {
     }
 
     /// Row 19, step by step; answers the state at the plan's end.
-    pub fn carry_out(&self, mut state: PartialState) -> Result<PartialState, Answer> {
+    pub fn carry_out(&self, mut state: FactSet) -> Result<FactSet, Answer> {
         let mut from = (0, 0);
         for (index, &end) in self.ends.iter().enumerate() {
             if !applicable(&self.needs[from.0..end.0], &state) {
                 return Err(Refusal::NeedUnmet.at(index + 1));
             }
             for effects in &self.effects[from.1..end.1] {
-                state.change(effects.row, effects.add, effects.delete);
+                state.insert_all(effects.row, effects.add);
+                state.remove_all(effects.row, effects.delete);
             }
             from = end;
         }
@@ -91,8 +90,10 @@ impl GroundPlan {
     }
 }
 
-fn applicable(needs: &[RowNeeds], state: &PartialState) -> bool {
-    needs.iter().all(|needs| state.are_known(needs.row, needs.pre))
+fn applicable(needs: &[RowNeeds], state: &FactSet) -> bool {
+    needs.iter().all(|&RowNeeds { row, pre_pos, pre_neg }| {
+        state.held(row, pre_pos) == pre_pos && state.held(row, pre_neg) == 0
+    })
 }
 
 /// For each set of parameters as bits a set of second objects, likewise.

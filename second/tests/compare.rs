@@ -3,7 +3,6 @@
 
 use second::calls::{unpacked, Calls, Form, Job};
 use second::compare::{self, By, Capped, Difference, Run, Tally};
-use second::limits::END_SHEET_LENGTH;
 use second::{add, form, Answer, Refusal, Second};
 
 const RUN: Run = Run { seed: 7, count: 10_000 };
@@ -159,7 +158,7 @@ fn learn_finds_a_touched_sheet() {
 fn check_finds_a_wrong_end_sheet() {
     let calls = wrong(Job::Check, |Given { output, answer, .. }| {
         if answer.number == 0 && answer.place > 0 {
-            output[END_SHEET_LENGTH - 1] ^= 0x80;
+            output[511] ^= 0x80;
         }
         answer
     });

@@ -9,7 +9,6 @@ use second::gen::hall::{book, Dynamics};
 use second::gen::plan::{any, crowded_hall, tiny};
 use second::gen::{BookDraft, Rng};
 use second::judge::{judge, judge_absent, verdicts, Verdict};
-use second::limits::END_SHEET_LENGTH;
 use second::{form, learn, listing, Answer, Refusal, Second};
 use shared::{hex, order};
 
@@ -59,7 +58,7 @@ fn learned_as_without_the_step() {
             assert_eq!(learned(&hall(records), form), (Answer::success(steps), sheet.clone()));
         }
     }
-    let lines = "1 1 1 2 H R\n1 1 1 3 F A\n1 2 2 0 F A\n1 2 3 0 H R\n";
+    let lines = "1 1 1 2 H R\n1 1 1 3 N A\n1 2 2 0 N A\n1 2 3 0 H R\n";
     let text = format!("moves 1 records 2 steps 2\n{lines}");
     assert_eq!(listing::rules(&hall(&[FILED, BARRED])), text);
 }
@@ -92,14 +91,14 @@ fn never_recorded() {
             assert_eq!(sheet, learned(&hall(&[]), form).1);
         }
     }
-    let lines = "1 1 1 2 H M\n1 1 1 3 H M\n1 2 2 0 H M\n1 2 3 0 H M\n";
-    assert_eq!(listing::rules(&hall(&[BARRED])), format!("moves 1 records 1 steps 1\n{lines}"));
+    let both = "1 1 1 2 B K\n1 1 1 3 B K\n1 2 2 0 B K\n1 2 3 0 B K\n";
+    assert_eq!(listing::rules(&hall(&[BARRED])), format!("moves 1 records 1 steps 1\n{both}"));
 }
 
 /// Every call that reads a book of this form answers this, and writes nothing.
 fn answered(book: &[u8], form: Form, answer: Answer) {
     for job in Job::ALL.into_iter().filter(|job| job.forms().contains(&form)) {
-        for lent in [0, 128, END_SHEET_LENGTH, 1_100] {
+        for lent in [0, 128, 512, 600] {
             let mut output = vec![0xa5; lent];
             let given = unpacked(job.run(&Second, book, form.number(), &[], &mut output));
             assert_eq!(given, answer, "{} {form:?} {book:02x?}", job.name());
@@ -146,7 +145,7 @@ fn moves_that_are_none() {
         let objects = [1, 2, 2];
         for number in [128, 129, 130, 255] {
             let plan = order(&objects, &[], &[], &[[number, 1, 2, 3, 0]]);
-            let mut end = [0; END_SHEET_LENGTH];
+            let mut end = [0; 512];
             let said = Job::Check.run(&Second, &hall(&[barred]), form.number(), &plan, &mut end);
             assert_eq!(unpacked(said), Refusal::PlanStep.at(21));
         }
@@ -246,7 +245,7 @@ impl Met {
     }
 }
 
-/// Over a third of the books have such steps, and of these over a third learn.
+/// Most books have such steps, and most of those that have them learn.
 #[test]
 fn drawn_books_have_steps_that_did_not_go() {
     type Draw = fn(Form, &mut Rng) -> BookDraft;
@@ -263,7 +262,7 @@ fn drawn_books_have_steps_that_did_not_go() {
             met.count(&draw(Form::BOTH[index % 2], &mut Rng::of_case(31, index)));
         }
         println!("{what}: {met:?}");
-        assert!(3 * met.with_such > met.books, "{what}: {met:?}");
+        assert!(10 * met.with_such > 4 * met.books, "{what}: {met:?}");
         assert!(3 * met.of_these_learned > met.with_such, "{what}: {met:?}");
         assert!(25 * met.needs_met > met.with_such, "{what}: {met:?}");
         assert!(met.alone.min(met.mixed) > count / 10, "{what}: {met:?}");

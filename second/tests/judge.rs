@@ -9,7 +9,6 @@ use second::gen::extreme::fullbook;
 use second::gen::plan::tiny;
 use second::gen::{BookDraft, OrderDraft, RecordDraft, Rng};
 use second::judge::{self, verdicts, Verdict};
-use second::limits::END_SHEET_LENGTH;
 use second::{check, form, Answer, Refusal, Second};
 use shared::hex;
 
@@ -115,12 +114,11 @@ fn the_judge_has_room_for_over_256_facts() {
         let judged = judge::judge(&book.bytes(), Form::Full, &order.bytes()).swap_remove(0);
         (judged.verdict, judged.most)
     };
-    let end: Vec<[u8; 3]> = start.iter().copied().chain([[2, 0, 0]]).collect();
-    let passes = |steps| Verdict::Passes { steps, end: Vec::clone(&end), unknown: Vec::new() };
-    assert_eq!(judged(1, 1), (passes(1), 257));
+    let end = start.iter().copied().chain([[2, 0, 0]]).collect();
+    assert_eq!(judged(1, 1), (Verdict::Passes { steps: 1, end }, 257));
     assert_eq!(judged(1, 0), (Verdict::Misses { entry: 1 }, 257));
-    // No list needs that the fact does not hold.
-    assert_eq!(judged(2, 1), (passes(2), 257));
+    // The fact added is needed not to hold.
+    assert_eq!(judged(2, 1), (Verdict::Stops { step: 2 }, 257));
 }
 
 /// Objects that nothing is said of change how the judge holds a state, and no
@@ -147,9 +145,11 @@ fn held_after_is_no_effect() {
                     0001 000d 0000 0100000000 0000");
     // From a start without the fact to a goal without it.
     let order = hex("0000 0001 0001 0001 0010 0010 0012 0016 0000 00010000 0100000000");
-    let passes = Verdict::Passes { steps: 1, end: Vec::new(), unknown: Vec::new() };
-    assert_eq!(verdicts(&book, Form::Full, &order), [passes]);
-    let mut end = [0xff; END_SHEET_LENGTH];
+    assert_eq!(
+        verdicts(&book, Form::Full, &order),
+        [Verdict::Passes { steps: 1, end: Vec::new() }]
+    );
+    let mut end = [0xff; 512];
     assert_eq!(check::check(&book, Form::Full, &order, &mut end), Answer::success(1));
-    assert_eq!(end, [0; END_SHEET_LENGTH]);
+    assert_eq!(end, [0; 512]);
 }

@@ -31,7 +31,7 @@ const WAGON_LOADED: &str = "01010011 03 0000 0201000000 0001 030100 ";
 
 /// The small hall's rules of a roll, and those of a loading never recorded.
 fn roll_and_unrecorded_load() -> Vec<u8> {
-    let roll = [vec![1, 24], vec![], vec![2, 20], vec![1, 24]];
+    let roll = [vec![1, 24], vec![2, 20], vec![2, 20], vec![1, 24]];
     let load = [vec![32], vec![32], vec![], vec![]];
     roll.iter().chain(&load).flat_map(|atoms| set(32, atoms)).collect()
 }
@@ -43,8 +43,8 @@ fn a_wagon_is_learned_from() {
         assert_eq!(form::look_over(&book, Form::Full), Answer::success(1));
         assert_eq!(learned(&book), (Answer::success(1), roll_and_unrecorded_load()));
     }
-    let text = "moves 2 records 1 steps 1\n1 1 1 2 H R\n1 1 1 3 F A\n1 2 2 0 F A\n1 2 3 0 H R\n\
-                2 3 1 0 H M\n";
+    let text = "moves 2 records 1 steps 1\n1 1 1 2 H R\n1 1 1 3 N A\n1 2 2 0 N A\n1 2 3 0 H R\n\
+                2 3 1 0 B K\n";
     assert_eq!(listing::rules(&with_record(LOADED_ROLLS)), text);
 }
 
@@ -58,8 +58,7 @@ fn a_wagon_is_planned_with() {
     let [wagon, bank] = [3, 1].map(|kind| order(&[kind, 2, 2, 2], &start, &goal, &rolls));
     passes(&book, &wagon, 2, &[3, 256 + 16, 256 + 32, 512]);
     let end = vec![[1, 1, 4], [2, 2, 0], [2, 3, 0], [3, 1, 0]];
-    let passes = Verdict::Passes { steps: 2, end, unknown: Vec::new() };
-    assert_eq!(verdicts(&book, Form::Full, &wagon), [passes]);
+    assert_eq!(verdicts(&book, Form::Full, &wagon), [Verdict::Passes { steps: 2, end }]);
     // A bank cannot be loaded: the fourth start fact.
     refused(&book, &bank, Refusal::Start.at(22 + 3 * 3));
     // Nor its goal be so, nor move 2 be for it.
@@ -83,7 +82,7 @@ fn row_11_by_a_parameter_too_wide() {
     let (answer, sheet) = learned(&with_record(WAGON_LOADED));
     assert_eq!(answer, Answer::success(1));
     let load: Vec<u8> =
-        [vec![], vec![], vec![32], vec![]].iter().flat_map(|atoms| set(32, atoms)).collect();
+        [vec![], vec![32], vec![32], vec![]].iter().flat_map(|atoms| set(32, atoms)).collect();
     assert_eq!(sheet[128..], load);
 }
 

@@ -8,7 +8,6 @@ use second::gen::hall::{book, Dynamics};
 use second::gen::plan::{order, tiny};
 use second::gen::{BookDraft, Rng};
 use second::judge::verdicts;
-use second::limits::END_SHEET_LENGTH;
 use second::{listing, Answer, Refusal, Second};
 use shared::hex;
 
@@ -39,9 +38,7 @@ fn hall(records: &[&str]) -> Vec<u8> {
 /// and writes nothing.
 fn answered(book: &[u8], form: Form, answer: Answer) {
     let jobs = Job::ALL.into_iter().filter(|job| job.forms().contains(&form));
-    for (job, lent) in
-        jobs.flat_map(|job| [0, 128, END_SHEET_LENGTH, 1_100].map(|lent| (job, lent)))
-    {
+    for (job, lent) in jobs.flat_map(|job| [0, 128, 512, 600].map(|lent| (job, lent))) {
         let mut output = vec![0xa5; lent];
         let other = if job == Job::Add { hex(good(form)) } else { Vec::new() };
         let given = unpacked(job.run(&Second, book, form.number(), &other, &mut output));

@@ -4,7 +4,6 @@ use second::calls::{unpacked, Form, Job};
 use second::gen::hall::{book, Dynamics};
 use second::gen::stream::mixed::BookStream;
 use second::gen::{BookDraft, Rng};
-use second::limits::END_SHEET_LENGTH;
 use second::{learn, Second};
 
 fn sheet(draft: &BookDraft) -> (u32, Vec<u8>) {
@@ -92,8 +91,7 @@ fn refusals_leave_lent_memory_untouched() {
         let mut refused = 0;
         for index in 0..2_000 {
             let case = stream.case(index);
-            let lengths = [0, 128, END_SHEET_LENGTH, 700, 700, 700];
-            for (job, length) in Job::ALL.into_iter().zip(lengths) {
+            for (job, length) in Job::ALL.into_iter().zip([0, 128, 512, 700, 700, 700]) {
                 if !job.forms().contains(&form) {
                     continue;
                 }

@@ -8,7 +8,6 @@ use second::gen::extreme::{fullbook, turns};
 use second::gen::hall::{book, Dynamics};
 use second::gen::plan::order;
 use second::gen::{extreme, BookDraft, Rng};
-use second::limits::END_SHEET_LENGTH;
 use second::{add, check, convert, form, learn, Answer, Refusal, Second};
 use shared::{hex, set};
 
@@ -51,7 +50,7 @@ fn the_small_hall_there_and_back() {
 fn the_small_hall_learned_and_checked() {
     let mut sheet = vec![0xee; 128];
     assert_eq!(learn::learn(&short_hall(), Form::Short, &mut sheet), Answer::success(1));
-    let sets = [&[1, 24][..], &[], &[2, 20], &[1, 24]].map(|bits| set(32, bits));
+    let sets = [&[1, 24], &[2, 20], &[2, 20], &[1, 24]].map(|bits| set(32, bits));
     assert_eq!(sheet, sets.concat());
     let order = shared::order(
         &[1, 2, 2, 2],
@@ -59,10 +58,10 @@ fn the_small_hall_learned_and_checked() {
         &[(1, [1, 1, 4])],
         &[[1, 1, 2, 3, 0], [1, 1, 3, 4, 0]],
     );
-    let mut end = [0xa5; END_SHEET_LENGTH];
+    let mut end = [0xa5; 512];
     let answer = check::check(&short_hall(), Form::Short, &order, &mut end);
     assert_eq!(answer, Answer::success(2));
-    assert_eq!(end[..], set(END_SHEET_LENGTH, &[3, 256 + 16, 256 + 32]));
+    assert_eq!(end[..], set(512, &[3, 256 + 16, 256 + 32]));
 }
 
 /// 0 is a full book, any other number a short one.
@@ -178,7 +177,7 @@ fn twins_check_alike() {
         let plan = order::draw(&mut Rng::of_case(4, index));
         let order = plan.order.bytes();
         let checked = |form: Form| {
-            let mut end = vec![0x3c; END_SHEET_LENGTH];
+            let mut end = vec![0x3c; 512];
             let answer = check::check(&plan.book.in_form(form).bytes(), form, &order, &mut end);
             (answer, end)
         };

@@ -6,15 +6,14 @@ use second::calls::Form;
 use second::gen::plan::{order, several};
 use second::gen::Rng;
 use second::judge::{verdicts, Verdict};
-use second::limits::END_SHEET_LENGTH;
 use second::{check, listing, Answer, Refusal};
 use shared::hex;
 
-/// Bank 1 at spot 2, spots 3 and 4 clear; then the same without spot 4, or without
-/// spot 3.
+/// Bank 1 at spot 2, spots 3 and 4 clear; then the same without spot 4, or with
+/// spot 2 clear as well.
 const PASSES: &str = "0003 010102 020300 020400";
 const STOPS_AT_2: &str = "0002 010102 020300";
-const STOPS_AT_1: &str = "0002 010102 020400";
+const STOPS_AT_1: &str = "0004 010102 020200 020300 020400";
 
 fn small_hall() -> Vec<u8> {
     hex("0002 0002 0001 0001 0010 0018 001E 003A | 02010200 01020000 | 030102020000 | \
@@ -31,9 +30,9 @@ fn order_of(starts: &[&str]) -> Vec<u8> {
 }
 
 fn checked(starts: &[&str]) -> (Answer, bool) {
-    let mut end = [0xa5; END_SHEET_LENGTH];
+    let mut end = [0xa5; 512];
     let answer = check::check(&small_hall(), Form::Full, &order_of(starts), &mut end);
-    (answer, end != [0xa5; END_SHEET_LENGTH])
+    (answer, end != [0xa5; 512])
 }
 
 #[test]
@@ -62,8 +61,7 @@ fn the_judge_speaks_of_each_start() {
     let said = verdicts(&small_hall(), Form::Full, &order_of(&[STOPS_AT_2, PASSES, STOPS_AT_1]));
     let end = vec![[1, 1, 4], [2, 2, 0], [2, 3, 0]];
     let (second, first) = (Verdict::Stops { step: 2 }, Verdict::Stops { step: 1 });
-    let passes = Verdict::Passes { steps: 2, end, unknown: Vec::new() };
-    assert_eq!(said, [second, passes, first]);
+    assert_eq!(said, [second, Verdict::Passes { steps: 2, end }, first]);
 }
 
 /// The sequence of the starts decides which one is told, not whether the plan passes.
@@ -75,8 +73,7 @@ fn the_sequence_of_starts_does_not_decide_a_pass() {
         let mut plan = order::draw(&mut rng);
         let book = plan.book.bytes();
         let mut number = || {
-            let answer =
-                check::check(&book, Form::Full, &plan.order.bytes(), &mut [0; END_SHEET_LENGTH]);
+            let answer = check::check(&book, Form::Full, &plan.order.bytes(), &mut [0; 512]);
             rng.shuffle(&mut plan.order.starts);
             answer.number
         };
@@ -92,9 +89,9 @@ fn the_sequence_of_starts_does_not_decide_a_pass() {
 fn drawn_starts_are_answered_as_aimed() {
     for (index, kind) in several::Starts::ALL.into_iter().cycle().take(700).enumerate() {
         let (plan, aimed) = several::case(kind, &mut Rng::of_case(4, index));
-        let mut end = [0xa5; END_SHEET_LENGTH];
+        let mut end = [0xa5; 512];
         let answer = check::check(&plan.book.bytes(), Form::Full, &plan.order.bytes(), &mut end);
         assert_eq!(answer, aimed, "{}", kind.label());
-        assert!(plan.order.starts.len() > 1 && end == [0xa5; END_SHEET_LENGTH]);
+        assert!(plan.order.starts.len() > 1 && end == [0xa5; 512]);
     }
 }

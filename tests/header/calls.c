@@ -1,8 +1,8 @@
 /*
  * The calls as the header declares them, on the smallest books and orders: that
- * each links, both forms of a book, the converters, steps that did not go, open
- * facts, several starts, and what the header says of lent memory. The file is C11
- * and C++17 at once; it is built as both.
+ * each links, both forms of a book, the converters, steps that did not go, several
+ * starts, and what the header says of lent memory. The file is C11 and C++17 at
+ * once; it is built as both.
  */
 #include "changeover.h"
 #include "expect.h"
@@ -94,7 +94,6 @@ static const uint8_t one_fact[55] = {
     1, 0, 0, 0, 0, 0, 1, 1, 0, 0,                       /* step, state */
     1, 0, 0, 0, 0, 0, 1, 1, 0, 0,                       /* step, state */
 };
-enum { NO_RECORDS = 26 }; /* its length up to the record */
 
 static void test_forms(void)
 {
@@ -165,7 +164,7 @@ static void test_failed_steps(void)
     expect(changeover_learn(one_failed, len, CHANGEOVER_FULL, sheet, sizeof sheet) == 2,
            "such a step with a need unmet");
     expect(changeover_in_rules(sheet, 1, CHANGEOVER_NEEDED_TO_HOLD, 1, 0, 0) &&
-               !changeover_in_rules(sheet, 1, CHANGEOVER_MAY_REMOVE, 1, 0, 0) &&
+               !changeover_in_rules(sheet, 1, CHANGEOVER_NEEDED_NOT_TO_HOLD, 1, 0, 0) &&
                !changeover_in_rules(sheet, 1, CHANGEOVER_ADDED, 1, 0, 0) &&
                changeover_in_rules(sheet, 1, CHANGEOVER_REMOVED, 1, 0, 0),
            "such a step teaches nothing");
@@ -230,106 +229,6 @@ static void test_failed_alone(void)
 }
 
 /*
- * One step of one_fact's move alone, which did not go: with the fact, and without it.
- * A move never recorded needs each of its bound facts, and may remove each.
- */
-static void test_failed_unrecorded(void)
-{
-    static const uint8_t with[19] = {0, 1, 0, 19, 0, 1, 1, 0, 0, 129, 0, 0, 0, 0, 0, 1, 1, 0, 0};
-    static const uint8_t without[13] = {0, 1, 0, 13, 0, 0, 129, 0, 0, 0, 0, 0, 0};
-    uint8_t book[45], sheet[CHANGEOVER_RULES_LEN];
-
-    memcpy(book, one_fact, NO_RECORDS);
-    memcpy(book + NO_RECORDS, with, sizeof with);
-    book[15] = NO_RECORDS + sizeof with;
-    expect(changeover_learn(book, sizeof book, CHANGEOVER_FULL, sheet, sizeof sheet) ==
-               refusal(CHANGEOVER_ALL_NEEDS_MET, NO_RECORDS + 9),
-           "all needs of an unrecorded move hold");
-    memcpy(book + NO_RECORDS, without, sizeof without);
-    book[15] = NO_RECORDS + sizeof without;
-    expect(changeover_learn(book, NO_RECORDS + sizeof without, CHANGEOVER_FULL, sheet,
-                            sizeof sheet) == 1,
-           "a need of an unrecorded move does not hold");
-    expect(changeover_in_rules(sheet, 1, CHANGEOVER_NEEDED_TO_HOLD, 1, 0, 0) &&
-               changeover_in_rules(sheet, 1, CHANGEOVER_MAY_REMOVE, 1, 0, 0) &&
-               !changeover_in_rules(sheet, 1, CHANGEOVER_ADDED, 1, 0, 0) &&
-               !changeover_in_rules(sheet, 1, CHANGEOVER_REMOVED, 1, 0, 0),
-           "the rules of an unrecorded move");
-}
-
-/*
- * Checks so many steps, up to two, of one_fact's move, by a full book; the fact holds
- * at the start. The goal has one entry, that the fact shall hold (1) or shall not (0),
- * or none.
- */
-enum { NO_ENTRY = 2 };
-static uint64_t check_steps(const uint8_t *book, size_t book_len, uint8_t steps, uint8_t entry,
-                            uint8_t *end)
-{
-    static const uint8_t head[21] = {
-        0, 0, 0, 1, 0, 0, 0, 0, 0, 16, 0, 16, 0, 21, 0, 21, /* header */
-        0, 1, 1, 0, 0,                                      /* start */
-    };
-    uint8_t order[35] = {0};
-    size_t at = sizeof head;
-
-    memcpy(order, head, sizeof head);
-    order[7] = steps;
-    if (entry != NO_ENTRY) {
-        order[5] = 1;
-        order[15] = 25;
-        order[at] = entry;
-        order[at + 1] = 1;
-        at += 4;
-    }
-    for (uint8_t i = 0; i < steps; i++) {
-        order[at] = 1;
-        at += 5;
-    }
-    return changeover_check(book, book_len, CHANGEOVER_FULL, order, at, end, CHANGEOVER_END_LEN);
-}
-
-static uint64_t refused_plan(enum changeover_numbers number, uint32_t place)
-{
-    return refusal(number, place) | (uint64_t)1 << 32;
-}
-
-/*
- * By a book without records the move may remove the fact, so it is open after a step.
- * By one_fact the move leaves it, by one_failed it removes it.
- */
-static void test_open(void)
-{
-    uint8_t book[NO_RECORDS], end[CHANGEOVER_END_LEN];
-    const size_t len = sizeof book;
-
-    memcpy(book, one_fact, sizeof book);
-    book[7] = 0;
-    book[15] = NO_RECORDS;
-    memset(end, 0xff, sizeof end);
-    expect(check_steps(book, len, 1, NO_ENTRY, end) == 1, "all needs hold");
-    expect(changeover_end_value(end, 1, 0, 0) == CHANGEOVER_OPEN, "open at the end");
-    expect(all_are(end, CHANGEOVER_STATE_LEN, 0), "the first half without it");
-    expect(end[CHANGEOVER_STATE_LEN] == 1 &&
-               all_are(end + CHANGEOVER_STATE_LEN + 1, CHANGEOVER_STATE_LEN - 1, 0),
-           "the second half with it alone");
-    expect(check_steps(book, len, 1, 1, end) == refused_plan(CHANGEOVER_GOAL_MISSED, 1),
-           "an open fact that shall hold");
-    expect(check_steps(book, len, 1, 0, end) == refused_plan(CHANGEOVER_GOAL_MISSED, 1),
-           "an open fact that shall not hold");
-    expect(check_steps(book, len, 2, NO_ENTRY, end) == refused_plan(CHANGEOVER_NEED_UNMET, 2),
-           "an open need");
-    expect(check_steps(book, len, 0, 1, end) == 0, "no step");
-    expect(changeover_end_value(end, 1, 0, 0) == CHANGEOVER_HOLDS, "known at the start");
-
-    expect(check_steps(one_fact, sizeof one_fact, 2, 1, end) == 2, "a record shows that it stays");
-    expect(changeover_end_value(end, 1, 0, 0) == CHANGEOVER_HOLDS, "known to hold");
-    expect(check_steps(one_failed, sizeof one_failed, 1, 0, end) == 1,
-           "a record shows that it is removed");
-    expect(changeover_end_value(end, 1, 0, 0) == CHANGEOVER_HOLDS_NOT, "known not to hold");
-}
-
-/*
  * A relation without places, so there is one fact. The order has two starts, the
  * fact holding in the first alone, no steps, and the goal that the fact holds.
  */
@@ -356,9 +255,6 @@ static void test_starts(void)
     expect(all_are(end, sizeof end, 0xa7), "end sheet with two starts");
     answer = changeover_check(book, sizeof book, CHANGEOVER_FULL, order, 23, end, sizeof end - 1);
     expect(answer == refusal(CHANGEOVER_OUTPUT_LENGTH, 0), "end sheet of wrong length");
-    answer = changeover_check(book, sizeof book, CHANGEOVER_FULL, order, 23, end,
-                              CHANGEOVER_STATE_LEN);
-    expect(answer == refusal(CHANGEOVER_OUTPUT_LENGTH, 0), "half an end sheet");
 
     order[3] = 17;
     answer = changeover_check(book, sizeof book, CHANGEOVER_FULL, order, 23, end, sizeof end);
@@ -426,8 +322,6 @@ int main(void)
     test_failed_steps();
     test_states_differ();
     test_failed_alone();
-    test_failed_unrecorded();
-    test_open();
     test_starts();
     test_overlap();
     test_impossible_lengths();

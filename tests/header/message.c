@@ -99,8 +99,7 @@ static void test_longest(void)
 /* As much as there is room for, a 0 behind it, and the bytes beyond the buffer as they were. */
 static void test_cut(void)
 {
-    static const char text[] =
-        "refused 19, step 64, start 16: a learned need does not hold, or is open, in the plan";
+    static const char text[] = "refused 19, step 64, start 16: a learned need is unmet in the plan";
     const uint64_t answer = answer_of(19, 16, 64);
 
     for (size_t length = 0; length <= sizeof text + 1; length++) {

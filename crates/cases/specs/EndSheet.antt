@@ -1,13 +1,13 @@
 -- Cases of the facts that are right for an order, like the marked ones: their bits alone may be set in its end sheet.
-use Rattle.std.specs.Prelude.{ℕ, cond, List, [], ◌∷◌, map, replicate}
+use Rattle.std.specs.Prelude.{ℕ, cond, List, [], ◌∷◌, map}
 use Rattle.terms.specs.declared.Fact.{Fact}
 use Rattle.terms.specs.Schema.{typed_objects}
 use Rattle.terms.specs.Facts.{fact_bad, fact_number}
 use Rattle.format.specs.Form.{full}
 use Rattle.format.specs.Order.{order_objects}
-use Rattle.jobs.specs.Planning.{schema_of}
-use Rattle.jobs.specs.Check.{check_bytes}
-use Rattle.cases.specs.Marked.{book, rolls_of, Case, halves, lent}
+use Rattle.jobs.specs.Planning.{schema_of, start_states}
+use Rattle.jobs.specs.Check.{order_run}
+use Rattle.cases.specs.Marked.{book, rolls_of, Case, values_from}
 
 abbrev fact : ℕ → ℕ → ℕ → Fact
 fact relation first second = record { relation = record { 0 = relation }; first = record { 0 = first }; second = record { 0 = second } }
@@ -17,9 +17,9 @@ fact relation first second = record { relation = record { 0 = relation }; first 
 abbrev facts : List Fact
 facts = fact 1 1 4 ∷ fact 1 1 1 ∷ fact 1 2 3 ∷ fact 2 5 0 ∷ fact 2 2 0 ∷ fact 2 2 2 ∷ fact 3 1 0 ∷ []
 
--- whether each of them is right there; and M2's end sheet, in which the two that are right hold and none is unknown
+-- whether each of them is right there; and M2's end state, in which the two that are right hold
 abbrev pub right_bits : List Case
 right_bits =
     record { gives = map (λ f. cond (fact_bad (schema_of book) (typed_objects (order_objects (rolls_of 1)) (rolls_of 1)) f) 0 1) facts; wanted = 1 ∷ 0 ∷ 0 ∷ 0 ∷ 1 ∷ 0 ∷ 0 ∷ [] }
-    ∷ record { gives = halves (check_bytes full book (rolls_of 1) lent) (map fact_number facts); wanted = 1 ∷ 0 ∷ 0 ∷ 0 ∷ 1 ∷ 0 ∷ 0 ∷ replicate 7 0 }
+    ∷ record { gives = values_from (map (order_run full book (rolls_of 1)) (start_states (rolls_of 1))) (map fact_number facts); wanted = 1 ∷ 0 ∷ 0 ∷ 0 ∷ 1 ∷ 0 ∷ 0 ∷ [] }
     ∷ []

@@ -41,11 +41,11 @@ coupled kind last =
 abbrev is_coupled : List ℕ
 is_coupled = 0x03 ∷ 0x01 ∷ 0x00 ∷ []
 
--- M1 as a rule sheet, whose second set is empty, since each bound fact was seen to hold before the roll or to be added; and an output lent for it
+-- M1 as a rule sheet, and an output lent for it
 abbrev pub rules : List ℕ
 rules =
     (0x02 ∷ 0x00 ∷ 0x00 ∷ 0x01 ∷ replicate 28 0)
-    ++ replicate 32 0
+    ++ (0x04 ∷ 0x00 ∷ 0x10 ∷ 0x00 ∷ replicate 28 0)
     ++ (0x04 ∷ 0x00 ∷ 0x10 ∷ 0x00 ∷ replicate 28 0)
     ++ (0x02 ∷ 0x00 ∷ 0x00 ∷ 0x01 ∷ replicate 28 0)
 
@@ -78,12 +78,12 @@ kinds_under =
     ∷ record { gives = said (look_over full (under 2 (0 ∷ []) 1 1)); wanted = 3 ∷ 0 ∷ [] }
     ∷ []
 
--- Starts: bank 1 at spot 2, spots 3 and 4 clear; bank 1 at spot 3 and all spots clear, from where no roll from spot 2 goes.
+-- Starts: bank 1 at spot 2, spots 3 and 4 clear; the same with spot 2 clear too, from where no roll of the bank goes.
 abbrev pub passing_start : List ℕ
 passing_start = 0x00 ∷ 0x03 ∷ 0x01 ∷ 0x01 ∷ 0x02 ∷ 0x02 ∷ 0x03 ∷ 0x00 ∷ 0x02 ∷ 0x04 ∷ 0x00 ∷ []
 
 abbrev pub stopping_start : List ℕ
-stopping_start = 0x00 ∷ 0x04 ∷ 0x01 ∷ 0x01 ∷ 0x03 ∷ 0x02 ∷ 0x02 ∷ 0x00 ∷ 0x02 ∷ 0x03 ∷ 0x00 ∷ 0x02 ∷ 0x04 ∷ 0x00 ∷ []
+stopping_start = 0x00 ∷ 0x04 ∷ 0x01 ∷ 0x01 ∷ 0x02 ∷ 0x02 ∷ 0x02 ∷ 0x00 ∷ 0x02 ∷ 0x03 ∷ 0x00 ∷ 0x02 ∷ 0x04 ∷ 0x00 ∷ []
 
 -- An order over bank 1 and spots 2, 3, 4 with the goal of the bank at 4. It is told the count of starts, the bytes between objects and goal,
 -- and the steps.

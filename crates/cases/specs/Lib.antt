@@ -8,5 +8,4 @@ pub mod Sequences
 pub mod EachStart
 pub mod EndSheet
 pub mod NotGone
-pub mod Unknown
 pub mod Cases

@@ -1,15 +1,16 @@
 -- The marked cases M1 to M10 of the paper and its limits: the bytes of their books and orders, what the definitions give, and what the paper says.
-use Rattle.std.specs.Prelude.{ℕ, zero, suc, ◌+◌, ◌/◌, ◌%◌, cond, List, [], ◌∷◌, ◌++◌, map, length, take, drop, replicate}
-use Rattle.limits.specs.Limits.{rule_size, state_size, end_sheet_size}
+use Rattle.std.specs.Prelude.{ℕ, zero, suc, ◌+◌, ◌/◌, ◌%◌, cond, List, [], ◌∷◌, ◌++◌, map, length, take, replicate}
+use Rattle.limits.specs.Limits.{rule_size, end_sheet_size}
 use Rattle.answer.specs.declared.Answer.{Answer}
 use Rattle.answer.specs.declared.Positioned.{Positioned}
 use Rattle.answer.specs.Answer.{number, place}
-use Rattle.mask.specs.Bits.{test_bit}
 use Rattle.format.specs.Form.{full}
 use Rattle.format.specs.LookOver.{look_over}
+use Rattle.jobs.specs.Planning.{start_states}
 use Rattle.jobs.specs.Learn.{learn}
-use Rattle.jobs.specs.Check.{check, check_bytes}
+use Rattle.jobs.specs.Check.{order_run, check, check_bytes}
 use Rattle.jobs.specs.Listing.{rules_printed}
+use Rattle.model.specs.Model.{Run, stopped, ended}
 
 -- the small hall
 abbrev pub book : List ℕ
@@ -104,8 +105,8 @@ abbrev pub printed : List ℕ
 printed =
     0x6d ∷ 0x6f ∷ 0x76 ∷ 0x65 ∷ 0x73 ∷ 0x20 ∷ 0x31 ∷ 0x20 ∷ 0x72 ∷ 0x65 ∷ 0x63 ∷ 0x6f ∷ 0x72 ∷ 0x64 ∷ 0x73 ∷ 0x20
     ∷ 0x31 ∷ 0x20 ∷ 0x73 ∷ 0x74 ∷ 0x65 ∷ 0x70 ∷ 0x73 ∷ 0x20 ∷ 0x31 ∷ 0x0a ∷ 0x31 ∷ 0x20 ∷ 0x31 ∷ 0x20 ∷ 0x31 ∷ 0x20
-    ∷ 0x32 ∷ 0x20 ∷ 0x48 ∷ 0x20 ∷ 0x52 ∷ 0x0a ∷ 0x31 ∷ 0x20 ∷ 0x31 ∷ 0x20 ∷ 0x31 ∷ 0x20 ∷ 0x33 ∷ 0x20 ∷ 0x46 ∷ 0x20
-    ∷ 0x41 ∷ 0x0a ∷ 0x31 ∷ 0x20 ∷ 0x32 ∷ 0x20 ∷ 0x32 ∷ 0x20 ∷ 0x30 ∷ 0x20 ∷ 0x46 ∷ 0x20 ∷ 0x41 ∷ 0x0a ∷ 0x31 ∷ 0x20
+    ∷ 0x32 ∷ 0x20 ∷ 0x48 ∷ 0x20 ∷ 0x52 ∷ 0x0a ∷ 0x31 ∷ 0x20 ∷ 0x31 ∷ 0x20 ∷ 0x31 ∷ 0x20 ∷ 0x33 ∷ 0x20 ∷ 0x4e ∷ 0x20
+    ∷ 0x41 ∷ 0x0a ∷ 0x31 ∷ 0x20 ∷ 0x32 ∷ 0x20 ∷ 0x32 ∷ 0x20 ∷ 0x30 ∷ 0x20 ∷ 0x4e ∷ 0x20 ∷ 0x41 ∷ 0x0a ∷ 0x31 ∷ 0x20
     ∷ 0x32 ∷ 0x20 ∷ 0x33 ∷ 0x20 ∷ 0x30 ∷ 0x20 ∷ 0x48 ∷ 0x20 ∷ 0x52 ∷ 0x0a ∷ []
 
 -- what a case gives, and what the paper says
@@ -120,19 +121,15 @@ said a = number a ∷ place a ∷ []
 abbrev pub said_at : Positioned → List ℕ
 said_at r = number r.answer ∷ place r.answer ∷ r.position ∷ []
 
--- The bits of an end sheet at facts: those of its first half, then those of its second. (All 4,096 facts of M2 at once would take too long to compute.)
-abbrev bits : List ℕ → List ℕ → List ℕ
-bits mask fs = map (λ f. cond (test_bit mask f) 1 0) fs
+-- whether each of the facts holds where the run ends: 1 or 0. (All 4,096 of M2 at once would take too long to compute.)
+abbrev values_at : Run → List ℕ → List ℕ
+values_at (stopped k) fs = []
+values_at (ended end) fs = map (λ f. cond (end f) 1 0) fs
 
-abbrev pub halves : List ℕ → List ℕ → List ℕ
-halves sheet fs = bits (take state_size sheet) fs ++ bits (drop state_size sheet) fs
-
--- the facts of M2's hall: bank 1 at spots 2, 3 and 4, and these clear; and the second half where none of them is unknown
-abbrev pub hall_facts : List ℕ
-hall_facts = 1 ∷ 2 ∷ 3 ∷ 272 ∷ 288 ∷ 304 ∷ []
-
-abbrev pub all_known : List ℕ
-all_known = replicate 6 0
+-- the same from each start in turn
+abbrev pub values_from : List Run → List ℕ → List ℕ
+values_from [] fs = []
+values_from (r ∷ rs) fs = values_at r fs ++ values_from rs fs
 
 -- an output lent for an end sheet
 abbrev pub lent : List ℕ
@@ -199,14 +196,11 @@ abbrev pub marked : List Case
 marked =
     record { gives = rules_printed book; wanted = printed }
     ∷ record { gives = said_at (check full book order2 end_sheet_size); wanted = 0 ∷ 2 ∷ 0 ∷ [] }
-    ∷ record { gives = halves (check_bytes full book order2 lent) hall_facts; wanted = 0 ∷ 0 ∷ 1 ∷ 1 ∷ 1 ∷ 0 ∷ all_known }
-    ∷ record { gives = said_at (check full book order2 1023); wanted = 13 ∷ 0 ∷ 0 ∷ [] }
-    ∷ record { gives = said_at (check full book order2 1025); wanted = 13 ∷ 0 ∷ 0 ∷ [] }
-    ∷ record { gives = said_at (check full book order3 end_sheet_size); wanted = 0 ∷ 2 ∷ 0 ∷ [] }
-    ∷ record { gives = halves (check_bytes full book order3 lent) hall_facts; wanted = 0 ∷ 0 ∷ 1 ∷ 1 ∷ 1 ∷ 0 ∷ all_known }
+    ∷ record { gives = values_from (map (order_run full book order2) (start_states order2)) (1 ∷ 2 ∷ 3 ∷ 272 ∷ 288 ∷ 304 ∷ []); wanted = 0 ∷ 0 ∷ 1 ∷ 1 ∷ 1 ∷ 0 ∷ [] }
+    ∷ record { gives = said_at (check full book order3 end_sheet_size); wanted = 19 ∷ 1 ∷ 1 ∷ [] }
+    ∷ record { gives = check_bytes full book order3 lent; wanted = lent }
     ∷ record { gives = said_at (check full book order4 end_sheet_size); wanted = 0 ∷ 0 ∷ 0 ∷ [] }
     ∷ record { gives = said_at (check full book order5 end_sheet_size); wanted = 20 ∷ 1 ∷ 1 ∷ [] }
-    ∷ record { gives = check_bytes full book order5 lent; wanted = lent }
     ∷ record { gives = said_at (check full book6 (rolled 2 3) end_sheet_size); wanted = 19 ∷ 1 ∷ 1 ∷ [] }
     ∷ record { gives = said_at (check full book6 (rolled 2 4) end_sheet_size); wanted = 19 ∷ 1 ∷ 1 ∷ [] }
     ∷ record { gives = said_at (check full book6 (rolled 3 2) end_sheet_size); wanted = 19 ∷ 1 ∷ 1 ∷ [] }

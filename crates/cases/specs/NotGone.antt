@@ -1,41 +1,42 @@
 -- Cases of steps that did not go, like the marked ones: 128 is added to their move byte. Offsets are counted from the bytes: the first record of the
 -- small hall stands at 30, its first state at 37.
-use Rattle.std.specs.Prelude.{ℕ, ◌+◌, List, [], ◌∷◌, ◌++◌, length, drop, replicate}
+use Rattle.std.specs.Prelude.{ℕ, ◌+◌, List, [], ◌∷◌, ◌++◌, map, length, drop, replicate}
 use Rattle.limits.specs.Limits.{rule_size, end_sheet_size}
 use Rattle.format.specs.Form.{full, short}
 use Rattle.format.specs.LookOver.{look_over}
+use Rattle.jobs.specs.Planning.{start_states}
 use Rattle.jobs.specs.Learn.{learn, learn_bytes}
-use Rattle.jobs.specs.Check.{check, check_bytes}
+use Rattle.jobs.specs.Check.{order_run, check, check_bytes}
 use Rattle.jobs.specs.Listing.{rules_printed}
 use Rattle.jobs.specs.Add.{add, add_bytes}
 use Rattle.jobs.specs.Convert.{convert, convert_bytes}
-use Rattle.cases.specs.Marked.{book, hall_of, rolls_of, order3, order5, rolled, printed, Case, said, said_at, halves, hall_facts, all_known, lent}
+use Rattle.cases.specs.Marked.{book, hall_of, rolls_of, order3, order5, rolled, printed, Case, said, said_at, values_from, lent}
 use Rattle.cases.specs.Further.{rules, lent_rules, passing_start, from_starts, roll, with_byte}
 use Rattle.cases.specs.Shorts.{short_book, crowd, all, single}
 use Rattle.cases.specs.Sequences.{cleared, short_cleared, left_clear, short_left_clear, emptied, strayed}
 
 -- ---- records of bank 1 and spots 2 and 3
 
--- Lists of facts. Bank 1 is at 2 and spot 3 clear, as before the roll of the small hall; spot 3 is not clear, so that a need is unmet; spot 2 is clear too,
--- so that the needs are met; bank 1 is at 3. Of 8, 5, 11 and 5 bytes.
-abbrev pub ready : List ℕ
+-- Lists of facts. Bank 1 is at 2 and spot 3 clear, as before the roll of the small hall; spot 3 is not clear, so that a need to hold is unmet; spot 2 is
+-- clear too, so that a need not to hold is unmet; bank 1 is at 3. Of 8, 5, 11 and 5 bytes.
+abbrev ready : List ℕ
 ready = 0x00 ∷ 0x02 ∷ 0x01 ∷ 0x01 ∷ 0x02 ∷ 0x02 ∷ 0x03 ∷ 0x00 ∷ []
 
-abbrev pub blocked : List ℕ
+abbrev blocked : List ℕ
 blocked = 0x00 ∷ 0x01 ∷ 0x01 ∷ 0x01 ∷ 0x02 ∷ []
 
 abbrev both_clear : List ℕ
 both_clear = 0x00 ∷ 0x03 ∷ 0x01 ∷ 0x01 ∷ 0x02 ∷ 0x02 ∷ 0x02 ∷ 0x00 ∷ 0x02 ∷ 0x03 ∷ 0x00 ∷ []
 
-abbrev pub elsewhere : List ℕ
+abbrev elsewhere : List ℕ
 elsewhere = 0x00 ∷ 0x01 ∷ 0x01 ∷ 0x01 ∷ 0x03 ∷ []
 
 -- no fact: what turns in a short book with a step that did not go
-abbrev pub none : List ℕ
+abbrev none : List ℕ
 none = 0x00 ∷ 0x00 ∷ []
 
 -- bank 1 is at 3 and spot 2 clear, after the roll; and the four facts that it turns
-abbrev pub arrived : List ℕ
+abbrev arrived : List ℕ
 arrived = 0x00 ∷ 0x02 ∷ 0x01 ∷ 0x01 ∷ 0x03 ∷ 0x02 ∷ 0x02 ∷ 0x00 ∷ []
 
 abbrev four_turn : List ℕ
@@ -46,11 +47,11 @@ abbrev step_of : ℕ → List ℕ
 step_of move = move ∷ 0x01 ∷ 0x02 ∷ 0x03 ∷ 0x00 ∷ []
 
 -- a record of so many steps: 4 bytes of head, 3 objects, and what is behind them
-abbrev pub record_of : ℕ → List ℕ → List ℕ
+abbrev record_of : ℕ → List ℕ → List ℕ
 record_of steps behind = (0x03 ∷ steps ∷ 0x00 ∷ (7 + length behind) ∷ 0x01 ∷ 0x02 ∷ 0x02 ∷ []) ++ behind
 
 -- One roll that did not go, with the state before it and the list behind it. In the small hall alone its step stands at 37 and the length of that state.
-abbrev pub tried : List ℕ → List ℕ → List ℕ
+abbrev tried : List ℕ → List ℕ → List ℕ
 tried before behind = record_of 1 (before ++ (step_of 0x81 ++ behind))
 
 -- The roll goes; the same roll, tried again, does not, bank 1 being at 3; it rolls back. Of three states, or of lists of what turns: of 54 and 60 bytes.
@@ -83,7 +84,7 @@ abbrev short_with_record : List ℕ → List ℕ
 short_with_record r = hall_of 2 (short_cleared ++ r)
 
 -- The small hall with a second move, told by its 6 bytes: the records begin at 36.
-abbrev pub with_move : List ℕ → ℕ → List ℕ → List ℕ
+abbrev with_move : List ℕ → ℕ → List ℕ → List ℕ
 with_move move count records =
     (0x00 ∷ 0x02 ∷ 0x00 ∷ 0x02 ∷ 0x00 ∷ 0x02 ∷ 0x00 ∷ count ∷ 0x00 ∷ 0x10 ∷ 0x00 ∷ 0x18 ∷ 0x00 ∷ 0x24 ∷ 0x00 ∷ (0x24 + length records) ∷ [])
     ++ (0x02 ∷ 0x01 ∷ 0x02 ∷ 0x00 ∷ 0x01 ∷ 0x02 ∷ 0x00 ∷ 0x00 ∷ 0x03 ∷ 0x01 ∷ 0x02 ∷ 0x02 ∷ 0x00 ∷ 0x00 ∷ [])
@@ -106,8 +107,8 @@ pushed = with_move push 2 (cleared ++ record_of 1 (ready ++ (step_of 0x82 ++ rea
 abbrev short_pushed : List ℕ
 short_pushed = with_move push 2 (short_cleared ++ record_of 1 (ready ++ (step_of 0x82 ++ none)))
 
--- the 128 bytes of a move like the roll that is never recorded: each of its four bound facts, numbered 1, 2, 20 and 24, is needed and may be removed
-abbrev pub unrecorded : List ℕ
+-- the 128 bytes of a move like the roll that is never recorded: each of its four bound facts, numbered 1, 2, 20 and 24, is needed both ways
+abbrev unrecorded : List ℕ
 unrecorded = (0x06 ∷ 0x00 ∷ 0x10 ∷ 0x01 ∷ replicate 28 0) ++ (0x06 ∷ 0x00 ∷ 0x10 ∷ 0x01 ∷ replicate 92 0)
 
 -- M1's listing with 2 records and 2 steps
@@ -119,13 +120,18 @@ printed_of_two = with_byte 16 0x32 (with_byte 24 0x32 printed)
 -- The rules, the listing and the checks of the small hall, with a step more that did not go.
 abbrev pub learned_without : List Case
 learned_without =
-    -- a need is unmet; the step counts
+    -- a need to hold is unmet; the step counts
     record { gives = learn_bytes full (with_record (tried blocked blocked)) lent_rules; wanted = rules }
     ∷ record { gives = said (learn full (with_record (tried blocked blocked)) rule_size); wanted = 0 ∷ 2 ∷ [] }
     ∷ record { gives = learn_bytes short (short_with_record (tried blocked none)) lent_rules; wanted = rules }
     ∷ record { gives = said (learn short (short_with_record (tried blocked none)) rule_size); wanted = 0 ∷ 2 ∷ [] }
     -- the same bytes without the 128: a roll that went and left bank 1 at 2
     ∷ record { gives = said (learn full (with_record (record_of 1 (blocked ++ (roll ++ blocked)))) rule_size); wanted = 12 ∷ 1 ∷ [] }
+    -- a need not to hold is unmet
+    ∷ record { gives = learn_bytes full (with_record (tried both_clear both_clear)) lent_rules; wanted = rules }
+    ∷ record { gives = learn_bytes short (short_with_record (tried both_clear none)) lent_rules; wanted = rules }
+    ∷ record { gives = said (learn full (with_record (tried both_clear both_clear)) rule_size); wanted = 0 ∷ 2 ∷ [] }
+    ∷ record { gives = said (learn short (short_with_record (tried both_clear none)) rule_size); wanted = 0 ∷ 2 ∷ [] }
     -- filed before the record that shows the needs, and between two rolls of one record
     ∷ record { gives = learn_bytes full (hall_of 2 (tried blocked blocked ++ cleared)) lent_rules; wanted = rules }
     ∷ record { gives = learn_bytes full (hall_of 1 tried_between) lent_rules; wanted = rules }
@@ -133,16 +139,15 @@ learned_without =
     ∷ record { gives = learn_bytes short (hall_of 1 short_tried_between) lent_rules; wanted = rules }
     ∷ record { gives = said (learn short (hall_of 1 short_tried_between) rule_size); wanted = 0 ∷ 3 ∷ [] }
     ∷ record { gives = rules_printed (with_record (tried blocked blocked)); wanted = printed_of_two }
-    -- M2 passes with its end sheet, M3 passes, a roll stops, M5 misses its goal
+    -- M2 passes with its end state, M3 stops, M5 misses its goal
     ∷ record { gives = said_at (check full (with_record (tried blocked blocked)) (rolls_of 1) end_sheet_size); wanted = 0 ∷ 2 ∷ 0 ∷ [] }
     ∷ record { gives = said_at (check short (short_with_record (tried blocked none)) (rolls_of 1) end_sheet_size); wanted = 0 ∷ 2 ∷ 0 ∷ [] }
-    ∷ record { gives = halves (check_bytes full (with_record (tried blocked blocked)) (rolls_of 1) lent) hall_facts; wanted = 0 ∷ 0 ∷ 1 ∷ 1 ∷ 1 ∷ 0 ∷ all_known }
-    ∷ record { gives = said_at (check full (with_record (tried blocked blocked)) order3 end_sheet_size); wanted = 0 ∷ 2 ∷ 0 ∷ [] }
-    ∷ record { gives = said_at (check full (with_record (tried blocked blocked)) (rolled 3 4) end_sheet_size); wanted = 19 ∷ 1 ∷ 1 ∷ [] }
+    ∷ record { gives = values_from (map (order_run full (with_record (tried blocked blocked)) (rolls_of 1)) (start_states (rolls_of 1))) (1 ∷ 2 ∷ 3 ∷ 272 ∷ 288 ∷ 304 ∷ []); wanted = 0 ∷ 0 ∷ 1 ∷ 1 ∷ 1 ∷ 0 ∷ [] }
+    ∷ record { gives = said_at (check full (with_record (tried blocked blocked)) order3 end_sheet_size); wanted = 19 ∷ 1 ∷ 1 ∷ [] }
     ∷ record { gives = said_at (check full (with_record (tried blocked blocked)) order5 end_sheet_size); wanted = 20 ∷ 1 ∷ 1 ∷ [] }
     ∷ []
 
--- A move of which only such steps are filed: it needs each of its bound facts, and may remove each.
+-- A move of which only such steps are filed: its needs stay all its bound facts both ways, of which one is unmet in any state.
 abbrev pub never_went : List Case
 never_went =
     -- the roll, in a book of such a step alone, which is no record of nothing
@@ -171,16 +176,9 @@ needs_met =
     ∷ record { gives = learn_bytes full (with_record (tried ready ready)) lent_rules; wanted = lent_rules }
     -- it is no row of looking over
     ∷ record { gives = said (look_over full (with_record (tried ready ready))); wanted = 0 ∷ 2 ∷ [] }
-    -- nothing is needed not to hold: spot 2 is clear too, which no roll of the book shows; the step stands at 58 + 7 + 11 and 64 + 7 + 11
-    ∷ record { gives = said (learn full (with_record (tried both_clear both_clear)) rule_size); wanted = 28 ∷ 76 ∷ [] }
-    ∷ record { gives = said (learn short (short_with_record (tried both_clear none)) rule_size); wanted = 28 ∷ 82 ∷ [] }
-    ∷ record { gives = learn_bytes full (with_record (tried both_clear both_clear)) lent_rules; wanted = lent_rules }
-    ∷ record { gives = learn_bytes short (short_with_record (tried both_clear none)) lent_rules; wanted = lent_rules }
-    -- the needs are those of the whole book: the third record shows that spot 2 need not be clear; the step stands at 61 + 7 + 8 and 64 + 7 + 8
-    ∷ record { gives = said (learn full (hall_of 2 (left_clear ++ tried ready ready)) rule_size); wanted = 0 ∷ 2 ∷ [] }
-    ∷ record { gives = said (learn short (hall_of 2 (short_left_clear ++ tried ready none)) rule_size); wanted = 0 ∷ 2 ∷ [] }
-    ∷ record { gives = said (learn full (hall_of 3 (left_clear ++ (tried ready ready ++ cleared))) rule_size); wanted = 28 ∷ 76 ∷ [] }
-    ∷ record { gives = said (learn short (hall_of 3 (short_left_clear ++ (tried ready none ++ short_cleared))) rule_size); wanted = 28 ∷ 79 ∷ [] }
+    -- the needs are those of the whole book: the third record shows that spot 2 may be clear; the step stands at 58 + 7 + 11 and 64 + 7 + 11
+    ∷ record { gives = said (learn full (hall_of 3 (cleared ++ (tried both_clear both_clear ++ left_clear))) rule_size); wanted = 28 ∷ 76 ∷ [] }
+    ∷ record { gives = said (learn short (hall_of 3 (short_cleared ++ (tried both_clear none ++ short_left_clear))) rule_size); wanted = 28 ∷ 82 ∷ [] }
     -- the first such step: the one before it, of 22 bytes, has a need unmet; 80 + 7 + 8, in a short book 64 + 19 + 7 + 8
     ∷ record { gives = said (learn full (hall_of 4 (cleared ++ (tried blocked blocked ++ (tried ready ready ++ tried ready ready)))) rule_size); wanted = 28 ∷ 95 ∷ [] }
     ∷ record { gives = said (learn short (hall_of 4 (short_cleared ++ (tried blocked none ++ (tried ready none ++ tried ready none)))) rule_size); wanted = 28 ∷ 98 ∷ [] }
@@ -206,7 +204,7 @@ needs_met_late =
     -- before 13: a sheet a byte short; and before 14: an order of no bytes
     ∷ record { gives = said (learn full (with_record (tried ready ready)) 127); wanted = 28 ∷ 73 ∷ [] }
     ∷ record { gives = said (learn full (with_record (tried blocked blocked)) 127); wanted = 13 ∷ 0 ∷ [] }
-    ∷ record { gives = said_at (check full (with_record (tried ready ready)) [] 1023); wanted = 28 ∷ 73 ∷ 0 ∷ [] }
+    ∷ record { gives = said_at (check full (with_record (tried ready ready)) [] 511); wanted = 28 ∷ 73 ∷ 0 ∷ [] }
     -- M2
     ∷ record { gives = said_at (check full (with_record (tried ready ready)) (rolls_of 1) end_sheet_size); wanted = 28 ∷ 73 ∷ 0 ∷ [] }
     ∷ record { gives = said_at (check short (short_with_record (tried ready none)) (rolls_of 1) end_sheet_size); wanted = 28 ∷ 79 ∷ 0 ∷ [] }

@@ -1,4 +1,4 @@
--- For a book that learning does not refuse, a plan executed over masks by the rule sheet comes to what it comes to by the learned rules: a plan of
+-- For a book that learning does not refuse, a plan executed over masks by the rule sheet comes to what it comes to under the learned model: a plan of
 -- any right steps, then that of an order of good form.
 use Prim.Native.Nat.{ℕ, zero, suc, ◌+◌, ◌*◌, ◌≤◌, ◌<◌}
 use mathlib.Core.Path.{◌≡◌}
@@ -16,11 +16,11 @@ use Rattle.format.specs.Form.{Form}
 use Rattle.format.specs.LookOver.{look_over}
 use Rattle.format.specs.Order.{GoalEntry, start_count, step_count, start_at, steps_at, order_form, starts, goal, plan, plan_from}
 use Rattle.quantify.specs.Quantify.{Mem, here, there}
-use Rattle.model.specs.Learned.{Rules}
-use Rattle.model.proofs.Impossible.{ends_valid}
+use Rattle.model.specs.Learned.{Rules, model_of, learned}
+use Rattle.model.proofs.Impossible.{learned_consistent}
 use Rattle.jobs.specs.Planning.{domain, schema_of, transitions_of, ground_action, goal_entry, start_states, plan_of, goal_of}
-use Rattle.jobs.specs.Learn.{learnable, rules_from, rule_sheet}
-use Rattle.jobs.proofs.Sheet.{needed_set_lem, may_remove_set_lem, added_set_lem, removed_set_lem}
+use Rattle.jobs.specs.Learn.{learnable, rules_from, learned_from, rule_sheet}
+use Rattle.jobs.proofs.Sheet.{needed_set_lem, needed_not_set_lem, added_set_lem, removed_set_lem}
 use Rattle.jobs.specs.Check.{plan_run, order_run, run_answer, start_answer, end_sheet}
 use Rattle.wellformed.proofs.Headers.{relations_few, right_schema}
 use Rattle.wellformed.proofs.Formed.{formed}
@@ -32,7 +32,7 @@ use Rattle.wellformed.proofs.Orders.{order_right, start_under}
 use Rattle.wellformed.specs.Right.{order_typed, RightOrder}
 use Rattle.wellformed.proofs.Learnable.{fit_clean, learned_fit}
 use Rattle.statemask.specs.Statemask.{rules_in, execute, start_mask}
-use Rattle.statemask.specs.Executing.{AllInMask, Ruled, Executing, executed_answer, sheet_of}
+use Rattle.statemask.specs.Executing.{AllInMask, Ruled, Executing, executed_answer}
 use Rattle.statemask.proofs.Plan.{execute_start, execute_answer, agrees_sheet}
 use Rattle.format.proofs.OrderForm.{order_good}
 use Rattle.execution.specs.Execution.{Executable}
@@ -40,15 +40,15 @@ use Rattle.starts.specs.Starts.{executed_from, answer_from, StartsGood}
 use Rattle.factsets.specs.Holding.{holding}
 use Rattle.factsets.specs.Right.{RightStep}
 
--- the sets of a move on the sheet are those of the learned rules
-ruled : (form : Form) (s : List ℕ) (a : ℕ) → 1 ≤ a → a ≤ (schema_of s).moves → Ruled (rules_from form s) a (rules_in (rule_sheet form s) a)
-unfolding rule_sheet rules_in
+-- the sets of a move on the sheet are those of the learned model
+ruled : (form : Form) (s : List ℕ) (a : ℕ) → 1 ≤ a → a ≤ (schema_of s).moves → Ruled (learned_from form s) a (rules_in (rule_sheet form s) a)
+unfolding rule_sheet rules_from rules_in learned_from learned model_of
 ruled form s a low high =
     let R : Rules = rules_from form s in
     let moves : ℕ = (schema_of s).moves in
     record {
       needed = needed_set_lem R a moves low high;
-      may_remove = may_remove_set_lem R a moves low high;
+      needed_not = needed_not_set_lem R a moves low high;
       added = added_set_lem R a moves low high;
       removed = removed_set_lem R a moves low high;
     }
@@ -76,14 +76,14 @@ module _ (form : Form) (s : List ℕ) (n m : ℕ) (good : look_over form s ≡ G
         let most = object_most (schema_of s) ob _ (object_of st.binding p) _ (argument_right (schema_of s) ob st (right st i) p.0 low high) in
         omega arith
 
-    executing : Executing (domain (schema_of s)) (rules_from form s) (schema_of s) (rules_in (rule_sheet form s)) steps
-    unfolding rules_from domain ground_action
+    executing : Executing (domain (schema_of s)) (learned_from form s) (schema_of s) (rules_in (rule_sheet form s)) steps
+    unfolding learned_from domain ground_action
     executing =
         let sch = schema_of s in
         let size = relations_few form s n good in
         record {
           few = omega arith;
-          valid = ends_valid (domain sch) (transitions_of form s) (formed form s n good) (fit_clean form s (learned_fit form s n good m learns));
+          valid = (learned_consistent (domain sch) (transitions_of form s) (formed form s n good) (fit_clean form s (learned_fit form s n good m learns))).valid;
           ruled = λ st i. let (a, b) = moves_known st i in ruled form s st.action.0 a b;
           in_mask =
               λ st i.
@@ -99,14 +99,14 @@ module _ (form : Form) (s : List ℕ) (n m : ℕ) (good : look_over form s ≡ G
     module _ (start : List Fact) (under : AllInMask (holding start)) where
       -- rows 19 and 20, and the end sheet where no step stops
       plan_answer : (count : ℕ) (goals : List GoalEntry)
-          → run_answer count (map goal_entry goals) (plan_run form s (holding start) (map (ground_action (schema_of s)) steps)) ≡ executed_answer count goals (execute (schema_of s) (rules_in (rule_sheet form s)) steps (start_mask start) (start_mask start) 1)
+          → run_answer count (map goal_entry goals) (plan_run form s (holding start) (map (ground_action (schema_of s)) steps)) ≡ executed_answer count goals (execute (schema_of s) (rules_in (rule_sheet form s)) steps (start_mask start) 1)
       unfolding plan_run
-      plan_answer count goals = execute_answer (domain (schema_of s)) (rules_from form s) (schema_of s) (rules_in (rule_sheet form s)) steps executing start under count goals
+      plan_answer count goals = execute_answer (domain (schema_of s)) (learned_from form s) (schema_of s) (rules_in (rule_sheet form s)) steps executing start under count goals
 
-      plan_sheet : (execute (schema_of s) (rules_in (rule_sheet form s)) steps (start_mask start) (start_mask start) 1).stop ≡ 0
-          → sheet_of (execute (schema_of s) (rules_in (rule_sheet form s)) steps (start_mask start) (start_mask start) 1) ≡ end_sheet (plan_run form s (holding start) (map (ground_action (schema_of s)) steps))
+      plan_sheet : (execute (schema_of s) (rules_in (rule_sheet form s)) steps (start_mask start) 1).stop ≡ 0
+          → (execute (schema_of s) (rules_in (rule_sheet form s)) steps (start_mask start) 1).mask ≡ end_sheet (plan_run form s (holding start) (map (ground_action (schema_of s)) steps))
       unfolding plan_run
-      plan_sheet e = agrees_sheet _ _ (execute_start (domain (schema_of s)) (rules_from form s) (schema_of s) (rules_in (rule_sheet form s)) steps executing start under) e
+      plan_sheet e = agrees_sheet _ _ (execute_start (domain (schema_of s)) (learned_from form s) (schema_of s) (rules_in (rule_sheet form s)) steps executing start under) e
 
   -- what an order of good form supplies
   module _ (o : List ℕ) (k : ℕ) (order : order_form (schema_of s) o ≡ Good k) where
@@ -147,6 +147,6 @@ module _ (form : Form) (s : List ℕ) (n m : ℕ) (good : look_over form s ≡ G
       start_executed = plan_answer (order_typed o) right.few (plan o) right.steps start (start_in_mask start i) (step_count o) (goal o)
 
       pub start_sheet : (executed_from (schema_of s) (rules_in (rule_sheet form s)) o start).stop ≡ 0
-          → sheet_of (executed_from (schema_of s) (rules_in (rule_sheet form s)) o start) ≡ end_sheet (order_run form s o (holding start))
+          → (executed_from (schema_of s) (rules_in (rule_sheet form s)) o start).mask ≡ end_sheet (order_run form s o (holding start))
       unfolding order_run plan_of executed_from
       start_sheet = plan_sheet (order_typed o) right.few (plan o) right.steps start (start_in_mask start i)

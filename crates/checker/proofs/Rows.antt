@@ -34,7 +34,6 @@ use Rattle.execution.specs.Execution.{Executable}
 use Rattle.wellformed.proofs.Headers.{moves_few}
 use Rattle.observed.specs.Rules.{sheet_observed}
 use Rattle.statemask.specs.Statemask.{rules_in}
-use Rattle.statemask.specs.Executing.{sheet_of}
 use Rattle.rulesheet.proofs.Blocks.{length_sheet}
 use Rattle.learner.specs.Learner.{BookObserved}
 use Rattle.learner.proofs.Book.{schema_own, moves_own, sheet_by, form_good}
@@ -88,7 +87,7 @@ module _ (form : Form) (s o old : List ℕ) (h : Sections) (observed : List ℕ)
       ran new r out = rw (schema_own s h ready.own, is_sheet) at out
 
     module _ (new : List ℕ) (r : Positioned) (ran : StartsOutcome (schema_of s) (rules_in (rule_sheet form s)) o old new r) where
-      -- masks answer from each start as the learned rules do
+      -- masks answer from each start as the learned model does
       each_start : answer_each (schema_of s) (rules_in (rule_sheet form s)) o ≡ starts_answer form s o
       unfolding answer_each starts_answer start_states
       each_start =
@@ -100,12 +99,12 @@ module _ (form : Form) (s o old : List ℕ) (h : Sections) (observed : List ℕ)
       unfolding from_order
       says = ran.says ∙ each_start ∙ sym (then_by _ _ _ order)
 
-      abbrev shown : List Fact → List ℕ
-      shown start = sheet_of (executed_from (schema_of s) (rules_in (rule_sheet form s)) o start)
+      abbrev mask : List Fact → List ℕ
+      mask start = (executed_from (schema_of s) (rules_in (rule_sheet form s)) o start).mask
 
-      -- what the masks of the only start show is its end sheet, where no step stops
+      -- the mask of the only start is its end sheet, where no step stops
       kept_sheet : (xs : List (List Fact)) → starts o ≡ xs → (x : Answer) → x ≡ (first_failing (answer_from (schema_of s) (rules_in (rule_sheet form s)) o) (step_count o) 1 xs).answer
-          → kept x (end_after shown xs old) old ≡ kept x (end_after (λ start. end_sheet (order_run form s o (holding start))) xs old) old
+          → kept x (end_after mask xs old) old ≡ kept x (end_after (λ start. end_sheet (order_run form s o (holding start))) xs old) old
       unfolding kept end_after
       kept_sheet [] e x w = refl
       kept_sheet (start ∷ other ∷ rest) e x w = refl

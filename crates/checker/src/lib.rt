@@ -7,7 +7,7 @@ ghost use Rattle.checker.specs.Checker.{ReadyForOrder, OrderOutcome, CheckOutcom
 use answer::{Answer, Positioned};
 use terms::Sections;
 
-// Rows 14 to 20 for a book that learning does not refuse, with an end sheet of 1,024 bytes.
+// Rows 14 to 20 for a book that learning does not refuse, with an end sheet of 512 bytes.
 fn check_order(
     s: &[u8],
     short: bool,

@@ -1,9 +1,10 @@
 // Rows 11 and 12 from what the learner has observed: the answer for a changed fact that is no bound fact of its step, and the first move with a conflict.
+// And row 28 of one step: whether all preconditions of its move that are observed are met.
 // Uses observed for the sets that are observed, mask for sets, answer; each contract names its definition.
-ghost use Rattle.std.specs.Prelude.{◌≡◌, ◌≤◌, length};
+ghost use Rattle.std.specs.Prelude.{◌≡◌, not, ◌≤◌, length};
 ghost use Rattle.limits.specs.Limits.{observed_size, max_moves};
 ghost use Rattle.quantify.specs.Quantify.{least};
-ghost use Rattle.observed.specs.Rules.{unbound_answer, conflict_observed, conflict_among, in_use, conflict_set};
+ghost use Rattle.observed.specs.Rules.{unbound_answer, conflict_observed, conflict_among, in_use, conflict_set, unmet_set};
 ghost use Rattle.observed.specs.Observed.{MoveObserved};
 
 use answer::Answer;
@@ -76,4 +77,23 @@ pub fn conflict_among(moves: u16, observed: &[u8]) -> Answer
         return Answer::Good(0);
     }
     Answer::Refused(12, m)
+}
+
+// The preconditions of a move that are unmet where `held` are its bound facts that hold: needed not to hold and held, or needed to hold and not held.
+fn unmet_set(observed: &[u8], m: Move, held: [u8; 32]) -> [u8; 32]
+    requires { MoveObserved observed.now m.0 }
+    ensures { result ≡ unmet_set observed.now m.0 held }
+{
+    let needed = observed::observed_set(observed, m, observed::ALWAYS_BEFORE);
+    let bound = observed::observed_set(observed, m, observed::BOUND);
+    let needed_not = observed::outside_observed(bound, observed, m, observed::EVER_BEFORE);
+    mask::union_difference32(mask::intersection32(needed_not, held), needed, held)
+}
+
+// Whether all preconditions of a move are met where `held` are its bound facts that hold.
+pub fn needs_met(observed: &[u8], m: Move, held: [u8; 32]) -> bool
+    requires { MoveObserved observed.now m.0 }
+    ensures { result ≡ not (in_use (unmet_set observed.now m.0 held)) }
+{
+    !in_use(&unmet_set(observed, m, held))
 }

@@ -1,5 +1,5 @@
--- As if absent, proved: over transitions it is `absent` of model, where to fit without failed executions is to need nothing not to hold and to be consistent.
--- What the check says, and what the end sheet shows, then follows from Demand 3, verdict by verdict.
+-- As if absent, proved: over transitions it is `absent` of model, where to fit without failed executions is to be consistent. What the check says, and what
+-- the end sheet shows, then follows from Demand 3, verdict by verdict.
 use Prim.Native.Nat.{ℕ}
 use mathlib.Core.Path.{◌≡◌}
 use mathlib.Core.Logic.{◌↔◌}

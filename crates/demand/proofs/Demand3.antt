@@ -1,40 +1,37 @@
 -- Demand 3, proved: bytes of good form meet the hypotheses of `model`, whose verdict theorem says what the plan comes to from each start.
--- The check's answer is then what these verdicts come to, and the end sheet is read by what a pass says of each fact.
+-- The check's answer is then what these verdicts come to.
 use Prim.Native.Nat.{ℕ, ◌*◌, ◌≤◌, ◌<◌}
 use mathlib.Core.Path.{◌≡◌, refl, sym, ap, ap₂, ◌∙◌}
 use mathlib.Core.Logic.{◌⊎◌, inl, inr, ◌↔◌}
 use mathlib.Core.Bool.{true, false, not}
 use mathlib.Core.List.{List, [], ◌∷◌, map}
 use native.Mathlib.Omega.{arith}
-use lib.ListN.{length, length-append}
+use lib.ListN.{length}
 use Rattle.limits.specs.Limits.{state_size, end_sheet_size, max_fact_numbers, max_starts}
 use Rattle.answer.specs.declared.Answer.{Answer}
 use Rattle.answer.specs.declared.Answer.TheVariants.{Good, Refused}
 use Rattle.answer.specs.Answer.{◌>>=◌, is_refused, number, unpositioned, kept}
-use Rattle.truth.specs.Bools.{clash, decide, is_true, is_false}
+use Rattle.truth.specs.Bools.{clash, decide, is_true}
 use Rattle.answer.proofs.Laws.{kept_same, bind_good, bind_refused, bind_assoc, refuse_unmet}
 use Rattle.answer.proofs.Positions.{then_refused, then_by, then_answer}
 use Rattle.answer.specs.Table.{table, row_from, row, up_to, MetFrom, is_impossible}
 use Rattle.answer.proofs.Refusals.{from_earlier, from_good, from_row, from_bind, impossible_early, impossible_refused}
-use Rattle.mask.specs.Sets.{mask_of}
 use Rattle.mask.proofs.Whole.{length_mask_of, test_mask_of}
-use Rattle.mask.proofs.Joined.{test_left, test_right}
 use Rattle.format.specs.Form.{Form}
 use Rattle.format.specs.LookOver.{look_over}
 use Rattle.format.specs.Order.{step_count, order_form}
 use Rattle.quantify.specs.Quantify.{Mem, here, first}
-use Rattle.model.specs.Domain.{Domain, State, GroundAction, GoalLiteral}
-use Rattle.model.specs.Model.{ended}
-use Rattle.model.specs.Span.{Span, unknown}
+use Rattle.model.specs.Domain.{State, GroundAction, GoalLiteral}
 use Rattle.model.specs.Judge.{Verdict, impossible, passes}
 use Rattle.model.specs.Check.{judged_run, checked}
 use Rattle.model.specs.Formed.{Grounded, Under}
 use Rattle.model.proofs.Judge.{unique}
+use Rattle.model.proofs.Impossible.{learned_valid}
 use Rattle.model.specs.Exact.{Exact}
 use Rattle.model.proofs.Exact.{checked_run}
 use Rattle.model.proofs.Failed.{exact}
 use Rattle.jobs.specs.Planning.{domain, schema_of, transitions_of, failed_of, start_states, plan_of, goal_of}
-use Rattle.jobs.specs.Learn.{learnable, rules_from, learn}
+use Rattle.jobs.specs.Learn.{learnable, learned_from, learn}
 use Rattle.jobs.specs.Check.{plan_run, order_run, run_answer, start_answer, starts_answer, before_plan, check, end_sheet, end_after, check_bytes}
 use Rattle.jobs.proofs.Starts.{failing_none, failing_later}
 use Rattle.jobs.specs.Judge.{FitsBook, BookVerdict, StartVerdict}
@@ -43,10 +40,9 @@ use Rattle.wellformed.proofs.Headers.{right_schema, relations_few}
 use Rattle.wellformed.proofs.Formed.{formed}
 use Rattle.wellformed.proofs.Orders.{grounded, plan_under, length_start_states, start_under}
 use Rattle.wellformed.proofs.Ends.{run_under}
-use Rattle.wellformed.proofs.Learnable.{unfit_in, learnable_fit, learnable_unfit}
-use Rattle.demand.specs.Demand3.{NoneFits, Impossible, Verdicts, none, more, answer_by, Shows, Settled, Demand3}
-use Rattle.demand.proofs.Failing.{comes, pass_comes, from_failing, by_passes, failing_by}
-use Rattle.demand.proofs.Passing.{unknown_out, may_hold, known_ends}
+use Rattle.wellformed.proofs.Learnable.{unfit_in, fit_clean, learnable_fit, learnable_unfit}
+use Rattle.demand.proofs.Failing.{comes, pass_comes, from_failing, failing_by}
+use Rattle.demand.specs.Demand3.{NoneFits, Impossible, Verdicts, none, more, answer_by, Shows, Demand3}
 
 -- ---- answers
 refused_impossible : (a : Answer) (num p : ℕ) → a ≡ Refused num p → is_impossible num ≡ true → Impossible a
@@ -62,38 +58,6 @@ late : (a : Answer) → MetFrom 13 a → Impossible a → ⊥
 unfolding number
 late (Good n) from h = not_passed (Good n) h refl
 late (Refused num p) from h = clash (not (up_to 13 num)) (impossible_early num h) (rw (from num p refl))
-
--- ---- the end sheet
--- the sheet of a run that ends shows what is known there
-shows : (end : Span) → Under max_fact_numbers end.high → Shows (end_sheet (ended end)) end
-unfolding end_sheet
-shows end under =
-    let low : List ℕ = mask_of state_size end.low in
-    let rest : List ℕ = mask_of state_size (unknown end) in
-    let long = length_mask_of state_size end.low in
-    record {
-      long = simp (length-append, length_mask_of);
-      holding = λ n l. test_left low rest n (omega (arith, long)) ∙ test_mask_of state_size end.low n l;
-      unknowns = λ n l. test_right low rest max_fact_numbers n (omega (arith, long)) ∙ test_mask_of state_size (unknown end) n l;
-      others = under;
-    }
-
--- so what a pass says of each fact can be read from it
-settles : (form : Form) (s o : List ℕ) (start : State) (end : Span) → StartVerdict form s o start (passes end) → (sheet : List ℕ) → Shows sheet end → Settled form s o start sheet
-settles form s o start end h sheet shown =
-    record {
-      known = λ f l u M fits. rw (shown.holding f l) (known_ends D (FitsBook form s) plan start goal end h f (sym (shown.unknowns f l) ∙ u) M fits);
-      differing = λ f l u. let e = sym (shown.unknowns f l) ∙ u in (shown.holding f l ∙ (unknown_out end f e).1, h.differs f e);
-    }
-  where
-    D : Domain
-    D = domain (schema_of s)
-
-    plan : List GroundAction
-    plan = plan_of (schema_of s) o
-
-    goal : List GoalLiteral
-    goal = goal_of o
 
 module _ (form : Form) (s : List ℕ) (n : ℕ) (good : look_over form s ≡ Good n) where
   judge : Exact (domain (schema_of s)) (FitsBook form s) (unfit_in form s) (checked (domain (schema_of s)) (transitions_of form s) (failed_of form s))
@@ -132,7 +96,7 @@ module _ (form : Form) (s : List ℕ) (n : ℕ) (good : look_over form s ≡ Goo
   -- ---- a plan from any start, with any goal
   module _ (start : State) (plan : List GroundAction) (goal : List GoalLiteral) (grounded : Grounded (domain (schema_of s)) plan) where
     -- the judge's verdict is what the model's check says
-    pub says : (v : Verdict) → BookVerdict form s start plan goal v ↔ (checked (domain (schema_of s)) (transitions_of form s) (failed_of form s) plan start goal ≡ v)
+    says : (v : Verdict) → BookVerdict form s start plan goal v ↔ (checked (domain (schema_of s)) (transitions_of form s) (failed_of form s) plan start goal ≡ v)
     says = judge.verdict plan grounded start goal
 
     some_verdict : (v : Verdict) × BookVerdict form s start plan goal v
@@ -141,30 +105,34 @@ module _ (form : Form) (s : List ℕ) (n : ℕ) (good : look_over form s ≡ Goo
     unfit_verdict : unfit_in form s ≡ true → (v : Verdict) → BookVerdict form s start plan goal v → impossible ≡ v
     unfit_verdict e v h = sym ((judge.refuses plan start goal).1 e) ∙ (says v).0 h
 
-    unfit_fails : unfit_in form s ≡ true → (end : Span) → BookVerdict form s start plan goal (passes end) → ⊥
+    unfit_fails : unfit_in form s ≡ true → (end : State) → BookVerdict form s start plan goal (passes end) → ⊥
     unfit_fails e end h = let q = unfit_verdict e (passes end) h in let z : ◌≡◌ {A = ℕ} 0 1 = cc in omega arith
 
     module _ (fit : unfit_in form s ≡ false) where
-      -- with a model that fits, it is what the run by the learned rules comes to
+      -- with a model that fits, it is what the run of the learned one comes to
       run_verdict : (v : Verdict) → BookVerdict form s start plan goal v ↔ (judged_run goal (plan_run form s start plan) ≡ v)
-      unfolding plan_run rules_from checked
+      unfolding plan_run learned_from checked
       run_verdict v =
-          let same = checked_run (unfit_in form s) (domain (schema_of s)) (rules_from form s) plan start goal fit in
+          let same = checked_run (unfit_in form s) (domain (schema_of s)) (learned_from form s) plan start goal fit in
           (λ h. sym same ∙ (says v).0 h, λ e. (says v).1 (same ∙ e))
 
-      pass_run : (steps : ℕ) (end : Span) → BookVerdict form s start plan goal (passes end)
-          → (plan_run form s start plan ≡ ended end) × (run_answer steps goal (plan_run form s start plan) ≡ Good steps)
-      pass_run steps end h = pass_comes steps _ _ _ (comes steps goal (plan_run form s start plan)) end ((run_verdict (passes end)).0 h)
-
-    -- where neither the start nor a step's atoms have a fact from a bound on, no such fact may hold at the end of a pass
-    pass_under : (bound : ℕ) → Under bound start → ((t : GroundAction) → Mem t plan → (k : ℕ) → (domain (schema_of s)).atom t.action k ≡ true → t.ground k < bound)
-        → (end : Span) → BookVerdict form s start plan goal (passes end) → Under bound end.high
-    pass_under bound under grounds end h f l =
-        is_false _
-        (λ e.
-        let D = domain (schema_of s) in
-        let (M, fits, (last, ends, held)) = may_hold D (FitsBook form s) plan start goal end h f e in
-        clash _ held (run_under D M fits.consistent.valid bound plan grounds start under 1 last ends f l))
+      -- where neither the start nor a step's atoms have a fact from 4096 on, the sheet of a pass shows his end state
+      pass_shows : (bound : ℕ) → bound ≤ max_fact_numbers → Under bound start
+          → ((t : GroundAction) → Mem t plan → (k : ℕ) → (domain (schema_of s)).atom t.action k ≡ true → t.ground k < bound)
+          → (steps : ℕ) (end : State) → BookVerdict form s start plan goal (passes end)
+          → (run_answer steps goal (plan_run form s start plan) ≡ Good steps) × Shows (end_sheet (plan_run form s start plan)) end
+      unfolding plan_run learned_from end_sheet
+      pass_shows bound few under grounds steps end h =
+          let (ends, answer) = pass_comes steps _ _ _ (comes steps goal (plan_run form s start plan)) end ((run_verdict (passes end)).0 h) in
+          let valid = learned_valid (domain (schema_of s)) (transitions_of form s) (formed form s n good) (fit_clean form s fit) in (
+            answer,
+            rw ends
+                (record {
+                  long = length_mask_of state_size end;
+                  bits = λ k l. test_mask_of state_size end k l;
+                  others = λ f l. run_under (domain (schema_of s)) (learned_from form s) valid bound plan grounds start under 1 end ends f (omega arith);
+                }),
+          )
 
   -- ---- orders of good form
   module _ (o : List ℕ) (m : ℕ) (ordered : order_form (schema_of s) o ≡ Good m) where
@@ -211,7 +179,7 @@ module _ (form : Form) (s : List ℕ) (n : ℕ) (good : look_over form s ≡ Goo
             ∙ failing_by (step_count o) (goal_of o) (order_run form s o) (learnable form s) 1 (start_states o)
             ∙ ap (answer_by (learnable form s) (step_count o) 1) (run_verdicts e (start_states o) vs each)
 
-    sheet : (start : State) → start_states o ≡ start ∷ [] → (end : Span) → StartVerdict form s o start (passes end)
+    sheet : (start : State) → start_states o ≡ start ∷ [] → (end : State) → StartVerdict form s o start (passes end)
         → (lent : List ℕ) → length lent ≡ end_sheet_size → Shows (check_bytes form s o lent) end
     unfolding check_bytes kept end_after starts_answer start_answer is_refused unpositioned order_run domain
     sheet start one end h lent long = go (decide (unfit_in form s))
@@ -220,24 +188,10 @@ module _ (form : Form) (s : List ℕ) (n : ℕ) (good : look_over form s ≡ Goo
         go (inl e) = absurd (unfit_fails start (plan_of (schema_of s) o) (goal_of o) proper e end h)
         go (inr e) =
             let few = relations_few form s n good in
-            let right = (right_schema form s n good).falling in
-            let (ends, answer) = pass_run start (plan_of (schema_of s) o) (goal_of o) proper e (step_count o) end h in
+            let (answer, shown) = pass_shows start (plan_of (schema_of s) o) (goal_of o) proper e (256 * (schema_of s).relations) (omega arith)
+            (start_under (schema_of s) (right_schema form s n good).falling o m ordered start (rw one here)) (plan_under (schema_of s) (right_schema form s n good).falling o m ordered) (step_count o) end h in
             let whole = failing_later (start_answer form s o) (step_count o) 1 start [] (rw answer) ∙ failing_none (start_answer form s o) (step_count o) 2 in
-            let under = pass_under start (plan_of (schema_of s) o) (goal_of o) proper (256 * (schema_of s).relations) (start_under (schema_of s) right o m ordered start (rw one here)) (plan_under (schema_of s) right o m ordered) end h in
-            rw (long, check_starts e, one, whole, ends) (shows end (λ f l. under f (omega arith)))
-
-    -- a check that passes an order with one start has a pass from it
-    passed : (start : State) → start_states o ≡ start ∷ [] → number (check form s o end_sheet_size).answer ≡ 0 → (end : Span) × StartVerdict form s o start (passes end)
-    passed start one z =
-        let (v, h) = some_verdict start (plan_of (schema_of s) o) (goal_of o) proper in
-        by_passes (StartVerdict form s o) (λ first none-fits. not_passed (check form s o end_sheet_size).answer ((checking o end_sheet_size).1 none-fits) z) (learnable form s) (step_count o) 1
-        (start ∷ []) (v ∷ []) (more h none) (rw (verdicts (v ∷ []) (rw one (more h none))) at z) start here
-
-    settled : (start : State) → start_states o ≡ start ∷ [] → number (check form s o end_sheet_size).answer ≡ 0
-        → (lent : List ℕ) → length lent ≡ end_sheet_size → Settled form s o start (check_bytes form s o lent)
-    settled start one z lent long =
-        let (end, h) = passed start one z in
-        settles form s o start end h (check_bytes form s o lent) (sheet start one end h lent long)
+            rw (long, check_starts e, one, whole) shown
 
   -- with two starts or more, success too leaves the sheet as it was
   unwritten : (o : List ℕ) (start other : State) (rest : List State) → start_states o ≡ start ∷ other ∷ rest → (lent : List ℕ) → check_bytes form s o lent ≡ lent
@@ -252,7 +206,6 @@ demand3 form s n good =
       checking = checking form s n good;
       verdicts = verdicts form s n good;
       sheet = sheet form s n good;
-      settled = settled form s n good;
       unwritten = unwritten form s n good;
       starts = some_starts form s n good;
       some = λ o m ordered start. some_verdict form s n good start (plan_of (schema_of s) o) (goal_of o) (proper form s n good o m ordered);

@@ -28,8 +28,7 @@ use Rattle.format.proofs.OrderForm.{OrderGood, order_good}
 use Rattle.quantify.specs.Quantify.{Mem, here, there, first}
 use Rattle.model.specs.Domain.{State, GoalLiteral}
 use Rattle.model.specs.Model.{Run, stopped, ended}
-use Rattle.model.specs.Span.{Span}
-use Rattle.model.specs.Check.{missed}
+use Rattle.model.specs.Judge.{wrong}
 use Rattle.jobs.specs.Planning.{schema_of, start_states, plan_of, goal_of}
 use Rattle.jobs.specs.Learn.{learnable}
 use Rattle.jobs.specs.Check.{order_run, goal_answer, run_answer, start_answer, first_failing, starts_answer, before_plan, check, check_bytes}
@@ -92,10 +91,10 @@ module _ (sch : Schema) (o : List ℕ) (m : ℕ) (good : OrderGood sch o m) wher
 -- ---- one start
 
 -- a run that is not refused passes
-run_good : (steps : ℕ) (goal : List GoalLiteral) (r : Run Span) → is_refused (run_answer steps goal r) ≡ false → run_answer steps goal r ≡ Good steps
+run_good : (steps : ℕ) (goal : List GoalLiteral) (r : Run) → is_refused (run_answer steps goal r) ≡ false → run_answer steps goal r ≡ Good steps
 unfolding run_answer goal_answer is_refused
 run_good steps goal (stopped k) e = clash true refl e
-run_good steps goal (ended end) e = go (first (missed end) goal) e
+run_good steps goal (ended end) e = go (first (wrong end) goal) e
   where
     go : (i : ℕ) → is_refused (goal_answer steps i) ≡ false → goal_answer steps i ≡ Good steps
     go zero e = refl

@@ -1,57 +1,66 @@
--- The end sheet's bits are those of right facts: the start has such facts alone, and the bound facts of right steps become such; so each fitting model ends with
--- such facts alone, and a fact that may hold at the end of a pass is one with which some of them ends.
-use Prim.Native.Nat.{ℕ, ◌+◌, ◌<◌}
+-- The end sheet's bits are those of right facts: the start has such facts alone, the bound facts of right steps become such, and so a run keeps to them.
+use Prim.Native.Nat.{ℕ, zero, suc, ◌*◌, ◌<◌}
+use native.Mathlib.Decide.{dec_lt}
 use native.Mathlib.Omega.{arith}
-use mathlib.Core.Path.{◌≡◌, refl, sym, ap, ◌∙◌, subst}
-use mathlib.Core.Logic.{◌⊎◌, inl, inr}
+use mathlib.Core.Path.{◌≡◌, refl, sym, ◌∙◌, subst}
 use mathlib.Core.Bool.{Bool, true, false, not}
 use mathlib.Core.List.{List, [], ◌∷◌}
 use lib.Dec.{eqb}
 use lib.ListN.{length}
-use borrow.Author.Tests.{eqb-true, not-false}
-use Rattle.limits.specs.Limits.{end_sheet_size, max_fact_numbers}
-use Rattle.truth.specs.Bools.{is_false}
+use Rattle.limits.specs.Limits.{state_size, end_sheet_size}
+use Rattle.truth.specs.Bools.{clash, is_false}
+use Rattle.answer.specs.declared.Answer.{Answer}
 use Rattle.answer.specs.declared.Answer.TheVariants.{Good}
-use Rattle.answer.specs.declared.Positioned.{Positioned}
-use Rattle.answer.specs.Answer.{refuse, number, unpositioned, then_at}
+use Rattle.answer.specs.Answer.{◌>>=◌, refuse, number, unpositioned, kept}
 use Rattle.answer.proofs.Laws.{bind_good}
+use Rattle.answer.proofs.Positions.{then_answer}
 use Rattle.mask.specs.Bits.{test_bit}
+use Rattle.mask.specs.Sets.{mask_of}
+use Rattle.mask.proofs.Bytes.{test_past}
+use Rattle.mask.proofs.Whole.{length_mask_of, test_mask_of}
 use Rattle.format.specs.Form.{Form}
 use Rattle.format.specs.LookOver.{look_over}
 use Rattle.format.specs.Lists.{list_at}
-use Rattle.format.specs.Order.{start_at, order_form, starts_from, starts, plan}
-use Rattle.quantify.specs.Quantify.{Mem, here}
-use Rattle.quantify.proofs.Mapped.{mem_map_out}
-use Rattle.factsets.specs.Holding.{holding}
-use Rattle.factsets.proofs.Holding.{holding_out}
-use Rattle.model.specs.Domain.{State, GroundAction}
-use Rattle.model.specs.Span.{Span}
-use Rattle.model.specs.Judge.{passes}
-use Rattle.model.proofs.Failed.{barred}
-use Rattle.jobs.specs.Planning.{domain, ground_action, schema_of, transitions_of, failed_of, start_states, plan_of, goal_of}
-use Rattle.jobs.specs.Learn.{learnable}
-use Rattle.jobs.specs.Check.{starts_answer, check, check_bytes}
-use Rattle.jobs.specs.Judge.{FitsBook, StartVerdict}
+use Rattle.format.specs.Order.{step_count, start_at, order_form, starts_from, starts, plan}
+use Rattle.quantify.specs.Quantify.{Mem, here, first}
+use Rattle.model.specs.Domain.{State, GroundAction, GoalLiteral}
+use Rattle.model.specs.Model.{Run, stopped, ended}
+use Rattle.model.specs.Judge.{wrong}
+use Rattle.model.proofs.Impossible.{learned_valid}
+use Rattle.jobs.specs.Planning.{domain, ground_action, schema_of, transitions_of, start_states, plan_of, goal_of}
+use Rattle.jobs.specs.Learn.{learnable, learned_from}
+use Rattle.jobs.specs.Check.{plan_run, order_run, goal_answer, run_answer, start_answer, starts_answer, check, end_sheet, end_after, check_bytes}
 use Rattle.wellformed.specs.Right.{RightOrder}
 use Rattle.wellformed.specs.Grounding.{fact_of}
 use Rattle.wellformed.proofs.Headers.{right_schema}
 use Rattle.wellformed.proofs.Formed.{formed}
+use Rattle.quantify.proofs.Mapped.{mem_map_out}
+use Rattle.factsets.proofs.Holding.{holding_out}
 use Rattle.wellformed.proofs.Atoms.{ground_number, fact_right}
 use Rattle.wellformed.proofs.Orders.{order_right}
 use Rattle.wellformed.proofs.Ends.{HoldsOnly, run_holds_only}
-use Rattle.wellformed.proofs.Learnable.{unfit_in, learnable_fit}
-use Rattle.demand.specs.Demand3.{Shows}
+use Rattle.wellformed.proofs.Learnable.{unfit_in, fit_clean, learnable_fit, learnable_unfit}
 use Rattle.demand.specs.EndSheet.{RightNumber, RightBits, EndSheetRight}
-use Rattle.demand.proofs.Passing.{unknown_out, known_may, may_hold}
-use Rattle.demand.proofs.Demand3.{not_passed, demand3}
-use Rattle.demand.proofs.OneStart.{only}
-use Rattle.demand.proofs.EachStart.{check_ready}
+use Rattle.demand.proofs.EachStart.{only_answer, ready, check_ready, refused_check}
+use Rattle.factsets.specs.Holding.{holding}
+use Rattle.answer.specs.Table.{is_impossible}
+use Rattle.answer.proofs.Refusals.{impossible_refused}
+
+-- a run whose answer has number 0 ends, and its answer is good
+run_passes : (steps : ℕ) (goal : List GoalLiteral) (r : Run) → number (run_answer steps goal r) ≡ 0 → (end : State) × (r ≡ ended end) × (run_answer steps goal r ≡ Good steps)
+unfolding run_answer goal_answer number
+run_passes steps goal (stopped k) e = absurd (omega arith)
+run_passes steps goal (ended end) e = (end, refl, go (first (wrong end) goal) e)
+  where
+    go : (i : ℕ) → number (goal_answer steps i) ≡ 0 → goal_answer steps i ≡ Good steps
+    go zero e = refl
+    go (suc i) e = absurd (omega arith)
 
 -- row 13 is not met where the number is 0
-row_unmet : (b : Bool) (r : Positioned) → number (then_at (refuse b 13 0) r).answer ≡ 0 → b ≡ false
-unfolding refuse then_at unpositioned number
-row_unmet true r e = absurd (omega arith)
-row_unmet false r e = refl
+not_refused : (b : Bool) (a : Answer) → number (refuse b 13 0 >>= λ _. a) ≡ 0 → (refuse b 13 0 >>= λ _. a) ≡ a
+unfolding ◌>>=◌ refuse number
+not_refused true a e = absurd (omega arith)
+not_refused false a e = refl
 
 module _ (form : Form) (s : List ℕ) (k : ℕ) (looked : look_over form s ≡ Good k) (o : List ℕ) (m : ℕ) (ordered : order_form (schema_of s) o ≡ Good m) where
   right : RightOrder (schema_of s) o
@@ -75,44 +84,57 @@ module _ (form : Form) (s : List ℕ) (k : ℕ) (looked : look_over form s ≡ G
       subst (λ (u : GroundAction). (n : ℕ) → (domain (schema_of s)).atom u.action n ≡ true → RightNumber s o (u.ground n)) q
       (λ n atom. (fact_of (schema_of s) st.binding n, fact_right (schema_of s) _ st (right.steps st j) n atom, ground_number (schema_of s) st.binding n))
 
-  module _ (start : State) (i : Mem start (start_states o)) (end : Span) (h : StartVerdict form s o start (passes end)) where
-    -- only right facts may hold at the end of a pass
-    end_within : HoldsOnly (RightNumber s o) end.high
-    end_within f e =
-        let D = domain (schema_of s) in
-        let (M, fits, (last, ends, held)) = may_hold D (FitsBook form s) (plan_of (schema_of s) o) start (goal_of o) end h f e in
-        run_holds_only D M fits.consistent.valid (RightNumber s o) (plan_of (schema_of s) o) plan_within start (start_within start i) 1 last ends f held
-
-    bits : (sheet : List ℕ) → Shows sheet end → RightBits s o sheet
-    bits sheet shown = record { set = set; others = λ n l none. (is_false _ (λ e. none (set n l (inl e))), is_false _ (λ e. none (set n l (inr e)))) }
-      where
-        set : (n : ℕ) → n < max_fact_numbers → (test_bit sheet n ≡ true) ⊎ (test_bit sheet (max_fact_numbers + n) ≡ true) → RightNumber s o n
-        set n l (inl e) = end_within n (known_may (domain (schema_of s)) (FitsBook form s) (plan_of (schema_of s) o) start (goal_of o) end h n (sym (shown.holding n l) ∙ e))
-        set n l (inr e) = end_within n (unknown_out end n (sym (shown.unknowns n l) ∙ e)).0
-
   -- ---- a pass
 
-  module _ (size : ℕ) (pass : number (check form s o size).answer ≡ 0) where
+  module _ (lent : List ℕ) (pass : number (check form s o (length lent)).answer ≡ 0) where
     fit : unfit_in form s ≡ false
+    unfolding unpositioned number
     fit =
         is_false _
         (λ e.
-        let none = barred (domain (schema_of s)) (transitions_of form s) (failed_of form s) (formed form s k looked) e in
-        not_passed (check form s o size).answer (((demand3 form s k looked).checking o size).1 none) pass)
+        let (num, p, q, h) = learnable_unfit form s k looked e in
+        let z : num ≡ 0 = rw (refused_check form s o num p q (length lent)) at pass in
+        clash (is_impossible 0) (rw z at h) impossible_refused)
 
-    -- it has a lent end sheet of the right size
-    right_size : size ≡ end_sheet_size
-    right_size =
-        let e = check_ready form s o m size ordered ∙ ap (λ a. then_at a (starts_answer form s o)) (bind_good (learnable form s) _ k (learnable_fit form s k looked fit)) in
-        eqb-true size end_sheet_size (not-false _ (row_unmet (not (eqb size end_sheet_size)) (starts_answer form s o) (rw e at pass)))
+    end_within : (start : State) → Mem start (start_states o) → (end : State) → order_run form s o start ≡ ended end → HoldsOnly (RightNumber s o) end
+    unfolding order_run plan_run learned_from
+    end_within start i end e =
+        let valid = learned_valid (domain (schema_of s)) (transitions_of form s) (formed form s k looked) (fit_clean form s fit) in
+        run_holds_only (domain (schema_of s)) (learned_from form s) valid (RightNumber s o) (plan_of (schema_of s) o) plan_within start (start_within start i) 1 end e
+
+    module _ (start : State) (only : start_states o ≡ start ∷ []) where
+      -- only rows 13, 19 and 20 are left
+      answer_is : (check form s o (length lent)).answer ≡ (refuse (not (eqb (length lent) end_sheet_size)) 13 0 >>= λ _. start_answer form s o start)
+      unfolding starts_answer
+      answer_is =
+          rw (check_ready form s o m (length lent) ordered, then_answer (ready form s o (length lent)) (starts_answer form s o), only, only_answer form s o start, bind_good (learnable form s) _ k (learnable_fit form s k looked fit))
+
+      -- a run that ends leaves the mask of its end
+      mask_is : (end : State) → (check form s o (length lent)).answer ≡ Good (step_count o) → order_run form s o start ≡ ended end → check_bytes form s o lent ≡ mask_of state_size end
+      unfolding check_bytes kept end_after end_sheet
+      mask_is end good ends = rw (good, only, ends)
+
+      -- the sheet is the mask of a state that has right facts alone
+      sheet_is : (end : State) × HoldsOnly (RightNumber s o) end × (check_bytes form s o lent ≡ mask_of state_size end)
+      unfolding start_answer
+      sheet_is =
+          let same = answer_is ∙ not_refused (not (eqb (length lent) end_sheet_size)) (start_answer form s o start) (rw answer_is at pass) in
+          let (end, ends, good) = run_passes (step_count o) (goal_of o) (order_run form s o start) (rw same at pass) in
+          (end, end_within start (rw only here) end ends, mask_is end (same ∙ good) ends)
+
+      bits : RightBits s o (check_bytes form s o lent)
+      bits =
+          let (end, within, is) = sheet_is in
+          let set : (n : ℕ) → test_bit (check_bytes form s o lent) n ≡ true → RightNumber s o n = λ n e. go end within n (rw is at e) in
+          record { set = set; others = λ n none. is_false _ (λ e. none (set n e)) }
+        where
+          go : (end : State) → HoldsOnly (RightNumber s o) end → (n : ℕ) → test_bit (mask_of state_size end) n ≡ true → RightNumber s o n
+          go end within n e = by (dec_lt n (8 * state_size))
+            where
+              by : Dec (n < 8 * state_size) → RightNumber s o n
+              by (yes l) = within n (sym (test_mask_of state_size end n l) ∙ e)
+              by (no l) = clash _ e (test_past (mask_of state_size end) n (omega (arith, length_mask_of state_size end)))
 
 pub end_sheet_right : EndSheetRight
 unfolding start_states starts starts_from
-end_sheet_right form s k looked o m ordered one lent pass =
-    let agrees = demand3 form s k looked in
-    let long = right_size form s k looked o m ordered (length lent) pass in
-    let start : State = holding (list_at o (start_at o)) in
-    let alone : start_states o ≡ start ∷ [] = rw one in
-    let i : Mem start (start_states o) = rw alone here in
-    let (end, h) = only form s agrees o m ordered (rw long at pass) start i in
-    bits form s k looked o m ordered start i end h (check_bytes form s o lent) (agrees.sheet o m ordered start alone end h lent long)
+end_sheet_right form s k looked o m ordered one lent pass = bits form s k looked o m ordered lent pass (holding (list_at o (start_at o))) (rw one)

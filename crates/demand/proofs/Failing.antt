@@ -7,47 +7,46 @@ use native.Mathlib.Omega.{arith}
 use Rattle.answer.specs.declared.Answer.{Answer}
 use Rattle.answer.specs.declared.Answer.TheVariants.{Good, Refused}
 use Rattle.answer.specs.declared.Positioned.{Positioned}
-use Rattle.answer.specs.Answer.{is_refused, number, unpositioned}
+use Rattle.answer.specs.Answer.{is_refused, unpositioned}
 use Rattle.answer.specs.Table.{table, row_from, row, up_to, MetFrom}
 use Rattle.answer.proofs.Refusals.{from_good, from_refused}
-use Rattle.quantify.specs.Quantify.{Mem, here, there, first}
+use Rattle.quantify.specs.Quantify.{first}
 use Rattle.model.specs.Domain.{State, GoalLiteral}
 use Rattle.model.specs.Model.{Run, stopped, ended}
-use Rattle.model.specs.Span.{Span}
-use Rattle.model.specs.Judge.{Verdict, impossible, stops, misses, passes}
-use Rattle.model.specs.Check.{missed, reached, judged_run}
+use Rattle.model.specs.Judge.{Verdict, stops, misses, passes, wrong}
+use Rattle.model.specs.Check.{reached, judged_run}
 use Rattle.jobs.specs.Check.{goal_answer, run_answer, first_failing}
 use Rattle.jobs.proofs.Starts.{failing_none, failing_here, failing_later}
-use Rattle.demand.specs.Demand3.{Verdicts, more, answer_by}
+use Rattle.demand.specs.Demand3.{answer_by}
 
 -- ---- one start
 -- what a run comes to, with the goal: as a verdict, and as an answer
-pub data Comes (steps : ℕ) : Run Span → Verdict → Answer → Type 0 where
+pub data Comes (steps : ℕ) : Run → Verdict → Answer → Type 0 where
   stopping : (k : ℕ) → Comes steps (stopped k) (stops k) (Refused 19 k)
-  missing : (end : Span) (i : ℕ) → Comes steps (ended end) (misses i) (Refused 20 i)
-  passing : (end : Span) → Comes steps (ended end) (passes end) (Good steps)
+  missing : (end : State) (i : ℕ) → Comes steps (ended end) (misses i) (Refused 20 i)
+  passing : (end : State) → Comes steps (ended end) (passes end) (Good steps)
 
-pub comes : (steps : ℕ) (goal : List GoalLiteral) (r : Run Span) → Comes steps r (judged_run goal r) (run_answer steps goal r)
+pub comes : (steps : ℕ) (goal : List GoalLiteral) (r : Run) → Comes steps r (judged_run goal r) (run_answer steps goal r)
 unfolding judged_run reached run_answer goal_answer
 comes steps goal (stopped k) = stopping k
-comes steps goal (ended end) = go (first (missed end) goal)
+comes steps goal (ended end) = go (first (wrong end) goal)
   where
     go : (i : ℕ) → Comes steps (ended end) (reached end i) (goal_answer steps i)
     go zero = passing end
     go (suc i) = missing end (suc i)
 
 -- no run is refused with a row before 13
-from_comes : (steps : ℕ) (r : Run Span) (v : Verdict) (a : Answer) → Comes steps r v a → MetFrom 13 a
+from_comes : (steps : ℕ) (r : Run) (v : Verdict) (a : Answer) → Comes steps r v a → MetFrom 13 a
 unfolding table row_from row up_to
 from_comes steps r v a (stopping k) = from_refused 13 19 k refl
 from_comes steps r v a (missing end i) = from_refused 13 20 i refl
 from_comes steps r v a (passing end) = from_good 13 steps
 
 -- a run that comes to a pass ended there, and its answer is good
-pub pass_comes : (steps : ℕ) (r : Run Span) (v : Verdict) (a : Answer) → Comes steps r v a → (end : Span) → v ≡ passes end → (r ≡ ended end) × (a ≡ Good steps)
+pub pass_comes : (steps : ℕ) (r : Run) (v : Verdict) (a : Answer) → Comes steps r v a → (end : State) → v ≡ passes end → (r ≡ ended end) × (a ≡ Good steps)
 pass_comes steps r v a (stopping k) end e = absurd (let z : ◌≡◌ {A = ℕ} 0 1 = cc in omega arith)
-pass_comes steps r v a (missing sp i) end e = absurd (let z : ◌≡◌ {A = ℕ} 0 1 = cc in omega arith)
-pass_comes steps r v a (passing sp) end e = (let z : sp ≡ end = cc in ap ended z, refl)
+pass_comes steps r v a (missing st i) end e = absurd (let z : ◌≡◌ {A = ℕ} 0 1 = cc in omega arith)
+pass_comes steps r v a (passing st) end e = (let z : st ≡ end = cc in ap ended z, refl)
 
 -- ---- the first start that fails
 -- a start that fails gives the whole answer, at its position; where it passes, those after it do
@@ -64,14 +63,14 @@ unfolding answer_by
 by_none refusal steps k = refl
 
 -- what a start's verdict and those after it come to is the answer, too
-turn_by : (refusal : Answer) (steps k : ℕ) (next whole : Positioned) (r : Run Span) (v : Verdict) (a : Answer) (vs : List Verdict)
+turn_by : (refusal : Answer) (steps k : ℕ) (next whole : Positioned) (r : Run) (v : Verdict) (a : Answer) (vs : List Verdict)
     → Comes steps r v a → Turn k a next whole → next ≡ answer_by refusal steps (suc k) vs → whole ≡ answer_by refusal steps k (v ∷ vs)
 unfolding is_refused answer_by
 turn_by refusal steps k next whole r v a vs (stopping j) t e = t.0 refl
 turn_by refusal steps k next whole r v a vs (missing end i) t e = t.0 refl
 turn_by refusal steps k next whole r v a vs (passing end) t e = t.1 refl ∙ e
 
-module _ (steps : ℕ) (goal : List GoalLiteral) (runs : State → Run Span) where
+module _ (steps : ℕ) (goal : List GoalLiteral) (runs : State → Run) where
   -- the answer of each start alone, and that of the first in a list that fails
   abbrev pub alone : State → Answer
   alone start = run_answer steps goal (runs start)
@@ -93,15 +92,3 @@ module _ (steps : ℕ) (goal : List GoalLiteral) (runs : State → Run Span) whe
   failing_by refusal k [] = failing_none alone steps k ∙ sym (by_none refusal steps k)
   failing_by refusal k (start ∷ rest) =
       turn_by refusal steps k _ _ _ _ _ _ (comes steps goal (runs start)) (first_turn k start rest) (failing_by refusal (suc k) rest)
-
--- ---- success
--- Where the answer by verdicts is success, and no start is judged impossible, each start has a pass.
-pub by_passes : (Judges : State → Verdict → Type 0) → ((start : State) → Judges start impossible → ⊥) → (refusal : Answer) (steps k : ℕ) (starts : List State) (vs : List Verdict)
-    → Verdicts Judges starts vs → number (answer_by refusal steps k vs).answer ≡ 0 → (start : State) → Mem start starts → (end : Span) × Judges start (passes end)
-unfolding answer_by number
-by_passes Judges possible refusal steps k (other ∷ starts) (impossible ∷ vs) (more h each) e start m = absurd (possible other h)
-by_passes Judges possible refusal steps k (other ∷ starts) (stops j ∷ vs) (more h each) e start m = absurd (omega arith)
-by_passes Judges possible refusal steps k (other ∷ starts) (misses i ∷ vs) (more h each) e start m = absurd (omega arith)
-by_passes Judges possible refusal steps k (other ∷ starts) (passes end ∷ vs) (more h each) e start here = (end, h)
-by_passes Judges possible refusal steps k (other ∷ starts) (passes end ∷ vs) (more h each) e start (there m) =
-    by_passes Judges possible refusal steps (suc k) starts vs each e start m

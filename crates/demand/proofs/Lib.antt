@@ -1,12 +1,9 @@
--- The demands, proved: Demand3, Absent, NoneLost and Demand2 for one book, TwoBooks and Renumbered for two, EachStart for the starts of an order, EndSheet
--- for the end sheet; OneStart reads Demand3 for one start at a time. Failing, Passing, Recorded and Agree serve them; Alone, AloneRead and AloneGood serve
--- EachStart.
+-- The demands, proved: Demand3, Absent and Demand2 for one book, TwoBooks and Renumbered for two, EachStart for the starts of an order, EndSheet for the
+-- end sheet; OneStart reads Demand3 for one start at a time. Failing, Recorded and Agree serve them; Alone, AloneRead and AloneGood serve EachStart.
 pub mod Failing
-pub mod Passing
 pub mod Demand3
 pub mod Absent
 pub mod OneStart
-pub mod NoneLost
 pub mod Recorded
 pub mod Demand2
 pub mod Agree

@@ -1,7 +1,7 @@
 -- What `JudgeAgrees` says of one start at a time, from what it says of their verdicts as a list: the first start whose verdict is no pass gives the
 -- check's answer, and the plan passes exactly if it passes from each start alone. Only the statement is used here, not how it is proved.
 use Prim.Native.Nat.{ℕ, suc, ◌+◌}
-use mathlib.Core.Path.{◌≡◌, refl, ap, ◌∙◌, subst}
+use mathlib.Core.Path.{◌≡◌, refl, sym, ap, ◌∙◌, subst}
 use mathlib.Core.List.{List, [], ◌∷◌, ◌++◌, append-nil}
 use native.Mathlib.Omega.{arith}
 use lib.ListN.{length}
@@ -14,14 +14,12 @@ use Rattle.format.specs.Form.{Form}
 use Rattle.format.specs.Order.{step_count, order_form}
 use Rattle.quantify.specs.Quantify.{Mem, here, there}
 use Rattle.model.specs.Domain.{State}
-use Rattle.model.specs.Span.{Span}
 use Rattle.model.specs.Judge.{Verdict, impossible, stops, misses, passes}
 use Rattle.jobs.specs.Planning.{schema_of, start_states}
 use Rattle.jobs.specs.Learn.{learnable}
 use Rattle.jobs.specs.Check.{check}
 use Rattle.jobs.specs.Judge.{StartVerdict}
 use Rattle.demand.specs.Demand3.{Impossible, Verdicts, none, more, answer_by, JudgeAgrees}
-use Rattle.demand.proofs.Failing.{by_passes}
 use Rattle.demand.proofs.Demand3.{not_passed}
 
 -- number, place and position that a verdict on the start at position k gives; a pass gives none by itself, since a later start may fail
@@ -31,9 +29,13 @@ Answers k (stops j) r = (number r.answer ≡ 19) × (place r.answer ≡ j) × (r
 Answers k (misses i) r = (number r.answer ≡ 20) × (place r.answer ≡ i) × (r.position ≡ k)
 Answers k (passes end) r = Unit {0}
 
+-- those of a plan of so many steps that passes
+abbrev pub Passed : ℕ → Positioned → Type 0
+Passed steps r = (number r.answer ≡ 0) × (place r.answer ≡ steps) × (r.position ≡ 0)
+
 -- each of the starts has a pass
 abbrev pub AllPass : Form → List ℕ → List ℕ → List State → Type 0
-AllPass form s o starts = (start : State) → Mem start starts → (end : Span) × StartVerdict form s o start (passes end)
+AllPass form s o starts = (start : State) → Mem start starts → (end : State) × StartVerdict form s o start (passes end)
 
 -- the first of some verdicts
 first_answers : (refusal : Answer) (steps k : ℕ) (v : Verdict) (vs : List Verdict) (r : Positioned)
@@ -77,16 +79,23 @@ module _ (form : Form) (s : List ℕ) (agrees : JudgeAgrees form s) (o : List �
       (λ e. (agrees.checking o end_sheet_size).1 ((agrees.unfit o start).0 (subst (λ (w : Verdict). StartVerdict form s o start w) e h)))
 
   -- The plan passes if it passes from each start alone,
-  pub pass : AllPass form s o (start_states o) → check form s o end_sheet_size ≡ unpositioned (Good (step_count o))
-  unfolding answer_by by
+  pub pass : AllPass form s o (start_states o) → Passed (step_count o) (check form s o end_sheet_size)
+  unfolding answer_by by unpositioned number place
   pass all =
       let (ws, every, moved) = past (start_states o) [] [] none 1 (1 + length (start_states o)) refl all in
-      agrees.verdicts o n ordered ws (rw (append-nil (start_states o)) at every) ∙ moved
+      rw (agrees.verdicts o n ordered ws (rw (append-nil (start_states o)) at every) ∙ moved) (refl, refl, refl)
 
   -- and only then.
   pub only : number (check form s o end_sheet_size).answer ≡ 0 → AllPass form s o (start_states o)
+  unfolding answer_by by number
   only z =
       let (vs, each) = all_judged (start_states o) in
-      by_passes (StartVerdict form s o)
-      (λ start h. not_passed (check form s o end_sheet_size).answer ((agrees.checking o end_sheet_size).1 ((agrees.unfit o start).0 h)) z)
-      (learnable form s) (step_count o) 1 (start_states o) vs each (rw (agrees.verdicts o n ordered vs each) at z)
+      each_passes (start_states o) vs 1 each (ap (λ (r : Positioned). number r.answer) (sym (agrees.verdicts o n ordered vs each)) ∙ z)
+    where
+      each_passes : (starts : List State) (vs : List Verdict) (k : ℕ) → Verdicts (StartVerdict form s o) starts vs → number (by k vs).answer ≡ 0 → AllPass form s o starts
+      each_passes (start ∷ starts) (impossible ∷ vs) k (more h each) e other m =
+          absurd (not_passed (check form s o end_sheet_size).answer ((agrees.checking o end_sheet_size).1 ((agrees.unfit o start).0 h)) z)
+      each_passes (start ∷ starts) (stops j ∷ vs) k (more h each) e other m = absurd (omega arith)
+      each_passes (start ∷ starts) (misses i ∷ vs) k (more h each) e other m = absurd (omega arith)
+      each_passes (start ∷ starts) (passes end ∷ vs) k (more h each) e other here = (end, h)
+      each_passes (start ∷ starts) (passes end ∷ vs) k (more h each) e other (there m) = each_passes starts vs (suc k) each e other m

@@ -8,8 +8,7 @@ use Rattle.format.specs.Form.{Form}
 use Rattle.format.specs.LookOver.{look_over}
 use Rattle.format.specs.Order.{step_count, order_form}
 use Rattle.model.specs.Domain.{State, GroundAction, GoalLiteral}
-use Rattle.model.specs.Model.{Model, Positive, Consistent}
-use Rattle.model.specs.Span.{Span}
+use Rattle.model.specs.Model.{Model, Consistent}
 use Rattle.model.specs.Judge.{Verdict, passes, Judged}
 use Rattle.model.specs.Formed.{Grounded}
 use Rattle.jobs.specs.Planning.{domain, schema_of, transitions_of, start_states, plan_of, goal_of}
@@ -20,7 +19,7 @@ use Rattle.demand.specs.Demand3.{Verdicts, answer_by, Shows}
 
 -- the models (rule lists) that fit the steps which went, whatever is filed of those that did not
 abbrev pub FitsWent : Form → List ℕ → Model → Type 0
-FitsWent form s M = Positive M × Consistent (domain (schema_of s)) (transitions_of form s) M
+FitsWent form s M = Consistent (domain (schema_of s)) (transitions_of form s) M
 
 -- the verdict of the judge who holds all of these, on any plan, from any state, with any goal, and on an order's plan from one start alone
 abbrev pub WentVerdict : Form → List ℕ → State → List GroundAction → List GoalLiteral → Verdict → Type 0
@@ -36,9 +35,9 @@ pub record AsIfAbsent (form : Form) (s : List ℕ) : Type 0 where
   -- So for every order of good form the check's number, place and position are what his verdicts on the order's starts give,
   pub checking : (o : List ℕ) (n : ℕ) → order_form (schema_of s) o ≡ Good n
       → (vs : List Verdict) → Verdicts (WentStartVerdict form s o) (start_states o) vs → check form s o end_sheet_size ≡ answer_by (learnable form s) (step_count o) 1 vs
-  -- and on a pass of an order with one start the end sheet shows what is known of his end.
+  -- and on a pass of an order with one start the end sheet shows his end state.
   pub sheet : (o : List ℕ) (n : ℕ) → order_form (schema_of s) o ≡ Good n
-      → (start : State) → start_states o ≡ start ∷ [] → (end : Span) → WentStartVerdict form s o start (passes end)
+      → (start : State) → start_states o ≡ start ∷ [] → (end : State) → WentStartVerdict form s o start (passes end)
       → (lent : List ℕ) → length lent ≡ end_sheet_size → Shows (check_bytes form s o lent) end
 
 -- Of every book of good form that some model fits.

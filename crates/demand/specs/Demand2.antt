@@ -1,5 +1,5 @@
 -- Demand 2: each bit of the rule sheet, said by the models that fit the book (a need is set if some of them has it, an effect if all of them have
--- it, a possible one if some have it and some have not), and by the recorded steps that went.
+-- it), and by the recorded steps that went.
 -- The models are those that the judge holds (`FitsBook` of jobs/specs/Judge.antt); `rule_sheet` is what learning writes.
 use Rattle.std.specs.Prelude.{ℕ, ◌*◌, ◌≤◌, ◌<◌, ◌≡◌, ◌↔◌, Bool, true, false, not, List, length}
 use Rattle.limits.specs.Limits.{rule_size, max_atoms}
@@ -13,7 +13,7 @@ use Rattle.quantify.specs.Quantify.{Mem}
 use Rattle.model.specs.Model.{Model}
 use Rattle.jobs.specs.Planning.{schema_of, steps_of_book}
 use Rattle.jobs.specs.Learn.{learnable, rule_sheet, learn, learn_bytes}
-use Rattle.jobs.specs.SheetBits.{needed_set, may_remove_set, added_set, removed_set, sheet_bit}
+use Rattle.jobs.specs.SheetBits.{needed_set, needed_not_set, added_set, removed_set, sheet_bit}
 use Rattle.jobs.specs.Judge.{FitsBook}
 use Rattle.demand.specs.Demand3.{NoneFits, Impossible}
 use Rattle.factsets.specs.Holding.{holding}
@@ -22,23 +22,13 @@ use Rattle.factsets.specs.Holding.{holding}
 abbrev pub value_in : List ℕ → RecordedStep → List Fact → ℕ → Bool
 value_in s x fs n = holding fs (ground (schema_of s) x.step.binding n)
 
--- what the bit of bound fact n of move a says in the set of needs
-pub record NeedBit (form : Form) (s : List ℕ) (a n : ℕ) : Type 0 where
-  -- It is set exactly if some fitting model needs it to hold,
-  pub by_some : sheet_bit (rule_sheet form s) needed_set a n ≡ true ↔ ((M : Model) × FitsBook form s M × (M.precondition true a n ≡ true))
-  -- exactly if n is a bound fact of the move that held before every recorded step of it that went (formula 1).
-  pub by_record : sheet_bit (rule_sheet form s) needed_set a n ≡ true
-      ↔ ((is_atom (schema_of s) a n ≡ true) × ((x : RecordedStep) → Mem x (steps_of_book form s) → x.went ≡ true → x.step.action.0 ≡ a → value_in s x x.pre n ≡ true))
-
--- in the set of what may be removed
-pub record MayBit (form : Form) (s : List ℕ) (a n : ℕ) : Type 0 where
-  -- It is set exactly if one fitting model removes it and another does not,
-  pub by_differing : sheet_bit (rule_sheet form s) may_remove_set a n ≡ true
-      ↔ (((M : Model) × FitsBook form s M × (M.effect false a n ≡ true)) × ((M : Model) × FitsBook form s M × (M.effect false a n ≡ false)))
-  -- exactly if n is a bound fact of the move that held before no recorded step of it that went, nor after one: so none of them is seen to add it.
-  pub by_record : sheet_bit (rule_sheet form s) may_remove_set a n ≡ true
-      ↔ ((is_atom (schema_of s) a n ≡ true)
-      × ((x : RecordedStep) → Mem x (steps_of_book form s) → x.went ≡ true → x.step.action.0 ≡ a → (value_in s x x.pre n ≡ false) × (value_in s x x.post n ≡ false)))
+-- what the bit of bound fact n of move a says in a set of needs, `b` being the value that is needed
+pub record NeedBit (form : Form) (s : List ℕ) (set : ℕ) (b : Bool) (a n : ℕ) : Type 0 where
+  -- It is set exactly if some fitting model needs it so,
+  pub by_some : sheet_bit (rule_sheet form s) set a n ≡ true ↔ ((M : Model) × FitsBook form s M × (M.precondition b a n ≡ true))
+  -- exactly if n is a bound fact of the move that had the value before every recorded step of it that went (formula 1).
+  pub by_record : sheet_bit (rule_sheet form s) set a n ≡ true
+      ↔ ((is_atom (schema_of s) a n ≡ true) × ((x : RecordedStep) → Mem x (steps_of_book form s) → x.went ≡ true → x.step.action.0 ≡ a → value_in s x x.pre n ≡ b))
 
 -- and in a set of effects, `b` being the value that is given
 pub record EffectBit (form : Form) (s : List ℕ) (set : ℕ) (b : Bool) (a n : ℕ) : Type 0 where
@@ -51,8 +41,8 @@ pub record EffectBit (form : Form) (s : List ℕ) (set : ℕ) (b : Bool) (a n : 
 
 -- what the four bits of bound fact n of move a say
 pub record Bits (form : Form) (s : List ℕ) (a n : ℕ) : Type 0 where
-  pub needed : NeedBit form s a n
-  pub may_remove : MayBit form s a n
+  pub needed : NeedBit form s needed_set true a n
+  pub needed_not : NeedBit form s needed_not_set false a n
   pub added : EffectBit form s added_set true a n
   pub removed : EffectBit form s removed_set false a n
   -- Bits of no bound fact are 0.

@@ -1,7 +1,7 @@
 -- Demand 3, whole: what learning and checking say of a book of good form is what the judge says, who never sees the rule sheet.
 -- The judge is `FitsBook` and `StartVerdict` of jobs/specs/Judge.antt; `learn`, `check` and `check_bytes` are what the calls return and leave
 -- behind. His verdict is on one start of an order alone; the check's answer is made of his verdicts on all of its starts (`answer_by`).
-use Rattle.std.specs.Prelude.{ℕ, suc, ◌+◌, ◌≤◌, ◌<◌, ◌≡◌, ◌↔◌, Bool, true, false, List, [], ◌∷◌, length}
+use Rattle.std.specs.Prelude.{ℕ, suc, ◌≤◌, ◌<◌, ◌≡◌, ◌↔◌, true, false, List, [], ◌∷◌, length}
 use Rattle.limits.specs.Limits.{end_sheet_size, max_fact_numbers, max_starts}
 use Rattle.answer.specs.declared.Answer.{Answer}
 use Rattle.answer.specs.declared.Answer.TheVariants.{Good, Refused}
@@ -14,9 +14,8 @@ use Rattle.format.specs.LookOver.{look_over}
 use Rattle.format.specs.Order.{step_count, order_form}
 use Rattle.model.specs.Domain.{State}
 use Rattle.model.specs.Model.{Model}
-use Rattle.model.specs.Span.{Span, unknown}
-use Rattle.model.specs.Judge.{Verdict, impossible, stops, misses, passes, Ends}
-use Rattle.jobs.specs.Planning.{domain, schema_of, start_states, plan_of}
+use Rattle.model.specs.Judge.{Verdict, impossible, stops, misses, passes}
+use Rattle.jobs.specs.Planning.{schema_of, start_states}
 use Rattle.jobs.specs.Learn.{learnable, learn}
 use Rattle.jobs.specs.Check.{check, check_bytes}
 use Rattle.jobs.specs.Judge.{FitsBook, StartVerdict}
@@ -44,24 +43,12 @@ answer_by refusal steps k (stops j ∷ vs) = record { answer = Refused 19 j; pos
 answer_by refusal steps k (misses i ∷ vs) = record { answer = Refused 20 i; position = k }
 answer_by refusal steps k (passes end ∷ vs) = answer_by refusal steps (suc k) vs
 
--- the end sheet holds what is known of the end: 1,024 bytes, the bits set in the first half being just the facts that are known to hold, those set in the
--- second half just the unknown (open) ones
-pub record Shows (sheet : List ℕ) (end : Span) : Type 0 where
+-- the end sheet holds the state: 512 bytes, the bits set being just the facts that hold
+pub record Shows (sheet : List ℕ) (end : State) : Type 0 where
   pub long : length sheet ≡ end_sheet_size
-  pub holding : (n : ℕ) → n < max_fact_numbers → test_bit sheet n ≡ end.low n
-  pub unknowns : (n : ℕ) → n < max_fact_numbers → test_bit sheet (max_fact_numbers + n) ≡ unknown end n
-  -- a fact that has no bit in the sheet is known not to hold
-  pub others : (n : ℕ) → max_fact_numbers ≤ n → end.high n ≡ false
-
--- The same against the models themselves: what an end sheet says of how they end the order's plan from a start.
-pub record Settled (form : Form) (s o : List ℕ) (start : State) (sheet : List ℕ) : Type 0 where
-  -- Every fact whose bit in the second half is 0 is written as all fitting models leave it.
-  pub known : (f : ℕ) → f < max_fact_numbers → test_bit sheet (max_fact_numbers + f) ≡ false
-      → (M : Model) → FitsBook form s M → Ends (domain (schema_of s)) (plan_of (schema_of s) o) start M (λ end. end f ≡ test_bit sheet f)
-  -- Of every fact whose bit there is 1 some fitting model ends with it and some without it, and its bit in the first half is 0.
-  pub differing : (f : ℕ) → f < max_fact_numbers → test_bit sheet (max_fact_numbers + f) ≡ true
-      → (test_bit sheet f ≡ false)
-      × ((b : Bool) → (M : Model) × FitsBook form s M × Ends (domain (schema_of s)) (plan_of (schema_of s) o) start M (λ end. end f ≡ b))
+  pub bits : (n : ℕ) → n < max_fact_numbers → test_bit sheet n ≡ end n
+  -- a fact that has no bit in the sheet does not hold
+  pub others : (n : ℕ) → max_fact_numbers ≤ n → end n ≡ false
 
 -- the calls and the judge agree on a book
 pub record JudgeAgrees (form : Form) (s : List ℕ) : Type 0 where
@@ -71,17 +58,14 @@ pub record JudgeAgrees (form : Form) (s : List ℕ) : Type 0 where
   pub learning : (size : ℕ) → Impossible (learn form s size) ↔ NoneFits form s
   -- And so does checking, whatever order and lent output come with the book.
   pub checking : (o : List ℕ) (size : ℕ) → Impossible (check form s o size).answer ↔ NoneFits form s
-  -- For every order of good form with an end sheet of 1,024 bytes: the check's number, place and position are what his verdicts on the order's starts, in
+  -- For every order of good form with an end sheet of 512 bytes: the check's number, place and position are what his verdicts on the order's starts, in
   -- file order, give. Where he says impossible, the check answers what learning answers (11, 12 or 28, by the lines above).
   pub verdicts : (o : List ℕ) (n : ℕ) → order_form (schema_of s) o ≡ Good n
       → (vs : List Verdict) → Verdicts (StartVerdict form s o) (start_states o) vs → check form s o end_sheet_size ≡ answer_by (learnable form s) (step_count o) 1 vs
-  -- On a pass of an order with one start the end sheet shows what is known by his verdict,
+  -- On a pass of an order with one start the bits set in the end sheet are just the facts of his end state.
   pub sheet : (o : List ℕ) (n : ℕ) → order_form (schema_of s) o ≡ Good n
-      → (start : State) → start_states o ≡ start ∷ [] → (end : Span) → StartVerdict form s o start (passes end)
+      → (start : State) → start_states o ≡ start ∷ [] → (end : State) → StartVerdict form s o start (passes end)
       → (lent : List ℕ) → length lent ≡ end_sheet_size → Shows (check_bytes form s o lent) end
-  -- so it says of each fact how the fitting models end, wherever the check answers 0.
-  pub settled : (o : List ℕ) (n : ℕ) → order_form (schema_of s) o ≡ Good n → (start : State) → start_states o ≡ start ∷ []
-      → number (check form s o end_sheet_size).answer ≡ 0 → (lent : List ℕ) → length lent ≡ end_sheet_size → Settled form s o start (check_bytes form s o lent)
   -- With more than one start the lent end sheet is left as it was.
   pub unwritten : (o : List ℕ) (first second : State) (rest : List State) → start_states o ≡ first ∷ second ∷ rest → (lent : List ℕ) → check_bytes form s o lent ≡ lent
   -- An order of good form has a start. The judge has a verdict on each of its starts, and only one: so the lines above are not true merely because

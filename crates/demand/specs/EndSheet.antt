@@ -1,7 +1,6 @@
 -- The end sheet of a plan that passes, beside Demand3: the bits of no right fact of the order are 0. A fact is right for an order if its relation is one
 -- of the book's and its places have objects of the order that suit (`fact_bad`).
-use Rattle.std.specs.Prelude.{ℕ, ◌+◌, ◌<◌, ◌≡◌, ◌⊎◌, true, false, List, length}
-use Rattle.limits.specs.Limits.{max_fact_numbers}
+use Rattle.std.specs.Prelude.{ℕ, ◌≡◌, true, false, List, length}
 use Rattle.answer.specs.declared.Answer.TheVariants.{Good}
 use Rattle.answer.specs.Answer.{number}
 use Rattle.mask.specs.Bits.{test_bit}
@@ -18,10 +17,10 @@ use Rattle.jobs.specs.Check.{check, check_bytes}
 abbrev pub RightNumber : List ℕ → List ℕ → ℕ → Type 0
 RightNumber s o n = (f : Fact) × (fact_bad (schema_of s) (typed_objects (order_objects o) o) f ≡ false) × (fact_number f ≡ n)
 
--- each bit that is set in either half of a sheet is that of such a number; the bits of no right fact are 0 in both halves
+-- each bit that is set in a sheet has such a number; the bits of no right fact are 0
 pub record RightBits (s o sheet : List ℕ) : Type 0 where
-  pub set : (n : ℕ) → n < max_fact_numbers → (test_bit sheet n ≡ true) ⊎ (test_bit sheet (max_fact_numbers + n) ≡ true) → RightNumber s o n
-  pub others : (n : ℕ) → n < max_fact_numbers → (RightNumber s o n → ⊥) → (test_bit sheet n ≡ false) × (test_bit sheet (max_fact_numbers + n) ≡ false)
+  pub set : (n : ℕ) → test_bit sheet n ≡ true → RightNumber s o n
+  pub others : (n : ℕ) → (RightNumber s o n → ⊥) → test_bit sheet n ≡ false
 
 -- The end sheet is so where a plan passes, of an order of good form with one start and a book of good form.
 abbrev pub EndSheetRight : Type 0

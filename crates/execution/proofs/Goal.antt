@@ -1,4 +1,4 @@
--- The goal: an entry that is missed from what the calls return, and the loop over the entries, one turn at a time.
+-- The goal: an entry that the state misses from what the calls return, and the loop over the entries, one turn at a time.
 use Prim.Native.Nat.{ℕ, zero, suc, ◌+◌, ◌-◌, ◌<◌}
 use native.Mathlib.Numerals.{add-one, sub-one}
 use native.Mathlib.Omega.{arith}
@@ -14,49 +14,45 @@ use Rattle.format.specs.Order.{goal_from, entry_at}
 use Rattle.mask.specs.Bits.{test_bit}
 use Rattle.quantify.specs.Quantify.{same}
 use Rattle.quantify.proofs.Quantify.{first_from, first_from_lem}
-use Rattle.statemask.specs.Statemask.{wrong_in, misses, missed}
+use Rattle.statemask.specs.Statemask.{misses, missed}
 
 -- ---- one entry
-pub misses_by : (o l m : List ℕ) (at byte number : ℕ) (f : Fact) (holds may_hold : Bool)
+pub misses_by : (o m : List ℕ) (at byte number : ℕ) (f : Fact) (holds : Bool)
     → byte ≡ byte_at o at
     → f ≡ fact_at o (at + 1)
     → number ≡ fact_number f
-    → holds ≡ test_bit l number
-    → may_hold ≡ test_bit m number
-    → (eqb byte 1 && not (holds && may_hold) || not (eqb byte 1) && (holds || may_hold)) ≡ misses l m (entry_at o at)
-unfolding misses wrong_in entry_at same
-misses_by o l m at byte number f holds may_hold p q r t u = rw (← p, ← q, ← r, ← t, ← u) (differ (eqb byte 1) holds may_hold)
+    → holds ≡ test_bit m number
+    → (eqb byte 1 && not holds || not (eqb byte 1) && holds) ≡ misses m (entry_at o at)
+unfolding misses entry_at same
+misses_by o m at byte number f holds p q r t = rw (← p, ← q, ← r, ← t) (differ (eqb byte 1) holds)
   where
-    differ : (w h k : Bool) → (w && not (h && k) || not w && (h || k)) ≡ (not (same h w) || not (same k w))
-    differ true true true = refl
-    differ true true false = refl
-    differ true false true = refl
-    differ true false false = refl
-    differ false true k = refl
-    differ false false true = refl
-    differ false false false = refl
+    differ : (w h : Bool) → (w && not h || not w && h) ≡ not (same h w)
+    differ true true = refl
+    differ true false = refl
+    differ false true = refl
+    differ false false = refl
 
 -- ---- the first entry that is missed
 
 -- what is left of the goal, its first entry having number i
-pub missed_from : List ℕ → List ℕ → List ℕ → ℕ → ℕ → ℕ → ℕ
-missed_from o l m n at i = first_from (misses l m) (goal_from o n at) i
+pub missed_from : List ℕ → List ℕ → ℕ → ℕ → ℕ → ℕ
+missed_from o m n at i = first_from (misses m) (goal_from o n at) i
 
-module _ (o l m : List ℕ) where
-  pub missed_whole : (n at : ℕ) → missed_from o l m n at 1 ≡ missed l m (goal_from o n at)
+module _ (o m : List ℕ) where
+  pub missed_whole : (n at : ℕ) → missed_from o m n at 1 ≡ missed m (goal_from o n at)
   unfolding missed_from missed
-  missed_whole n at = first_from_lem (misses l m) (goal_from o n at)
+  missed_whole n at = first_from_lem (misses m) (goal_from o n at)
 
-  pub missed_none : (n at i : ℕ) → n ≡ 0 → missed_from o l m n at i ≡ 0
+  pub missed_none : (n at i : ℕ) → n ≡ 0 → missed_from o m n at i ≡ 0
   unfolding missed_from first_from goal_from
   missed_none n at i e = rw e
 
-  pub missed_here : (n at i : ℕ) → 0 < n → misses l m (entry_at o at) ≡ true → missed_from o l m n at i ≡ i
+  pub missed_here : (n at i : ℕ) → 0 < n → misses m (entry_at o at) ≡ true → missed_from o m n at i ≡ i
   unfolding missed_from first_from goal_from
   missed_here zero at i h e = absurd (omega arith)
   missed_here (suc n) at i h e = rw (e, first_from)
 
-  pub missed_more : (n at i : ℕ) → 0 < n → misses l m (entry_at o at) ≡ false → missed_from o l m n at i ≡ missed_from o l m (n - 1) (at + entry_size) (i + 1)
+  pub missed_more : (n at i : ℕ) → 0 < n → misses m (entry_at o at) ≡ false → missed_from o m n at i ≡ missed_from o m (n - 1) (at + entry_size) (i + 1)
   unfolding missed_from first_from goal_from
   missed_more zero at i h e = absurd (omega arith)
   missed_more (suc n) at i h e = rw (sub-one, add-one i, e, first_from)

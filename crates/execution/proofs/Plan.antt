@@ -2,7 +2,7 @@
 use Prim.Native.Nat.{ℕ, zero, suc, ◌+◌, ◌-◌, ◌*◌, ◌<◌}
 use native.Mathlib.Numerals.{add-one, sub-one}
 use native.Mathlib.Omega.{arith}
-use mathlib.Core.Path.{◌≡◌, sym, ap, ap₂, ◌∙◌}
+use mathlib.Core.Path.{◌≡◌, sym, ap, ◌∙◌}
 use mathlib.Core.Bool.{Bool, true, false}
 use mathlib.Core.List.{List, ◌∷◌}
 use Rattle.terms.specs.declared.Step.{Step}
@@ -39,27 +39,26 @@ unfolding plan_from
 plan_more o zero at h = absurd (omega arith)
 plan_more o (suc n) at h = rw sub-one
 
-module _ (sch : Schema) (R : ℕ → MoveRules) (o : List ℕ) (n at k : ℕ) (l h : List ℕ) where
-  pub execute_none : n ≡ 0 → execute sch R (plan_from o n at) l h k ≡ record { stop = 0; low = l; high = h }
+module _ (sch : Schema) (R : ℕ → MoveRules) (o : List ℕ) (n at k : ℕ) (m : List ℕ) where
+  pub execute_none : n ≡ 0 → execute sch R (plan_from o n at) m k ≡ record { stop = 0; mask = m }
   unfolding execute plan_from
   execute_none e = rw e
 
   module _ (some : 0 < n) (st : Step) (step : st ≡ step_at o at) where
-    whole : execute sch R (plan_from o n at) l h k ≡ execute sch R (st ∷ plan_from o (n - 1) (at + step_size)) l h k
-    whole = ap (λ (p : List Step). execute sch R p l h k) (plan_more o n at some ∙ ap (λ (s : Step). s ∷ plan_from o (n - 1) (at + step_size)) (sym step))
+    whole : execute sch R (plan_from o n at) m k ≡ execute sch R (st ∷ plan_from o (n - 1) (at + step_size)) m k
+    whole = ap (λ (p : List Step). execute sch R p m k) (plan_more o n at some ∙ ap (λ (s : Step). s ∷ plan_from o (n - 1) (at + step_size)) (sym step))
 
     -- what the step comes to
-    module _ (r : Bool) (l' h' : List ℕ) (taken : StepExecuted sch R st l h r l' h') where
-      pub execute_here : r ≡ true → execute sch R (plan_from o n at) l h k ≡ record { stop = k; low = l'; high = h' }
+    module _ (r : Bool) (m' : List ℕ) (taken : StepExecuted sch R st m r m') where
+      pub execute_here : r ≡ true → execute sch R (plan_from o n at) m k ≡ record { stop = k; mask = m' }
       execute_here e =
-          whole ∙ execute_stop sch R st (plan_from o (n - 1) (at + step_size)) l h k (sym taken.inapplicable ∙ e)
-          ∙ ap₂ (λ (v w : List ℕ). record { stop = k; low = v; high = w }) (sym (taken.low ∙ rw e)) (sym (taken.high ∙ rw e))
+          whole ∙ execute_stop sch R st (plan_from o (n - 1) (at + step_size)) m k (sym taken.inapplicable ∙ e)
+          ∙ ap (λ (w : List ℕ). record { stop = k; mask = w }) (sym (taken.state ∙ rw e))
 
-      pub execute_more : r ≡ false → execute sch R (plan_from o (n - 1) (at + step_size)) l' h' (k + 1) ≡ execute sch R (plan_from o n at) l h k
+      pub execute_more : r ≡ false → execute sch R (plan_from o (n - 1) (at + step_size)) m' (k + 1) ≡ execute sch R (plan_from o n at) m k
       execute_more e =
-          sym (whole ∙ execute_go sch R st (plan_from o (n - 1) (at + step_size)) l h k (sym taken.inapplicable ∙ e) ∙ rw (add-one k, taken.low, taken.high, e))
+          sym (whole ∙ execute_go sch R st (plan_from o (n - 1) (at + step_size)) m k (sym taken.inapplicable ∙ e) ∙ rw (add-one k, taken.state, e))
 
-pub executes : (sch : Schema) (R : ℕ → MoveRules) (plan : List Step) (l h : List ℕ) (number : ℕ) (l' h' : List ℕ)
-    → record { stop = number; low = l'; high = h' } ≡ execute sch R plan l h 1 → Executes sch R plan l h number l' h'
-executes sch R plan l h number l' h' e =
-    record { stop = ap (λ (c : Executed). c.stop) e; low = ap (λ (c : Executed). c.low) e; high = ap (λ (c : Executed). c.high) e }
+pub executes : (sch : Schema) (R : ℕ → MoveRules) (plan : List Step) (old : List ℕ) (number : ℕ) (new : List ℕ)
+    → record { stop = number; mask = new } ≡ execute sch R plan old 1 → Executes sch R plan old number new
+executes sch R plan old number new e = record { stop = ap (λ (c : Executed). c.stop) e; mask = ap (λ (c : Executed). c.mask) e }

@@ -13,8 +13,7 @@ pub record Executable (l o : List ℕ) (steps at : ℕ) : Type 0 where
   pub within : at + step_size * steps ≤ length o
   pub steppable : (i : ℕ) → i < steps → Steppable l (step_at o (at + step_size * i))
 
--- the step where a plan stops, 0 for none, and the masks that it comes to from two masks
-pub record Executes (sch : Schema) (R : ℕ → MoveRules) (plan : List Step) (l h : List ℕ) (stopped : ℕ) (l' h' : List ℕ) : Type 0 where
-  pub stop : stopped ≡ (execute sch R plan l h 1).stop
-  pub low : l' ≡ (execute sch R plan l h 1).low
-  pub high : h' ≡ (execute sch R plan l h 1).high
+-- the step where a plan stops, 0 for none, and the mask that it comes to from a mask
+pub record Executes (sch : Schema) (R : ℕ → MoveRules) (plan : List Step) (old : List ℕ) (stopped : ℕ) (new : List ℕ) : Type 0 where
+  pub stop : stopped ≡ (execute sch R plan old 1).stop
+  pub mask : new ≡ (execute sch R plan old 1).mask

@@ -1,6 +1,6 @@
-// A plan and its goal over what is known of a state, as two masks of 512 bytes: the facts that are known to hold, low, and those that may hold, high.
-// The start state, the plan by the rules that are lent, and the goal at the end. Uses input, limits, terms, mask and stepping, and the definitions of format
-// and statemask; each contract names its definition.
+// A plan and its goal over a state of facts as a mask of 512 bytes: the start state, the plan by the rules that are lent, and
+// the goal at the end. Uses input, limits, terms, mask and stepping, and the definitions of format and statemask; each contract names its
+// definition.
 ghost use Rattle.std.specs.Prelude.{◌≡◌, ◌+◌, ◌*◌, ◌≤◌, ◌<◌, length};
 ghost use Rattle.limits.specs.Limits.{fact_size, entry_size, far_ceiling};
 ghost use Rattle.terms.specs.Schema.{schema};
@@ -32,7 +32,7 @@ pub fn start_mask(o: &[u8], n: usize, from: usize) -> [u8; limits::STATE_SIZE]
 
 // ---- the plan
 
-// Row 19: the number, from 1, of the first step that is inapplicable, 0 where none is. The masks are those with which the plan stopped or ended.
+// Row 19: the number, from 1, of the first step that is inapplicable, 0 where none is. The state is the one in which the plan stopped or ended.
 pub fn execute(
     book: &[u8],
     h: Sections,
@@ -40,18 +40,17 @@ pub fn execute(
     o: &[u8],
     steps: usize,
     from: usize,
-    low: &mut [u8; limits::STATE_SIZE],
-    high: &mut [u8; limits::STATE_SIZE],
+    state: &mut [u8; limits::STATE_SIZE],
 ) -> usize
     requires { Executable rules.now o.now steps from }
-    ensures { Executes (schema h book.now) (rules_in rules.now) (plan_from o.now steps from) low.old high.old result low.new high.new }
+    ensures { Executes (schema h book.now) (rules_in rules.now) (plan_from o.now steps from) state.old result state.new }
 {
     let mut left = steps;
     let mut at = from;
     let mut k: usize = 1;
     while 0 < left {
         let step = Step::read(o, at);
-        if stepping::execute_step(book, h, step, rules, low, high) {
+        if stepping::execute_step(book, h, step, rules, state) {
             return k;
         }
         at += limits::STEP_SIZE;
@@ -63,40 +62,26 @@ pub fn execute(
 
 // ---- the goal
 
-// An entry is reached only by a fact that is known, so by both masks.
-fn misses(
-    o: &[u8],
-    at: usize,
-    low: &[u8; limits::STATE_SIZE],
-    high: &[u8; limits::STATE_SIZE],
-) -> bool
+fn misses(o: &[u8], at: usize, state: &[u8; limits::STATE_SIZE]) -> bool
     requires { (at + entry_size ≤ far_ceiling) × (at + entry_size ≤ length o.now) }
-    ensures { result ≡ misses low.now high.now (entry_at o.now at) }
+    ensures { result ≡ misses state.now (entry_at o.now at) }
 {
     let wanted = input::byte_at(o, at) == 1;
     let f = Fact::read(o, at + 1);
-    let n = f.number();
-    let holds = mask::has512(low, n);
-    let may_hold = mask::has512(high, n);
-    (wanted & !(holds & may_hold)) | (!wanted & (holds | may_hold))
+    let holds = mask::has512(state, f.number());
+    (wanted & !holds) | (!wanted & holds)
 }
 
-// Row 20: the number, from 1, of the first goal entry that is missed, 0 where none is.
-pub fn missed(
-    o: &[u8],
-    n: usize,
-    from: usize,
-    low: &[u8; limits::STATE_SIZE],
-    high: &[u8; limits::STATE_SIZE],
-) -> usize
+// Row 20: the number, from 1, of the first goal entry that the state misses, 0 where it misses none.
+pub fn missed(o: &[u8], n: usize, from: usize, state: &[u8; limits::STATE_SIZE]) -> usize
     requires { (from + entry_size * n ≤ far_ceiling) × (from + entry_size * n ≤ length o.now) }
-    ensures { result ≡ missed low.now high.now (goal_from o.now n from) }
+    ensures { result ≡ missed state.now (goal_from o.now n from) }
 {
     let mut left = n;
     let mut at = from;
     let mut i: usize = 1;
     while 0 < left {
-        if misses(o, at, low, high) {
+        if misses(o, at, state) {
             return i;
         }
         at += limits::ENTRY_SIZE;

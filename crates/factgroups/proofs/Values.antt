@@ -2,21 +2,22 @@
 use Prim.Native.Nat.{ℕ, zero, suc, ◌+◌, ◌*◌, ◌/◌, ◌%◌, ◌^◌, ◌≤◌, ◌<◌}
 use native.Mathlib.Nat.{zero-add}
 use native.Mathlib.Omega.{arith}
-use mathlib.Core.Path.{◌≡◌, refl, sym, ◌∙◌}
+use mathlib.Core.Path.{◌≡◌, refl, sym, ap, ◌∙◌}
 use mathlib.Core.Bool.{Bool}
 use mathlib.Core.List.{List}
-use lib.Bits.{bit_or}
+use lib.Bits.{bit_and, bit_or, and_le_l}
 use lib.Dec.{eqb}
 use lib.ListN.{get_or}
 use borrow.Author.Tests.{le-leb, lt-leb}
 use Rattle.mask.specs.Bits.{bit_of, test_bit}
 use Rattle.mask.specs.Sets.{digit, number}
-use Rattle.mask.proofs.Numbers.{bit_none, bit_number}
+use Rattle.mask.proofs.Numbers.{bit_number}
 use Rattle.atoms.proofs.Words.{number_same}
 use Rattle.factgroups.specs.declared.Placement.{Placement}
-use Rattle.factgroups.specs.Groups.{Indices, unused, in_place, group_of, facts, in_columns}
-use Rattle.factgroups.proofs.Words.{number_cut, number_none, or_zero}
+use Rattle.factgroups.specs.Groups.{Indices, unused, in_place, column_set, group_of, facts, in_columns}
+use Rattle.factgroups.proofs.Words.{number_cut, number_none}
 use Rattle.factgroups.proofs.Groups.{unused_small}
+use Rattle.factgroups.proofs.Needs.{groups_clear_by}
 
 -- ---- the columns in the second place
 pub columns_used : (places : ℕ) (xs : List ℕ) → 1 < places → xs ≡ in_place places 2 xs
@@ -42,11 +43,6 @@ pub in_columns_by : (group : ℕ) (ys : List ℕ) (a b c d : ℕ)
     → a + b * 2 + c * 4 + d * 8 ≡ in_columns group ys
 unfolding in_columns number
 in_columns_by group ys a b c d ea eb ec ed = omega (arith, ea, eb, ec, ed)
-
--- where no fact of the group holds
-none_columns : (group : ℕ) (ys : List ℕ) → group ≡ 0 → 0 ≡ in_columns group ys
-unfolding in_columns
-none_columns group ys e = rw e (sym (number_none _ 0 4 (λ q l. bit_none _)))
 
 -- where the second place is unused: the bit of column 0 for all four
 alone_columns : (group a : ℕ) → a ≡ digit (bit_of group 0) → a * 15 ≡ in_columns group unused
@@ -87,10 +83,10 @@ module _ (m : List ℕ) (P : Placement) (ys : List ℕ) (small : Indices ys) whe
     -- where no fact of the groups holds
     pub values_none : bit_or (bit_or (bit_or a b) c) d ≡ 0 → 0 ≡ number (λ j. test_bit m (facts P ys j)) 0 16
     values_none none =
-        let (e2, zd) = or_zero (bit_or (bit_or a b) c) d none in
-        let (e1, zc) = or_zero (bit_or a b) c e2 in
-        let (za, zb) = or_zero a b e1 in
-        values_by 0 0 0 0 (none_columns a ys za) (none_columns b ys zb) (none_columns c ys zc) (none_columns d ys zd)
+        let all : ℕ = column_set ys 15 in
+        let e : bit_and (bit_or (bit_or (bit_or a b) c) d) all ≡ 0 = rw none (omega (arith, and_le_l 0 all)) in
+        let clear = groups_clear_by m P ys small a b c d all ea eb ec ed refl e in
+        sym (number_none _ 0 16 (λ j l. ap (λ (i : ℕ). test_bit m (facts P ys i)) (zero-add j) ∙ clear j l))
 
 module _ (m : List ℕ) (P : Placement) (a b c d : ℕ)
     (ea : a ≡ number (test_bit m) (16 * group_of P 0) 16) (eb : b ≡ number (test_bit m) (16 * group_of P 1) 16)

@@ -6,7 +6,7 @@ use native.Mathlib.Omega.{arith}
 use mathlib.Core.Path.{◌≡◌, refl, sym, ap, ap₂, ◌∙◌}
 use mathlib.Core.Bool.{Bool, true, false, not, ◌&&◌, ◌||◌}
 use mathlib.Core.List.{List}
-use lib.Bits.{bit_and, bit_or, and_lt, or_lt, or_add_and, and_le_l, and_le_r}
+use lib.Bits.{bit_and, bit_or, and_lt, or_lt}
 use lib.Dec.{eqb}
 use lib.ListN.{get_or}
 use borrow.Author.Tests.{eq-eqb, eqb-true, not-true}
@@ -77,10 +77,6 @@ number_and = number_by bit_and (λ a b. a && b) bit_and_lem and_lt
 
 pub number_or : (p q : ℕ → Bool) (at k : ℕ) → bit_or (number p at k) (number q at k) ≡ number (λ n. p n || q n) at k
 number_or = number_by bit_or (λ a b. a || b) bit_or_lem or_lt
-
--- two words that together have no bit
-pub or_zero : (x y : ℕ) → bit_or x y ≡ 0 → (x ≡ 0) × (y ≡ 0)
-or_zero x y e = (omega (arith, or_add_and x y, and_le_r x y), omega (arith, or_add_and x y, and_le_l x y))
 
 -- ---- the bytes of a mask
 byte_number : (m : List ℕ) (i : ℕ) → get_or m i 0 < 256 → get_or m i 0 ≡ number (test_bit m) (8 * i) 8

@@ -1,5 +1,5 @@
 -- Groups and columns of a state's facts, and names for what the functions pass on to each other. A state is a mask of 512 bytes.
-use Rattle.std.specs.Prelude.{ℕ, ◌+◌, ◌*◌, ◌/◌, ◌%◌, ◌≤◌, ◌<◌, ◌≡◌, Bool, false, cond, not, ◌&&◌, List, [], ◌∷◌, eqb, leb, get_or}
+use Rattle.std.specs.Prelude.{ℕ, ◌+◌, ◌*◌, ◌/◌, ◌%◌, ◌≤◌, ◌<◌, ◌≡◌, Bool, false, cond, not, ◌&&◌, ◌||◌, List, [], ◌∷◌, eqb, leb, get_or}
 use Rattle.limits.specs.Limits.{max_objects, max_params, max_atoms, atoms_per_relation, state_size}
 use Rattle.mask.specs.Bits.{bit_of, test_bit}
 use Rattle.mask.specs.Sets.{number, mask_of}
@@ -76,13 +76,19 @@ in_columns group ys = number (λ q. bit_of group (get_or ys q 0)) 0 max_params
 
 -- ---- needs
 
--- a fact of a group that is needed, in one of some columns, does not hold
-unfoldable pub group_unmet : List ℕ → ℕ → ℕ → Bool
-group_unmet m group needed = below max_objects (λ y. bit_of needed y && not (test_bit m (16 * group + y)))
+-- none of sixteen facts holds
+abbrev pub Clear : List ℕ → (ℕ → ℕ) → Type 0
+Clear m g = (j : ℕ) → j < atoms_per_relation → test_bit m (g j) ≡ false
 
--- one of sixteen bound facts that are needed, as a word says which, does not hold
-unfoldable pub word_unmet : List ℕ → (ℕ → ℕ) → ℕ → Bool
-word_unmet m g needed = below atoms_per_relation (λ j. bit_of needed j && not (test_bit m (g j)))
+-- a need of a group is unmet: of the columns that are to hold, and of those that are not to
+unfoldable pub group_unmet : List ℕ → ℕ → ℕ → ℕ → Bool
+group_unmet m group positive negative =
+    below max_objects (λ y. bit_of positive y && not (test_bit m (16 * group + y)) || bit_of negative y && test_bit m (16 * group + y))
+
+-- a need of one of sixteen bound facts is unmet, as words say which are to hold and which are not to
+unfoldable pub word_unmet : List ℕ → (ℕ → ℕ) → ℕ → ℕ → Bool
+word_unmet m g positive negative =
+    below atoms_per_relation (λ j. bit_of positive j && not (test_bit m (g j)) || bit_of negative j && test_bit m (g j))
 
 -- ---- effects
 
@@ -101,7 +107,3 @@ in_group group columns f = eqb (f / 16) group && bit_of columns (f % 16)
 -- the facts of those of sixteen bound facts that a word has
 unfoldable pub in_word : (ℕ → ℕ) → ℕ → ℕ → Bool
 in_word g bits f = below atoms_per_relation (λ j. bit_of bits j && eqb (g j) f)
-
--- none of sixteen facts holds
-abbrev pub Clear : List ℕ → (ℕ → ℕ) → Type 0
-Clear m g = (j : ℕ) → j < atoms_per_relation → test_bit m (g j) ≡ false

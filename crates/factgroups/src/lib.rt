@@ -1,7 +1,7 @@
 // A state of facts as a mask of 512 bytes, taken by groups: the facts of a relation with one first object are sixteen bits, one for each second object.
 // A table made once for a step has, for each set of its parameters, the bits of their objects; with it sixteen bound facts of a relation are tested,
 // or put into the state, by four groups; without it their values are gathered. Uses limits, and the definitions of mask; each contract names its definition.
-ghost use Rattle.std.specs.Prelude.{◌≡◌, true, false, ◌+◌, ◌*◌, ◌^◌, ◌≤◌, ◌<◌, length};
+ghost use Rattle.std.specs.Prelude.{◌≡◌, true, ◌+◌, ◌*◌, ◌^◌, ◌≤◌, ◌<◌, length};
 ghost use Rattle.limits.specs.Limits.{max_atoms, max_objects, max_params, state_size, atoms_per_relation};
 ghost use Rattle.mask.specs.Bits.{bit_of, test_bit, Bytes};
 ghost use Rattle.mask.specs.Sets.{digit, number};
@@ -180,23 +180,55 @@ pub fn values_alone(p: Placement, state: &[u8]) -> u16
 
 // ---- needs
 
-// A fact of a parameter's group that is needed does not hold, the set being of parameters in the second place.
-fn group_unmet(t: &[u16; 32], p: Placement, state: &[u8], q: usize, needed: u16) -> bool
-    requires { (length state.now ≡ state_size) × Within p × (q < max_params) × (needed < 16) }
-    ensures { ForColumns t.now p (λ ys. result ≡ group_unmet state.now (group_of p q) (column_set ys needed)) }
+// No fact of a relation holds in the groups and columns of the parameters.
+fn groups_clear(t: &[u16; 32], p: Placement, state: &[u8; limits::STATE_SIZE]) -> bool
+    requires { Within p }
+    ensures { ForColumns t.now p (λ ys. result ≡ true → Clear state.now (facts p ys)) }
 {
-    (columns(t, p, needed) & !group_word(p, q, state)) != 0
+    let held = group_word(p, 0, state)
+        | group_word(p, 1, state)
+        | group_word(p, 2, state)
+        | group_word(p, 3, state);
+    (held & columns(t, p, 15)) == 0
 }
 
-// One of a relation's bound facts that are needed does not hold: four groups, one for each parameter in the first place.
-pub fn needs_unmet(t: &[u16; 32], p: Placement, state: &[u8], needed: u16) -> bool
-    requires { (length state.now ≡ state_size) × Within p }
-    ensures { ForColumns t.now p (λ ys. result ≡ word_unmet state.now (facts p ys) needed) }
+// A need of a parameter's group is unmet: of the parameters in the second place that are to hold with it, and of those that are not to.
+fn group_unmet(
+    t: &[u16; 32],
+    p: Placement,
+    state: &[u8; limits::STATE_SIZE],
+    q: usize,
+    positive: u16,
+    negative: u16,
+) -> bool
+    requires { Within p × (q < max_params) × (positive < 16) × (negative < 16) }
+    ensures { ForColumns t.now p (λ ys. result ≡ group_unmet state.now (group_of p q) (column_set ys positive) (column_set ys negative)) }
 {
-    group_unmet(t, p, state, 0, needed % 16)
-        | group_unmet(t, p, state, 1, needed / 16 % 16)
-        | group_unmet(t, p, state, 2, needed / 256 % 16)
-        | group_unmet(t, p, state, 3, needed / 4096 % 16)
+    let held = group_word(p, q, state);
+    let to_hold = columns(t, p, positive);
+    let not_to_hold = columns(t, p, negative);
+    ((to_hold & !held) | (not_to_hold & held)) != 0
+}
+
+// A need of one of a relation's bound facts is unmet: four groups, one for each parameter in the first place. In most groups of a state none of the
+// facts holds, and the needs to hold decide.
+pub fn needs_unmet(
+    t: &[u16; 32],
+    p: Placement,
+    state: &[u8; limits::STATE_SIZE],
+    positive: u16,
+    negative: u16,
+) -> bool
+    requires { Within p }
+    ensures { ForColumns t.now p (λ ys. result ≡ word_unmet state.now (facts p ys) positive negative) }
+{
+    if groups_clear(t, p, state) {
+        return positive != 0;
+    }
+    group_unmet(t, p, state, 0, positive % 16, negative % 16)
+        | group_unmet(t, p, state, 1, positive / 16 % 16, negative / 16 % 16)
+        | group_unmet(t, p, state, 2, positive / 256 % 16, negative / 256 % 16)
+        | group_unmet(t, p, state, 3, positive / 4096 % 16, negative / 4096 % 16)
 }
 
 // ---- effects
@@ -230,27 +262,4 @@ pub fn put_groups(t: &[u16; 32], p: Placement, bits: u16, value: bool, state: &m
     put_group(p, 1, columns(t, p, bits / 16 % 16), value, state);
     put_group(p, 2, columns(t, p, bits / 256 % 16), value, state);
     put_group(p, 3, columns(t, p, bits / 4096 % 16), value, state);
-}
-
-// No fact of a relation holds in the groups and columns of the parameters.
-fn groups_clear(t: &[u16; 32], p: Placement, state: &[u8]) -> bool
-    requires { (length state.now ≡ state_size) × Within p }
-    ensures { ForColumns t.now p (λ ys. result ≡ true → Clear state.now (facts p ys)) }
-{
-    let held = group_word(p, 0, state)
-        | group_word(p, 1, state)
-        | group_word(p, 2, state)
-        | group_word(p, 3, state);
-    (held & columns(t, p, 15)) == 0
-}
-
-// Removes a relation's bound facts in a word. In most groups of a state none of the facts holds, and nothing is stored.
-pub fn remove_groups(t: &[u16; 32], p: Placement, bits: u16, state: &mut [u8])
-    requires { (length state.old ≡ state_size) × Within p }
-    ensures { ForColumns t.now p (λ ys. state.new ≡ put_at false (in_word (facts p ys) bits) state.old) }
-{
-    if groups_clear(t, p, state) {
-        return;
-    }
-    put_groups(t, p, bits, false, state);
 }

@@ -26,12 +26,11 @@ use Rattle.format.specs.Decode.{first_at, recorded_steps_at, steps_of_record, st
 use Rattle.format.proofs.Records.{record_good, record_within, head_limits, head_objects}
 use Rattle.format.proofs.Typing.{schema_right, objects_known}
 use Rattle.format.proofs.LookOver.{LookedOver, look_over_good}
-use Rattle.jobs.specs.Planning.{schema_of, steps_of_book, transitions_of}
+use Rattle.jobs.specs.Planning.{schema_of, steps_of_book}
 use Rattle.quantify.specs.Quantify.{any}
-use Rattle.observed.specs.Observed.{observed_of}
+use Rattle.observed.specs.Begun.{Begun}
 use Rattle.observed.specs.Rules.{refuted_observed}
 use Rattle.observed.proofs.Refuted.{refuted_append, refuted_none}
-use Rattle.onewalk.proofs.OneWalk.{observed_seen}
 use Rattle.failedsteps.specs.Asked.{BookAsked, StepsAsked, RecordAsked}
 
 -- ---- a record
@@ -81,7 +80,7 @@ module _ (form : Form) (h : Sections) (s masks : List ℕ) (at : ℕ) (book : Bo
 
 -- ---- a book
 
-module _ (form : Form) (h : Sections) (s masks : List ℕ) (is : h ≡ sections_of s) (looked : (n : ℕ) × (look_over form s ≡ Good n)) (held : masks ≡ (observed_of form s).masks) where
+module _ (form : Form) (h : Sections) (s masks : List ℕ) (is : h ≡ sections_of s) (looked : (n : ℕ) × (look_over form s ≡ Good n)) (begun : Begun (schema_of s) masks) where
   over : LookedOver form s looked.0
   over = look_over_good form s looked.0 looked.1
 
@@ -90,14 +89,7 @@ module _ (form : Form) (h : Sections) (s masks : List ℕ) (is : h ≡ sections_
   book_asked =
       let g = over.sections in
       rw is
-      (record {
-        known = g.counts.relations;
-        moves = g.counts.moves;
-        falling = (schema_right (sections_of s) s _ g).falling;
-        size = g.size.most;
-        transitions = transitions_of form s;
-        seen = rw held (observed_seen form s looked.0 looked.1);
-      })
+      (record { known = g.counts.relations; moves = g.counts.moves; falling = (schema_right (sections_of s) s _ g).falling; size = g.size.most; begun = begun })
 
   -- what row 28 answers of a number of records from an offset on
   abbrev answered : ℕ → ℕ → Answer

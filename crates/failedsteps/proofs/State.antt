@@ -1,39 +1,36 @@
 -- Row 28 of one step, by the state before it as a mask, is that by the facts that hold before it; and what the functions that it calls ask.
-use Prim.Native.Nat.{ℕ, ◌*◌, ◌≤◌, ◌<◌}
-use native.Mathlib.Omega.{arith}
-use mathlib.Core.Path.{◌≡◌, refl, sym, ap, ◌∙◌}
+use Prim.Native.Nat.{ℕ, ◌≤◌}
+use mathlib.Core.Path.{◌≡◌, refl, ap, ◌∙◌}
 use mathlib.Core.Bool.{Bool, true, false, not}
 use mathlib.Core.List.{List, []}
-use Rattle.truth.specs.Bools.{guarded}
-use Rattle.limits.specs.Limits.{max_relations, max_moves, max_atoms, state_size}
+use Rattle.limits.specs.Limits.{max_relations, max_moves, max_params, max_objects, state_size}
 use Rattle.mask.specs.Bits.{test_bit}
 use Rattle.mask.specs.Sets.{empty, mask_of}
-use Rattle.mask.proofs.Whole.{test_mask_of, empty_mask_of}
+use Rattle.mask.proofs.Whole.{empty_mask_of}
+use Rattle.terms.specs.declared.Param.{Param}
 use Rattle.terms.specs.declared.Step.{Step}
 use Rattle.terms.specs.declared.Fact.{Fact}
 use Rattle.terms.specs.declared.Sections.{Sections}
 use Rattle.terms.specs.Schema.{Schema, schema}
 use Rattle.terms.specs.Facts.{no_fact}
-use Rattle.terms.specs.Steps.{is_atom, ground}
+use Rattle.terms.specs.Steps.{object_of}
 use Rattle.format.specs.Filed.{went_at, filed_step_at}
 use Rattle.format.specs.Lists.{list_at}
 use Rattle.format.specs.Form.{Form}
 use Rattle.format.specs.Decode.{recorded_step}
+use Rattle.atoms.specs.Atoms.{atoms_end}
 use Rattle.quantify.specs.Quantify.{any}
-use Rattle.quantify.proofs.Quantify.{below_cong}
 use Rattle.factsets.specs.Holding.{holding}
 use Rattle.factsets.specs.Right.{RightState}
 use Rattle.factsets.proofs.Sorted.{mem_none}
 use Rattle.factsets.proofs.Toggled.{toggled_none}
-use Rattle.wellformed.proofs.Atoms.{ground_below}
-use Rattle.grounding.specs.Grounding.{Bounded, indices, ForBindings, some_missing}
+use Rattle.grounding.specs.Grounding.{held_atoms}
 use Rattle.turning.specs.Turning.{flipped, Carried}
 use Rattle.turning.proofs.Carrying.{flipped_holding}
-use Rattle.observed.specs.Observed.{always_before, observed_set}
-use Rattle.observed.specs.Rules.{met_before}
-use Rattle.observed.proofs.Refuted.{needed_atom, some_unmet}
-use Rattle.onewalk.proofs.States.{state_found}
-use Rattle.onewalk.proofs.Bound.{step_move, step_bounded}
+use Rattle.observed.specs.Observed.{bound, observed_set}
+use Rattle.observed.specs.Rules.{in_use, unmet_set, met_before}
+use Rattle.onewalk.proofs.Turned.{held_found}
+use Rattle.onewalk.proofs.Bound.{step_move, step_bounded, step_ended}
 use Rattle.failedsteps.specs.Met.{met_in, mask_before, refuted_at}
 use Rattle.failedsteps.specs.Asked.{BookAsked, StepAsked, ListAsked}
 
@@ -58,26 +55,22 @@ module _ (h : Sections) (s : List ℕ) (at : ℕ) (masks : List ℕ) (ask : Step
   pub asked_move : (1 ≤ st.action.0) × (st.action.0 ≤ max_moves)
   asked_move = step_move sch ask.ob st ask.right (book_moves h s masks ask.book)
 
-  pub asked_bounded : Bounded st.binding
+  pub asked_bounded : (p : Param) → 1 ≤ p.0 → p.0 ≤ max_params → (object_of st.binding p).0 ≤ max_objects
   asked_bounded = step_bounded sch ask.ob st ask.right ask.few
+
+  pub asked_ended : (n : ℕ) → atoms_end h.relations.count ≤ n → test_bit (observed_set masks st.action.0 bound) n ≡ false
+  unfolding schema
+  asked_ended = step_ended sch ask.ob st ask.right (book_known h s masks ask.book) (book_moves h s masks ask.book) masks ask.book.begun
 
   -- In the mask of the facts before the step the preconditions are met exactly if they are met by these facts.
   pub met_facts : (form : Form) (before : List Fact) (m : List ℕ) → RightState sch ask.ob before → m ≡ mask_of state_size (holding before)
       → met_in sch masks st m ≡ met_before masks (recorded_step form s before at)
-  unfolding met_in met_before recorded_step some_missing
+  unfolding met_in met_before recorded_step held_atoms
   met_facts form before m right e =
-      let (low, high) = asked_move in
-      let seen = ask.book.seen in
-      let needed : List ℕ = observed_set masks st.action.0 always_before in
-      rw e
-      (ap not (below_cong max_atoms _ _ (λ n hn.
-      guarded (test_bit needed n) (not (test_bit (mask_of state_size (holding before)) (ground sch st.binding n))) (not (holding before (ground sch st.binding n)))
-      (λ k. ap not (test_mask_of state_size (holding before) (ground sch st.binding n) (fact_within n (needed_atom sch _ masks seen st.action.0 low high n hn k)))))
-      ∙ sym (some_unmet sch _ masks seen st low high before (state_found sch ask.ob ask.few st ask.right before right.suits))))
-    where
-      -- the facts of its bound facts have a bit in a state
-      fact_within : (n : ℕ) → is_atom sch st.action.0 n ≡ true → ground sch st.binding n < 8 * state_size
-      fact_within n atom = omega (arith, ground_below sch ask.ob st ask.right ask.few n atom, book_known h s masks ask.book)
+      let move = asked_move in
+      rw (e, ask.book.begun.atoms _ move.0 move.1)
+      (ap (λ (held : List ℕ). not (in_use (unmet_set masks st.action.0 held)))
+      (held_found sch (book_known h s masks ask.book) ask.ob ask.few st ask.right before right.suits))
 
 -- ---- the state before it
 
@@ -103,18 +96,15 @@ mask_full form s pre m e = rw e
 
 -- ---- what the code says of it
 
--- the preconditions, by the set of what is needed and the objects of the step
-pub met_by : (sch : Schema) (l : List ℕ) (st : Step) (m : List ℕ) (step : Step) (needed xs : List ℕ) (missing r : Bool)
+-- the preconditions, by the bound facts that hold
+pub met_by : (sch : Schema) (l : List ℕ) (st : Step) (m : List ℕ) (step : Step) (atoms held : List ℕ) (r : Bool)
     → step ≡ st
-    → Bounded st.binding
-    → needed ≡ observed_set l step.action.0 always_before
-    → xs ≡ indices step.binding
-    → ForBindings xs (λ b. missing ≡ some_missing sch b needed m)
-    → r ≡ not missing
+    → atoms ≡ observed_set l step.action.0 bound
+    → held ≡ held_atoms sch step.binding atoms m
+    → r ≡ not (in_use (unmet_set l step.action.0 held))
     → r ≡ met_in sch l st m
 unfolding met_in
-met_by sch l st m step needed xs missing r e bounded f g told k =
-    k ∙ rw (told st.binding bounded (g ∙ ap (λ (x : Step). indices x.binding) e), f, e)
+met_by sch l st m step atoms held r e f g k = k ∙ rw (g, f, e)
 
 -- row 28, of a step that went and of one that did not
 module _ (form : Form) (sch : Schema) (s : List ℕ) (pre at : ℕ) (m l : List ℕ) where

@@ -11,19 +11,17 @@ use Rattle.format.specs.Form.{Form}
 use Rattle.format.specs.States.{state}
 use Rattle.format.specs.Records.{steps, record_at}
 use Rattle.factsets.specs.Right.{RightStep, RightState}
-use Rattle.model.specs.Domain.{Transition}
 use Rattle.turning.specs.Turning.{Turnable}
-use Rattle.observed.specs.Seen.{Seen}
+use Rattle.observed.specs.Begun.{Begun}
 
--- no more relations and moves than there may be, and parents that are smaller kinds; no more bytes than a book may have; and sets that are those of some
--- transitions
+-- no more relations and moves than there may be, and parents that are smaller kinds; no more bytes than a book may have; and sets of the right size, the
+-- bound facts of each move among them
 pub record BookAsked (h : Sections) (s masks : List ℕ) : Type 0 where
   pub known : h.relations.count ≤ max_relations
   pub moves : h.moves.count ≤ max_moves
   pub falling : Falling (schema h s)
   pub size : length s ≤ max_length
-  pub transitions : List Transition
-  pub seen : Seen (schema h s) transitions masks
+  pub begun : Begun (schema h s) masks
 
 -- a right step at an offset
 pub record StepAsked (h : Sections) (s : List ℕ) (at : ℕ) (masks : List ℕ) : Type 0 where

@@ -8,12 +8,14 @@ use Rattle.format.specs.Filed.{went_at, filed_step_at}
 use Rattle.format.specs.Lists.{list_at}
 use Rattle.format.specs.Form.{Form}
 use Rattle.factsets.specs.Holding.{holding}
-use Rattle.grounding.specs.Grounding.{some_missing}
-use Rattle.observed.specs.Observed.{always_before, observed_set}
+use Rattle.grounding.specs.Grounding.{held_atoms}
+use Rattle.observed.specs.Observed.{bound, observed_set}
+use Rattle.observed.specs.Rules.{in_use, unmet_set}
 
--- all preconditions of the step's move are met in the state m: what held before every step of the move is what it needs
+-- all preconditions of the step's move are met in the state m
 unfoldable pub met_in : Schema → List ℕ → Step → List ℕ → Bool
-met_in sch l st m = not (some_missing sch st.binding (observed_set l st.action.0 always_before) m)
+met_in sch l st m =
+    not (in_use (unmet_set l st.action.0 (held_atoms sch st.binding (observed_set l st.action.0 bound) m)))
 
 -- the state before a step: in a full book that of the list at `pre`, in a short one the mask m that is carried on
 unfoldable pub mask_before : Form → List ℕ → ℕ → List ℕ → List ℕ

@@ -1,7 +1,7 @@
 // Row 28: the first step that did not go though all learned preconditions of its move are met in the state before it. The records of a book of good
 // form are walked once more for it, once all of them have been observed.
-// Uses filed for a step, observed for what its move needs, factgroups and grounding for whether that holds, turning for a state as a mask, states for where
-// a list ends, mask, answer, terms, limits, and the definitions of jobs and observed.
+// Uses filed for a step, grounding for its bound facts that hold, conflicts for the preconditions, turning for a state as a mask, states for where a list
+// ends, observed for where the sets stand, mask, answer, terms, limits, and the definitions of jobs and observed.
 ghost use Rattle.std.specs.Prelude.{◌≡◌, false, ℕ, length};
 ghost use Rattle.limits.specs.Limits.{state_size};
 ghost use Rattle.answer.specs.declared.Answer.TheVariants.{Good};
@@ -12,8 +12,8 @@ ghost use Rattle.format.specs.Filed.{filed_step_at};
 ghost use Rattle.format.specs.Lists.{list_at, list_end};
 ghost use Rattle.format.specs.LookOver.{look_over};
 ghost use Rattle.format.specs.Decode.{recorded_steps_at, steps_of_record};
-ghost use Rattle.jobs.specs.Planning.{steps_of_book};
-ghost use Rattle.observed.specs.Observed.{observed_of};
+ghost use Rattle.jobs.specs.Planning.{schema_of, steps_of_book};
+ghost use Rattle.observed.specs.Begun.{Begun};
 ghost use Rattle.observed.specs.Rules.{refuted_observed};
 ghost use Rattle.failedsteps.specs.Met.{met_in, refuted_at};
 ghost use Rattle.failedsteps.specs.Asked.{BookAsked, StepAsked, ListAsked, StepsAsked, RecordAsked};
@@ -27,10 +27,10 @@ fn met_in(s: &[u8], h: Sections, at: usize, state: &[u8], observed: &[u8]) -> bo
     ensures { result ≡ met_in (schema h s.now) observed.now (filed_step_at s.now at) state.now }
 {
     let step = filed::read_step(s, at);
-    let needed = observed::observed_set(observed, step.action, observed::ALWAYS_BEFORE);
-    let xs = grounding::indices(step.binding);
-    let t = factgroups::column_table(xs);
-    !grounding::some_missing(s, h, xs, &t, &needed, state)
+    let bound = observed::observed_set(observed, step.action, observed::BOUND);
+    let mut held = mask::empty32();
+    grounding::mark_held(s, h, step.binding, &bound, state, &mut held);
+    conflicts::needs_met(observed, step.action, held)
 }
 
 // Row 28 of the step at an offset. In a full book the state before it is the list at `pre`, in a short one the mask `state`.
@@ -90,7 +90,7 @@ fn record(s: &[u8], short: bool, h: Sections, head: Head, at: usize, observed: &
 
 // All records of a book of good form, `observed` being what is observed in it.
 pub fn first_refuted(s: &[u8], short: bool, h: Sections, observed: &[u8]) -> Answer
-    requires { (h ≡ sections_of s.now) × ((n : ℕ) × (look_over short s.now ≡ Good n)) × (observed.now ≡ (observed_of short s.now).masks) }
+    requires { (h ≡ sections_of s.now) × ((n : ℕ) × (look_over short s.now ≡ Good n)) × Begun (schema_of s.now) observed.now }
     ensures { result ≡ refuted_observed observed.now (steps_of_book short s.now) }
 {
     let mut left = h.records.count as usize;

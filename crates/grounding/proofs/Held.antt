@@ -25,10 +25,6 @@ use Rattle.grounding.specs.Grounding.{ForBindings, held_atoms}
 use Rattle.grounding.proofs.Objects.{fact_ground}
 
 -- ---- the sixteen of a relation
--- a word of a set where it stands
-pub word_from : (atoms : List ℕ) (n w : ℕ) → StartsRelation n → w ≡ number (test_bit atoms) (8 * (n / 8)) 16 → w ≡ number (test_bit atoms) n 16
-word_from atoms n w first e = let whole = first.whole in number_at (test_bit atoms) w (8 * (n / 8)) n 16 (omega arith) e
-
 module _ (sch : Schema) (m xs : List ℕ) (n : ℕ) (first : StartsRelation n) where
   pub held_word_by : (places w : ℕ) (p : Placement) (ys : List ℕ) → places ≡ sch.places (atom_relation n) → p ≡ placement_of places xs n
       → ys ≡ in_place places 2 xs → w ≡ number (λ j. test_bit m (facts p ys j)) 0 16 → ForBindings xs (λ b. w ≡ number (λ j. test_bit m (ground sch b j)) n 16)
@@ -37,19 +33,23 @@ module _ (sch : Schema) (m xs : List ℕ) (n : ℕ) (first : StartsRelation n) w
       ∙ number_same (λ j. test_bit m (ground sch b j)) (λ j. test_bit m (facts p ys j)) n 0 16
       (λ j l. rw (zero-add j, placed, columns, own) (ap (test_bit m) (fact_ground b sch n j places first l is)))
 
+  -- a word of a set where it stands
+  word_from : (atoms : List ℕ) (w : ℕ) → w ≡ number (test_bit atoms) (8 * (n / 8)) 16 → w ≡ number (test_bit atoms) n 16
+  word_from atoms w e = let whole = first.whole in number_at (test_bit atoms) w (8 * (n / 8)) n 16 (omega arith) e
+
   pub asked_none : (atoms : List ℕ) (w : ℕ) → w ≡ number (test_bit atoms) (8 * (n / 8)) 16 → w ≡ 0
       → ForBindings xs (λ b. 0 ≡ number (λ j. test_bit atoms j && test_bit m (ground sch b j)) n 16)
   asked_none atoms w e none b bounded own =
       sym (number_none (λ j. test_bit atoms j && test_bit m (ground sch b j)) n 16 (λ j l. ap (λ (a : Bool). a && test_bit m (ground sch b (n + j))) (off j l)))
     where
       off : (j : ℕ) → j < 16 → test_bit atoms (n + j) ≡ false
-      off j l = sym (bit_number (test_bit atoms) n 16 j l) ∙ ap (λ (x : ℕ). bit_of x j) (sym (word_from atoms n w first e) ∙ none) ∙ bit_none j
+      off j l = sym (bit_number (test_bit atoms) n 16 j l) ∙ ap (λ (x : ℕ). bit_of x j) (sym (word_from atoms w e) ∙ none) ∙ bit_none j
 
   pub asked_some : (atoms : List ℕ) (w v : ℕ) → w ≡ number (test_bit atoms) (8 * (n / 8)) 16
       → ForBindings xs (λ b. v ≡ number (λ j. test_bit m (ground sch b j)) n 16)
       → ForBindings xs (λ b. bit_and w v ≡ number (λ j. test_bit atoms j && test_bit m (ground sch b j)) n 16)
   asked_some atoms w v e held b bounded own =
-      rw (word_from atoms n w first e, held b bounded own) (number_and (test_bit atoms) (λ j. test_bit m (ground sch b j)) n 16)
+      rw (word_from atoms w e, held b bounded own) (number_and (test_bit atoms) (λ j. test_bit m (ground sch b j)) n 16)
 
 -- ---- the relations so far
 module _ (sch : Schema) (b : Binding) (atoms m : List ℕ) where

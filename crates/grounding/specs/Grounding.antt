@@ -1,14 +1,12 @@
--- The bound facts (lifted atoms) of a move in a state, by the objects of a step: where a relation's stand, which of a set hold, and whether some of a set
--- does not.
-use Rattle.std.specs.Prelude.{ℕ, ◌+◌, ◌-◌, ◌≤◌, ◌<◌, ◌≡◌, Bool, ◌&&◌, not, List, [], ◌∷◌}
-use Rattle.limits.specs.Limits.{max_objects, max_params, max_atoms, atoms_per_relation, set_size}
+-- The bound facts (lifted atoms) of a move in a state, by the objects of a step: where a relation's stand, and which of a set hold.
+use Rattle.std.specs.Prelude.{ℕ, ◌+◌, ◌-◌, ◌≤◌, ◌<◌, ◌≡◌, ◌&&◌, List, [], ◌∷◌}
+use Rattle.limits.specs.Limits.{max_objects, max_params, atoms_per_relation, set_size}
 use Rattle.mask.specs.Bits.{test_bit}
 use Rattle.mask.specs.Sets.{mask_of}
 use Rattle.terms.specs.declared.Param.{Param}
 use Rattle.terms.specs.declared.Binding.{Binding}
 use Rattle.terms.specs.Schema.{Schema}
 use Rattle.terms.specs.Steps.{object_of, ground}
-use Rattle.quantify.specs.Quantify.{below}
 use Rattle.factgroups.specs.declared.Placement.{Placement}
 use Rattle.factgroups.specs.Groups.{Indices, Tabled, Tables, Within, facts}
 
@@ -26,10 +24,6 @@ indices b =
     ∷ ((object_of b (record { 0 = 3 })).0 - 1)
     ∷ ((object_of b (record { 0 = 4 })).0 - 1)
     ∷ []
-
--- what holds for every binding of these objects
-abbrev pub ForBindings : List ℕ → (Binding → Type 0) → Type 0
-ForBindings xs P = (b : Binding) → Bounded b → xs ≡ indices b → P b
 
 -- ---- a relation's bound facts
 
@@ -51,12 +45,6 @@ pub record Placed (sch : Schema) (xs : List ℕ) (n : ℕ) (p : Placement) : Typ
 unfoldable pub held_atoms : Schema → Binding → List ℕ → List ℕ → List ℕ
 held_atoms sch b atoms m = mask_of set_size (λ n. test_bit atoms n && test_bit m (ground sch b n))
 
--- ---- the bound facts that do not hold
-
--- one of a relation's sixteen bound facts, from n on, is in a set and does not hold in a state
-unfoldable pub relation_missing : Schema → Binding → List ℕ → List ℕ → ℕ → Bool
-relation_missing sch b atoms m n = below atoms_per_relation (λ j. test_bit atoms (n + j) && not (test_bit m (ground sch b (n + j))))
-
--- some bound fact of a set does not hold in a state
-unfoldable pub some_missing : Schema → Binding → List ℕ → List ℕ → Bool
-some_missing sch b atoms m = below max_atoms (λ n. test_bit atoms n && not (test_bit m (ground sch b n)))
+-- what holds for every binding of these objects
+abbrev pub ForBindings : List ℕ → (Binding → Type 0) → Type 0
+ForBindings xs P = (b : Binding) → Bounded b → xs ≡ indices b → P b

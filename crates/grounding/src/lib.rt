@@ -1,5 +1,5 @@
-// The bound facts (lifted atoms) of a move in a state of facts as a mask of 512 bytes: where a relation's stand for the objects of a step, which of a
-// set hold, and whether some of a set does not, sixteen of a relation at once.
+// The bound facts (lifted atoms) of a move in a state of facts as a mask of 512 bytes: where a relation's stand for the objects of a step, and which of
+// a set hold, sixteen of a relation at once.
 // Uses limits, terms, factgroups, the end of the bound facts from atoms, and the definitions of mask; each contract names its definition.
 ghost use Rattle.std.specs.Prelude.{◌≡◌, false, ◌&&◌, ℕ, ◌≤◌, length};
 ghost use Rattle.limits.specs.Limits.{set_size, state_size, atoms_per_relation};
@@ -8,8 +8,8 @@ ghost use Rattle.mask.specs.Sets.{number, empty};
 ghost use Rattle.terms.specs.Schema.{schema};
 ghost use Rattle.terms.specs.Steps.{ground};
 ghost use Rattle.atoms.specs.Atoms.{atoms_end};
-ghost use Rattle.factgroups.specs.Groups.{StartsRelation, Indices, Tables};
-ghost use Rattle.grounding.specs.Grounding.{Bounded, indices, Placed, ForBindings, held_atoms, relation_missing, some_missing};
+ghost use Rattle.factgroups.specs.Groups.{StartsRelation, Indices};
+ghost use Rattle.grounding.specs.Grounding.{Bounded, indices, Placed, ForBindings, held_atoms};
 
 use factgroups::Placement;
 use terms::{Binding, Param, Sections};
@@ -90,48 +90,4 @@ pub fn mark_held(
         atoms::store_word(set, n, bits as u32);
         n += limits::ATOMS_PER_RELATION;
     }
-}
-
-// ---- the bound facts that do not hold
-
-// One of a relation's bound facts in a set does not hold in a state for these objects, n being the first of them. Where the set has none, no group is read.
-fn relation_missing(
-    book: &[u8],
-    h: Sections,
-    xs: [usize; 4],
-    t: &[u16; 32],
-    atoms: &[u8],
-    state: &[u8],
-    n: usize,
-) -> bool
-    requires { Indices xs × Tables t.now xs × (length atoms.now ≡ set_size) × (length state.now ≡ state_size) × StartsRelation n }
-    ensures { ForBindings xs (λ b. result ≡ relation_missing (schema h book.now) b atoms.now state.now n) }
-{
-    let asked = factgroups::word_at(atoms, n / 8);
-    if asked == 0 {
-        return false;
-    }
-    factgroups::needs_unmet(t, placement(book, h, xs, n), state, asked)
-}
-
-// Whether some bound fact of a set does not hold in a state for a step's objects, relation by relation.
-pub fn some_missing(
-    book: &[u8],
-    h: Sections,
-    xs: [usize; 4],
-    t: &[u16; 32],
-    atoms: &[u8],
-    state: &[u8],
-) -> bool
-    requires { Indices xs × Tables t.now xs × (length atoms.now ≡ set_size) × (length state.now ≡ state_size) }
-    ensures { ForBindings xs (λ b. result ≡ some_missing (schema h book.now) b atoms.now state.now) }
-{
-    let mut n = 0;
-    while n < limits::MAX_ATOMS {
-        if relation_missing(book, h, xs, t, atoms, state, n) {
-            return true;
-        }
-        n += limits::ATOMS_PER_RELATION;
-    }
-    false
 }

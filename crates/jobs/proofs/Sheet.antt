@@ -15,7 +15,7 @@ use Rattle.model.specs.Alike.{SameRules}
 use Rattle.format.specs.Form.{Form}
 use Rattle.jobs.specs.Planning.{schema_of}
 use Rattle.jobs.specs.Learn.{rule_block, rule_blocks, rules_from, rule_sheet}
-use Rattle.jobs.specs.SheetBits.{needed_set, may_remove_set, added_set, removed_set, sheet_bit, sheet_set, rules_on}
+use Rattle.jobs.specs.SheetBits.{needed_set, needed_not_set, added_set, removed_set, sheet_bit, sheet_set, rules_on}
 
 module _ (R : Rules) where
   pub length_block : (a : ℕ) → length (rule_block R a) ≡ rule_size
@@ -77,8 +77,8 @@ module _ (R : Rules) where
     P : List ℕ
     P = mask_of set_size (R.needed a)
 
-    M : List ℕ
-    M = mask_of set_size (R.may_remove a)
+    N : List ℕ
+    N = mask_of set_size (R.needed_not a)
 
     A : List ℕ
     A = mask_of set_size (R.added a)
@@ -86,35 +86,35 @@ module _ (R : Rules) where
     D : List ℕ
     D = mask_of set_size (R.removed a)
 
-    sizes : (length P ≡ 32) × (length (P ++ M) ≡ 64) × (length (P ++ M ++ A) ≡ 96)
-    unfolding P M A
+    sizes : (length P ≡ 32) × (length (P ++ N) ≡ 64) × (length (P ++ N ++ A) ≡ 96)
+    unfolding P N A
     sizes = (length_mask_of set_size _, simp (length-append, length_mask_of), simp (length-append, length_mask_of))
 
     -- their bits
     module _ (n : ℕ) (h : n < 256) where
       block_needed : test_bit (rule_block R a) (256 * needed_set + n) ≡ R.needed a n
-      unfolding rule_block P M A D
+      unfolding rule_block P N A D
       block_needed =
           let e : 256 * 0 + n ≡ n = omega arith in
-          ap (test_bit (P ++ M ++ A ++ D)) e
-          ∙ test_left (P ++ M ++ A) D n (omega (arith, sizes)) ∙ test_left (P ++ M) A n (omega (arith, sizes)) ∙ test_left P M n (omega (arith, sizes))
+          ap (test_bit (P ++ N ++ A ++ D)) e
+          ∙ test_left (P ++ N ++ A) D n (omega (arith, sizes)) ∙ test_left (P ++ N) A n (omega (arith, sizes)) ∙ test_left P N n (omega (arith, sizes))
           ∙ test_mask_of set_size (R.needed a) n h
 
-      block_may_remove : test_bit (rule_block R a) (256 * may_remove_set + n) ≡ R.may_remove a n
-      unfolding rule_block P M A D
-      block_may_remove =
-          test_left (P ++ M ++ A) D (256 + n) (omega (arith, sizes)) ∙ test_left (P ++ M) A (256 + n) (omega (arith, sizes)) ∙ test_right P M 256 n (omega (arith, sizes))
-          ∙ test_mask_of set_size (R.may_remove a) n h
+      block_needed_not : test_bit (rule_block R a) (256 * needed_not_set + n) ≡ R.needed_not a n
+      unfolding rule_block P N A D
+      block_needed_not =
+          test_left (P ++ N ++ A) D (256 + n) (omega (arith, sizes)) ∙ test_left (P ++ N) A (256 + n) (omega (arith, sizes)) ∙ test_right P N 256 n (omega (arith, sizes))
+          ∙ test_mask_of set_size (R.needed_not a) n h
 
       block_added : test_bit (rule_block R a) (256 * added_set + n) ≡ R.added a n
-      unfolding rule_block P M A D
+      unfolding rule_block P N A D
       block_added =
-          test_left (P ++ M ++ A) D (512 + n) (omega (arith, sizes)) ∙ test_right (P ++ M) A 512 n (omega (arith, sizes))
+          test_left (P ++ N ++ A) D (512 + n) (omega (arith, sizes)) ∙ test_right (P ++ N) A 512 n (omega (arith, sizes))
           ∙ test_mask_of set_size (R.added a) n h
 
       block_removed : test_bit (rule_block R a) (256 * removed_set + n) ≡ R.removed a n
-      unfolding rule_block P M A D
-      block_removed = test_right (P ++ M ++ A) D 768 n (omega (arith, sizes)) ∙ test_mask_of set_size (R.removed a) n h
+      unfolding rule_block P N A D
+      block_removed = test_right (P ++ N ++ A) D 768 n (omega (arith, sizes)) ∙ test_mask_of set_size (R.removed a) n h
 
     -- their bytes in a sheet, by what stands before and after them in the block
     module _ (moves : ℕ) (low : 1 ≤ a) (high : a ≤ moves) where
@@ -132,20 +132,20 @@ module _ (R : Rules) where
 
       -- The four sets of a move on the sheet are those of the rules.
       pub needed_set_lem : sheet_set (rule_blocks R moves 1) needed_set a ≡ mask_of set_size (R.needed a)
-      unfolding rule_block P M A D
-      needed_set_lem = set_part needed_set [] P (M ++ (A ++ D)) (simp (append_assoc)) refl (length_mask_of set_size _)
+      unfolding rule_block P N A D
+      needed_set_lem = set_part needed_set [] P (N ++ (A ++ D)) (simp (append_assoc)) refl (length_mask_of set_size _)
 
-      pub may_remove_set_lem : sheet_set (rule_blocks R moves 1) may_remove_set a ≡ mask_of set_size (R.may_remove a)
-      unfolding rule_block P M A D
-      may_remove_set_lem = set_part may_remove_set P M (A ++ D) (simp (append_assoc)) sizes.0 (length_mask_of set_size _)
+      pub needed_not_set_lem : sheet_set (rule_blocks R moves 1) needed_not_set a ≡ mask_of set_size (R.needed_not a)
+      unfolding rule_block P N A D
+      needed_not_set_lem = set_part needed_not_set P N (A ++ D) (simp (append_assoc)) sizes.0 (length_mask_of set_size _)
 
       pub added_set_lem : sheet_set (rule_blocks R moves 1) added_set a ≡ mask_of set_size (R.added a)
-      unfolding rule_block P M A D
-      added_set_lem = set_part added_set (P ++ M) A D (append_assoc (P ++ M) A D) sizes.1 (length_mask_of set_size _)
+      unfolding rule_block P N A D
+      added_set_lem = set_part added_set (P ++ N) A D (append_assoc (P ++ N) A D) sizes.1 (length_mask_of set_size _)
 
       pub removed_set_lem : sheet_set (rule_blocks R moves 1) removed_set a ≡ mask_of set_size (R.removed a)
-      unfolding rule_block P M A D
-      removed_set_lem = set_part removed_set (P ++ M ++ A) D [] (ap (λ (r : List ℕ). P ++ M ++ A ++ r) (sym (append-nil D))) sizes.2 (length_mask_of set_size _)
+      unfolding rule_block P N A D
+      removed_set_lem = set_part removed_set (P ++ N ++ A) D [] (ap (λ (r : List ℕ). P ++ N ++ A ++ r) (sym (append-nil D))) sizes.2 (length_mask_of set_size _)
 
   module _ (moves a n : ℕ) (low : 1 ≤ a) (high : a ≤ moves) (small : n < 256) where
     set_bit_lem : (set : ℕ) → set < 4 → sheet_bit (rule_blocks R moves 1) set a n ≡ test_bit (rule_block R a) (256 * set + n)
@@ -163,7 +163,7 @@ module _ (R : Rules) where
     bits =
         record {
           needed = set_bit_lem needed_set (omega arith) ∙ block_needed a n small;
-          may_remove = set_bit_lem may_remove_set (omega arith) ∙ block_may_remove a n small;
+          needed_not = set_bit_lem needed_not_set (omega arith) ∙ block_needed_not a n small;
           added = set_bit_lem added_set (omega arith) ∙ block_added a n small;
           removed = set_bit_lem removed_set (omega arith) ∙ block_removed a n small;
         }
@@ -179,7 +179,7 @@ unfolding rule_block
 block_same R S a same =
     rw (
       mask_of_same set_size (R.needed a) (S.needed a) (λ n h. (same n).needed),
-      mask_of_same set_size (R.may_remove a) (S.may_remove a) (λ n h. (same n).may_remove),
+      mask_of_same set_size (R.needed_not a) (S.needed_not a) (λ n h. (same n).needed_not),
       mask_of_same set_size (R.added a) (S.added a) (λ n h. (same n).added),
       mask_of_same set_size (R.removed a) (S.removed a) (λ n h. (same n).removed),
     )

@@ -1,5 +1,5 @@
 -- Checking a plan: rows 13 to 20, and what the lent end sheet holds afterwards.
-use Rattle.std.specs.Prelude.{ℕ, zero, suc, true, false, not, List, [], ◌∷◌, ◌++◌, length, eqb}
+use Rattle.std.specs.Prelude.{ℕ, zero, suc, true, false, not, List, [], ◌∷◌, length, eqb}
 use Rattle.answer.specs.declared.Answer.{Answer}
 use Rattle.answer.specs.declared.Answer.TheVariants.{Good, Refused}
 use Rattle.answer.specs.declared.Positioned.{Positioned}
@@ -10,18 +10,17 @@ use Rattle.format.specs.Form.{Form}
 use Rattle.format.specs.Order.{step_count, order_form}
 use Rattle.quantify.specs.Quantify.{first}
 use Rattle.model.specs.Domain.{State, GroundAction, GoalLiteral}
-use Rattle.model.specs.Model.{Run, stopped, ended}
-use Rattle.model.specs.Span.{Span, unknown}
-use Rattle.model.specs.Check.{run_rules, missed}
+use Rattle.model.specs.Model.{Run, stopped, ended, run}
+use Rattle.model.specs.Judge.{wrong}
 use Rattle.jobs.specs.Planning.{domain, schema_of, start_states, plan_of, goal_of}
-use Rattle.jobs.specs.Learn.{learnable, rules_from}
+use Rattle.jobs.specs.Learn.{learnable, learned_from}
 
--- a plan from a start on, by the rules learned from the book: where it stops, or what is known at its end
-unfoldable pub plan_run : Form → List ℕ → State → List GroundAction → Run Span
-plan_run form s start plan = run_rules (domain (schema_of s)) (rules_from form s) plan start
+-- a plan from a start on, under the model learned from the book
+unfoldable pub plan_run : Form → List ℕ → State → List GroundAction → Run
+plan_run form s start plan = run (domain (schema_of s)) (learned_from form s) plan start 1
 
 -- the order's plan from one start
-unfoldable pub order_run : Form → List ℕ → List ℕ → State → Run Span
+unfoldable pub order_run : Form → List ℕ → List ℕ → State → Run
 order_run form s o start = plan_run form s start (plan_of (schema_of s) o)
 
 -- rows 19 and 20; success is the plan's step count
@@ -29,9 +28,9 @@ unfoldable pub goal_answer : ℕ → ℕ → Answer
 goal_answer steps zero = Good steps
 goal_answer steps (suc i) = Refused 20 (suc i)
 
-unfoldable pub run_answer : ℕ → List GoalLiteral → Run Span → Answer
+unfoldable pub run_answer : ℕ → List GoalLiteral → Run → Answer
 run_answer steps goal (stopped k) = Refused 19 k
-run_answer steps goal (ended sp) = goal_answer steps (first (missed sp) goal)
+run_answer steps goal (ended end) = goal_answer steps (first (wrong end) goal)
 
 -- rows 19 and 20 from one start alone
 unfoldable pub start_answer : Form → List ℕ → List ℕ → State → Answer
@@ -60,10 +59,10 @@ before_plan form s o size = do
 unfoldable pub check : Form → List ℕ → List ℕ → ℕ → Positioned
 check form s o size = then_at (before_plan form s o size) (starts_answer form s o)
 
--- the end sheet of a run that ends: the mask of the facts that are known to hold, then that of the unknown (open) ones
-unfoldable pub end_sheet : Run Span → List ℕ
+-- the end sheet of a run that ends: the state's mask
+unfoldable pub end_sheet : Run → List ℕ
 end_sheet (stopped k) = []
-end_sheet (ended sp) = mask_of state_size sp.low ++ mask_of state_size (unknown sp)
+end_sheet (ended end) = mask_of state_size end
 
 -- what a check that passes leaves of a lent end sheet: the sheet of the only start; with more starts nothing is written
 unfoldable pub end_after : {A : Type 0} → (A → List ℕ) → List A → List ℕ → List ℕ

@@ -7,8 +7,8 @@ use Rattle.model.specs.Model.{Model, Fitting}
 use Rattle.model.specs.Judge.{Verdict, Judged}
 use Rattle.jobs.specs.Planning.{domain, schema_of, transitions_of, failed_of, plan_of, goal_of}
 
--- the models (rule lists) that fit each record of the book: they need nothing not to hold, are consistent with its transitions, and have some precondition
--- unmet wherever a step did not go
+-- the models (rule lists) that fit each record of the book: they are consistent with its transitions, and have some precondition unmet wherever a step did
+-- not go
 abbrev pub FitsBook : Form → List ℕ → Model → Type 0
 FitsBook form s M = Fitting (domain (schema_of s)) (transitions_of form s) (failed_of form s) M
 

@@ -11,7 +11,8 @@ use Rattle.format.specs.Decode.{RecordedStep}
 use Rattle.format.specs.LookOver.{look_over}
 use Rattle.quantify.specs.Quantify.{least}
 use Rattle.model.specs.Domain.{Transition}
-use Rattle.model.specs.Learned.{Rules, learned_rules, unbound_effect, conflicting}
+use Rattle.model.specs.Model.{Model}
+use Rattle.model.specs.Learned.{Rules, learned_rules, learned, unbound_effect, conflicting}
 use Rattle.model.specs.Check.{refuted}
 use Rattle.jobs.specs.Planning.{domain, transition, failed, went_steps, failed_steps, schema_of, steps_of_book, transitions_of}
 
@@ -35,24 +36,27 @@ inconsistency form s = do
 
 -- the four sets of one move, its block of 128 bytes on the sheet
 unfoldable pub rule_block : Rules → ℕ → List ℕ
-rule_block R a = mask_of set_size (R.needed a) ++ mask_of set_size (R.may_remove a) ++ mask_of set_size (R.added a) ++ mask_of set_size (R.removed a)
+rule_block R a = mask_of set_size (R.needed a) ++ mask_of set_size (R.needed_not a) ++ mask_of set_size (R.added a) ++ mask_of set_size (R.removed a)
 
 -- the blocks of a number of moves, from move a on
 unfoldable pub rule_blocks : Rules → ℕ → ℕ → List ℕ
 rule_blocks R zero a = []
 rule_blocks R (suc n) a = rule_block R a ++ rule_blocks R n (suc a)
 
--- the rules that are learned from a book
+-- the rules that are learned from a book, and the model that they are
 unfoldable pub rules_from : Form → List ℕ → Rules
 rules_from form s = learned_rules (domain (schema_of s)) (transitions_of form s)
 
--- row 28: the first step that did not go though all that the rules need holds
-unfoldable pub refuted_steps : Schema → Rules → List RecordedStep → Answer
-refuted_steps sch R xs = first_refused (λ x. refuted (domain sch) R (failed sch x)) 28 (λ x. x.place) (failed_steps xs)
+unfoldable pub learned_from : Form → List ℕ → Model
+learned_from form s = learned (domain (schema_of s)) (transitions_of form s)
 
--- of the book, by the rules that are learned from all of it
+-- row 28: the first step that did not go though all preconditions of a model are met
+unfoldable pub refuted_steps : Schema → Model → List RecordedStep → Answer
+refuted_steps sch M xs = first_refused (λ x. refuted (domain sch) M (failed sch x)) 28 (λ x. x.place) (failed_steps xs)
+
+-- of the book, by the model that is learned from all of it
 unfoldable pub refutation : Form → List ℕ → Answer
-refutation form s = refuted_steps (schema_of s) (rules_from form s) (steps_of_book form s)
+refutation form s = refuted_steps (schema_of s) (learned_from form s) (steps_of_book form s)
 
 -- rows 1 to 12 and 28; success is the count of all steps
 unfoldable pub learnable : Form → List ℕ → Answer

@@ -46,17 +46,18 @@ refused_word = 114 ∷ 101 ∷ 102 ∷ 117 ∷ 115 ∷ 101 ∷ 100 ∷ 32 ∷ []
 unfoldable pub refused_line : ℕ → ℕ → List ℕ
 refused_line num at = refused_word ++ decimal num ++ space ++ decimal at ++ newline
 
--- H needed to hold, F not needed
-unfoldable pub need_letter : Bool → ℕ
-need_letter true = 72
-need_letter false = 70
+-- H hold, N not hold, B both, F neither
+unfoldable pub need_letter : Bool → Bool → ℕ
+need_letter true true = 66
+need_letter true false = 72
+need_letter false true = 78
+need_letter false false = 70
 
--- A added, R removed, M may be removed, K none of these
-unfoldable pub effect_letter : Bool → Bool → Bool → ℕ
-effect_letter true removed may_remove = 65
-effect_letter false true may_remove = 82
-effect_letter false false true = 77
-effect_letter false false false = 75
+-- A added, R removed, K none
+unfoldable pub effect_letter : Bool → Bool → ℕ
+effect_letter true removed = 65
+effect_letter false true = 82
+effect_letter false false = 75
 
 -- a parameter's number, 0 in an unused place
 unfoldable pub param_shown : Schema → Relation → ℕ → ℕ → ℕ
@@ -77,9 +78,9 @@ atom_front sch a n =
 unfoldable pub atom_line : Schema → Rules → ℕ → ℕ → List ℕ
 atom_line sch R a n =
     atom_front sch a n
-    ++ (need_letter (R.needed a n) ∷ [])
+    ++ (need_letter (R.needed a n) (R.needed_not a n) ∷ [])
     ++ space
-    ++ (effect_letter (R.added a n) (R.removed a n) (R.may_remove a n) ∷ [])
+    ++ (effect_letter (R.added a n) (R.removed a n) ∷ [])
     ++ newline
 
 -- the line of a number, none where it is no bound fact of the move

@@ -4,12 +4,12 @@ use Rattle.limits.specs.Limits.{set_size, rule_size, max_atoms, rule_bits}
 use Rattle.mask.specs.Bits.{test_bit}
 use Rattle.model.specs.Learned.{Rules}
 
--- what is needed to hold, and what may be removed; src/lib.rt has the four numbers for code
+-- what is needed to hold, and needed not to hold; src/lib.rt has the four numbers for code
 abbrev pub needed_set : ℕ
 needed_set = 0
 
-abbrev pub may_remove_set : ℕ
-may_remove_set = 1
+abbrev pub needed_not_set : ℕ
+needed_not_set = 1
 
 -- what is added, and removed
 abbrev pub added_set : ℕ
@@ -31,7 +31,7 @@ unfoldable pub rules_on : List ℕ → Rules
 rules_on sheet =
     record {
       needed = sheet_bit sheet needed_set;
-      may_remove = sheet_bit sheet may_remove_set;
+      needed_not = sheet_bit sheet needed_not_set;
       added = sheet_bit sheet added_set;
       removed = sheet_bit sheet removed_set;
     }

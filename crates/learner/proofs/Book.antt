@@ -21,8 +21,9 @@ use Rattle.jobs.specs.Planning.{schema_of, steps_of_book, transitions_of}
 use Rattle.jobs.specs.Learn.{unbound_effects, conflicting_move, inconsistency, refutation, learnable, learn, learn_bytes, rule_sheet, rules_from}
 use Rattle.observed.specs.Observed.{nothing_seen, held_after, observed_of}
 use Rattle.observed.specs.Rules.{unbound_answer, conflict_among, sheet_observed, refuted_observed}
+use Rattle.observed.specs.Begun.{Begun}
 use Rattle.onewalk.proofs.Sections.{nothing_alone}
-use Rattle.onewalk.proofs.OneWalk.{observed_taught, refuted_held, unrefuted_held}
+use Rattle.onewalk.proofs.OneWalk.{observed_taught, observed_seen, refuted_held, unrefuted_held}
 use Rattle.observerecords.specs.declared.noticed.Walked.{Walked}
 use Rattle.observerecords.specs.Observing.{held_with, IsHeld, RecordsObserved}
 use Rattle.learner.specs.Learner.{FormObserved, BookObserved, LearnOutcome}
@@ -89,6 +90,9 @@ module _ (form : Form) (s : List ℕ) (h : Sections) (own : h ≡ sections_of s)
 
 -- row 28 of a book of good form, by what is held
 module _ (form : Form) (s : List ℕ) (n : ℕ) (good : look_over form s ≡ Good n) where
+  pub begun_held : (bytes : List ℕ) → bytes ≡ (observed_of form s).masks → Begun (schema_of s) bytes
+  begun_held bytes e = let seen = observed_seen form s n good in rw e (record { sized = seen.sized; atoms = seen.atoms })
+
   pub refuted_by : (bytes : List ℕ) → bytes ≡ (observed_of form s).masks → (r : Answer) → r ≡ refuted_observed bytes (steps_of_book form s) → r ≡ refutation form s
   refuted_by bytes e r told = told ∙ rw e (sym (refuted_held form s n good))
 

@@ -78,7 +78,7 @@ entry_size = 4
 
 -- ---- the sheets
 
--- a set of bound facts, a move's four sets, a state's set of facts, and the end sheet, which has two of these, in bytes
+-- a set of bound facts, a move's four sets, a state's set of facts, and the end sheet, in bytes
 abbrev pub set_size : ℕ
 set_size = 32
 
@@ -89,7 +89,7 @@ abbrev pub state_size : ℕ
 state_size = 512
 
 abbrev pub end_sheet_size : ℕ
-end_sheet_size = 1024
+end_sheet_size = 512
 
 -- the most that a rule sheet comes to: the four sets of each move
 abbrev pub sheet_max : ℕ

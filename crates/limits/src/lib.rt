@@ -56,14 +56,14 @@ pub const ENTRY_SIZE: usize = 4;
 
 // ---- the sheets
 
-// A set of bound facts, a move's four sets, a state's set of facts, and the end sheet, which has two of these, in bytes.
+// A set of bound facts, a move's four sets, a state's set of facts, and the end sheet, in bytes.
 pub const SET_SIZE: usize = 32;
 
 pub const RULE_SIZE: usize = 128;
 
 pub const STATE_SIZE: usize = 512;
 
-pub const END_SHEET_SIZE: usize = 2 * STATE_SIZE;
+pub const END_SHEET_SIZE: usize = 512;
 
 // The most that a rule sheet comes to: the four sets of each move.
 pub const SHEET_MAX: usize = 32 * RULE_SIZE;

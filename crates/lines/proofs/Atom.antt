@@ -29,8 +29,8 @@ letters text front need effect = simp (append_assoc)
 
 -- a line's front and its letters, put at once
 pub line_whole : (sch : Schema) (R : Rules) (text : List ℕ) (a n need effect : ℕ)
-    → need ≡ need_letter (R.needed a n)
-    → effect ≡ effect_letter (R.added a n) (R.removed a n) (R.may_remove a n)
+    → need ≡ need_letter (R.needed a n) (R.needed_not a n)
+    → effect ≡ effect_letter (R.added a n) (R.removed a n)
     → text ++ atom_front sch a n ++ (need ∷ 32 ∷ effect ∷ 10 ∷ []) ≡ text ++ atom_line sch R a n
 unfolding atom_line
 line_whole sch R text a n need effect p q = rw (p, q) (letters text (atom_front sch a n) _ _)

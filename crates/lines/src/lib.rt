@@ -81,28 +81,34 @@ fn sheet_bit(sheet: &[u8], set: usize, m: Move, n: usize) -> bool
     )
 }
 
-// H needed to hold, F not needed.
-fn need_letter(needed: bool) -> u8
-    ensures { result ≡ need_letter needed }
+// H needed to hold, N not to hold, B both, F neither.
+fn need_letter(sheet: &[u8], m: Move, n: usize) -> u8
+    requires { (1 ≤ m.0) × (n < max_atoms) }
+    ensures { result ≡ need_letter ((rules_on sheet.now).needed m.0 n) ((rules_on sheet.now).needed_not m.0 n) }
 {
-    if needed {
+    let unwanted = sheet_bit(sheet, jobs::PRE_NEG, m, n);
+    if sheet_bit(sheet, jobs::PRE_POS, m, n) {
+        if unwanted {
+            return b'B';
+        }
         return b'H';
+    }
+    if unwanted {
+        return b'N';
     }
     b'F'
 }
 
-// A added, R removed, M may be removed, K none of these.
-fn effect_letter(added: bool, removed: bool, may_remove: bool) -> u8
-    ensures { result ≡ effect_letter added removed may_remove }
+// A added, R removed, K none.
+fn effect_letter(sheet: &[u8], m: Move, n: usize) -> u8
+    requires { (1 ≤ m.0) × (n < max_atoms) }
+    ensures { result ≡ effect_letter ((rules_on sheet.now).added m.0 n) ((rules_on sheet.now).removed m.0 n) }
 {
-    if added {
+    if sheet_bit(sheet, jobs::ADD, m, n) {
         return b'A';
     }
-    if removed {
+    if sheet_bit(sheet, jobs::DELETE, m, n) {
         return b'R';
-    }
-    if may_remove {
-        return b'M';
     }
     b'K'
 }
@@ -145,12 +151,8 @@ pub fn atom_line(
     ensures upper_bound { (result ≤ at + 20) × IsPrefixLen result out.new }
     ensures out_after { take result out.new ≡ take at out.old ++ atom_line (schema h book.now) (rules_on sheet.now) m.0 n }
 {
-    let needed = sheet_bit(sheet, jobs::PRE_POS, m, n);
-    let may_remove = sheet_bit(sheet, jobs::POSSIBLE_DELETE, m, n);
-    let added = sheet_bit(sheet, jobs::ADD, m, n);
-    let removed = sheet_bit(sheet, jobs::DELETE, m, n);
-    let need = need_letter(needed);
-    let effect = effect_letter(added, removed, may_remove);
+    let need = need_letter(sheet, m, n);
+    let effect = effect_letter(sheet, m, n);
     let end = atom_front(book, h, m, n, out, at);
     put(out, end, &[need, b' ', effect, b'\n'])
 }

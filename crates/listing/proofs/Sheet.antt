@@ -22,7 +22,7 @@ line_learned : (s : List ℕ) (sch : Schema) (a n : ℕ) → 1 ≤ a → a ≤ (
 unfolding atom_line rules_on
 line_learned s sch a n h l k =
     let same = learned_bits full s a n h l k in
-    rw (same.needed, same.may_remove, same.added, same.removed)
+    rw (same.needed, same.needed_not, same.added, same.removed)
 
 module _ (s : List ℕ) (h : Sections) (sheet : List ℕ) (l : SheetOf s h sheet) where
   -- the line from the sheet is that of the learned rules

@@ -1,24 +1,24 @@
 -- Where row 11 or 12 is met no model is consistent. Elsewhere a model is consistent exactly if it is valid and explains what was seen at each
--- atom; both ends of the learned rules do.
+-- atom; the learned model does.
 use Prim.Native.Nat.{ℕ}
-use mathlib.Core.Path.{◌≡◌, refl, sym, ◌∙◌}
+use mathlib.Core.Path.{◌≡◌, sym, ◌∙◌}
 use mathlib.Core.Logic.{◌⊎◌, inl, inr, ◌↔◌}
-use mathlib.Core.Bool.{Bool, true, false, not}
+use mathlib.Core.Bool.{true, false, not, not-not}
 use mathlib.Core.List.{List}
 use lib.Dec.{leb}
 use borrow.Author.Tests.{leb-true, leb-false}
-use Rattle.truth.specs.Bools.{clash, decide, is_false, is_true, and_out}
+use Rattle.truth.specs.Bools.{clash, decide, is_false, is_true}
 use Rattle.quantify.specs.Quantify.{Mem}
 use Rattle.model.specs.Domain.{Domain, Transition}
 use Rattle.model.specs.Model.{Model, Valid, Fits, Consistent, image, inapplicable, next}
-use Rattle.model.specs.Learned.{turned, learned_rules, model_of, unbound_effect, conflicting}
+use Rattle.model.specs.Learned.{learned, unbound_effect, conflicting}
 use Rattle.model.specs.Check.{inconsistent}
 use Rattle.model.specs.Formed.{Formed}
-use Rattle.model.specs.Between.{value}
+use Rattle.model.specs.Stricter.{value}
 use Rattle.quantify.proofs.Truth.{same_in, same_out}
 use Rattle.model.proofs.Next.{each_fact, next_at, next_off, inapplicable_out}
-use Rattle.model.proofs.Seen.{Sight, sight, before_in, after_in, turned_out, needed_out, may_out, added_out, removed_out}
-use Rattle.model.proofs.Between.{Unconflicted, Explains, explains, ends_make, removes_out, model_unconflicted}
+use Rattle.model.proofs.Seen.{sight, before_in, after_in, turned_out, need_out, effect_out}
+use Rattle.model.proofs.Stricter.{Unconflicted, Explains, explains, learned_makes, model_unconflicted}
 use Rattle.model.proofs.Rows.{unbound_in, unbound_out, conflicting_in, conflicting_out, inconsistent_out, no_unbound, no_conflicting}
 
 module _ (D : Domain) (ts : List Transition) (formed : Formed D ts) where
@@ -65,28 +65,15 @@ module _ (D : Domain) (ts : List Transition) (formed : Formed D ts) where
         let ranged = (formed.proper t s.member).ranged n (rw s.action atom) in
         clash _ (conflicting_in D ts a n ranged atom y e h) (no_conflicting D ts clean a low high)
 
-    pub ends_valid : (all : Bool) → Valid D (model_of all (learned_rules D ts))
-    unfolding model_of
-    ends_valid all =
+    pub learned_valid : Valid D (learned D ts)
+    learned_valid =
         record {
-          needed_atom = λ b a n e. (needed_out D ts a n (and_out b ((learned_rules D ts).needed a n) e).1).0;
-          effect_atom = effect_atom;
-          exclusive = λ a n e h. exclusive a n (added_out D ts a n e) (removes_out all (learned_rules D ts) a n h);
+          needed_atom = λ b a n e. (need_out D ts b a n e).0;
+          effect_atom = λ b a n e. (effect_out D ts b a n e).0;
+          exclusive = λ a n e h.
+              let (atom, up) = effect_out D ts true a n e in
+              clean_unconflicted a n atom true up (after_in ts a n true false (turned_out ts a n false (effect_out D ts false a n h).1));
         }
-      where
-        removed_atom : (a n : ℕ) → ((all ≡ true) × ((learned_rules D ts).may_remove a n ≡ true)) ⊎ ((learned_rules D ts).removed a n ≡ true) → D.atom a n ≡ true
-        removed_atom a n (inl h) = (may_out D ts a n h.1).0
-        removed_atom a n (inr h) = (removed_out D ts a n h).0
-
-        effect_atom : (b : Bool) (a n : ℕ) → (model_of all (learned_rules D ts)).effect b a n ≡ true → D.atom a n ≡ true
-        effect_atom true a n e = (added_out D ts a n e).0
-        effect_atom false a n e = removed_atom a n (removes_out all (learned_rules D ts) a n e)
-
-        exclusive : (a n : ℕ) → (D.atom a n ≡ true) × (turned ts true a n ≡ true)
-            → ((all ≡ true) × ((learned_rules D ts).may_remove a n ≡ true)) ⊎ ((learned_rules D ts).removed a n ≡ true) → ⊥
-        exclusive a n (atom, up) (inl h) = clash _ up (may_out D ts a n h.1).1
-        exclusive a n (atom, up) (inr h) =
-            clean_unconflicted a n atom true up (after_in ts a n true false (turned_out ts a n false (removed_out D ts a n h).1))
 
     -- Where neither row is met, a model is consistent exactly if it is valid and explains what was seen at each atom alone;
     pub local_iff : (M : Model) → Consistent D ts M ↔ (Valid D M × Explains D ts M)
@@ -106,14 +93,13 @@ module _ (D : Domain) (ts : List Transition) (formed : Formed D ts) where
           },
     )
 
-    -- so both ends of the rules are.
-    pub ends_consistent : (all : Bool) → Consistent D ts (model_of all (learned_rules D ts))
-    unfolding model_of
-    ends_consistent all = (local_iff (model_of all (learned_rules D ts))).1 (ends_valid all, explained)
+    -- so the learned model is.
+    pub learned_consistent : Consistent D ts (learned D ts)
+    learned_consistent = (local_iff (learned D ts)).1 (learned_valid, explained)
       where
-        met : (a n : ℕ) → D.atom a n ≡ true → (x y : Bool) → Sight ts a n x y → (model_of all (learned_rules D ts)).precondition (not x) a n ≡ false
-        met a n atom true y s = refl
-        met a n atom false y s = is_false _ (λ e. clash _ (before_in ts a n false y s) (needed_out D ts a n e).1)
-
-        explained : Explains D ts (model_of all (learned_rules D ts))
-        explained = record { made = λ a n atom x y s. ends_make D ts all a n atom (clean_unconflicted a n atom) x y s; met = met }
+        explained : Explains D ts (learned D ts)
+        explained =
+            record {
+              made = λ a n atom x y s. learned_makes D ts a n atom (clean_unconflicted a n atom) x y s;
+              met = λ a n atom x y s. is_false _ (λ e. clash _ (before_in ts a n x y s) (rw not-not at (need_out D ts (not x) a n e).1));
+            }

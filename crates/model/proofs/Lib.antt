@@ -1,7 +1,7 @@
 -- Theorems about the definitions of specs/.
 pub mod Next
 pub mod Seen
-pub mod Between
+pub mod Stricter
 pub mod Lockstep
 pub mod Rows
 pub mod Impossible

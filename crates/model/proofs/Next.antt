@@ -9,7 +9,7 @@ use Rattle.truth.specs.Bools.{clash, decide, is_false, bool_eq, and_in, and_out}
 use Rattle.model.specs.Domain.{Domain, State, GroundAction}
 use Rattle.model.specs.Model.{Model, Valid, image, inapplicable, next}
 use Rattle.model.specs.Formed.{Proper}
-use Rattle.model.specs.Between.{value}
+use Rattle.model.specs.Stricter.{value}
 use Rattle.quantify.proofs.Quantify.{below_in, below_out}
 
 module _ (D : Domain) (s : GroundAction) where

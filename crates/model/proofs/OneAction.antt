@@ -23,7 +23,7 @@ rules_equal R S same =
     λ i.
     record {
       needed = λ a n. (same a n).needed i;
-      may_remove = λ a n. (same a n).may_remove i;
+      needed_not = λ a n. (same a n).needed_not i;
       added = λ a n. (same a n).added i;
       removed = λ a n. (same a n).removed i;
     }
@@ -94,7 +94,7 @@ module _ (D : Domain) where
       rules_same n =
           record {
             needed = guarded (D.atom a n) _ _ (λ atom. ap not (before_same false n atom));
-            may_remove = guarded (D.atom a n) _ _ (λ atom. rw (turned_same true n atom, before_same true n atom));
+            needed_not = guarded (D.atom a n) _ _ (λ atom. ap not (before_same true n atom));
             added = guarded (D.atom a n) _ _ (turned_same true n);
             removed = guarded (D.atom a n) _ _ (turned_same false n);
           }

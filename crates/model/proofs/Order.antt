@@ -1,12 +1,12 @@
 -- The sequence of the transitions does not matter, nor how often one is there; and so of the steps that did not go.
 use Prim.Native.Nat.{ℕ, suc}
-use mathlib.Core.Path.{◌≡◌}
+use mathlib.Core.Path.{◌≡◌, ap}
 use mathlib.Core.Logic.{◌↔◌}
 use mathlib.Core.List.{List}
 use Rattle.quantify.specs.Quantify.{any}
 use Rattle.model.specs.Domain.{Domain, Transition, Failed}
 use Rattle.model.specs.Model.{Model, Consistent, Fitting}
-use Rattle.model.specs.Learned.{learned_rules, unbound_effect, conflicting}
+use Rattle.model.specs.Learned.{learned_rules, model_of, learned, unbound_effect, conflicting}
 use Rattle.model.specs.Check.{inconsistent, refuted, unfit, checked}
 use Rattle.model.specs.Alike.{SameOfAction, SameMembers, SameFailed}
 use Rattle.quantify.proofs.Quantify.{any_alike, below_same}
@@ -21,9 +21,13 @@ module _ (D : Domain) (ts ts' : List Transition) (same : SameMembers ts ts') whe
   consistent_alike M =
       (λ c. record { valid = c.valid; fits = λ t m. c.fits t ((same t).1 m) }, λ c. record { valid = c.valid; fits = λ t m. c.fits t ((same t).0 m) })
 
-  -- teach the same rules,
+  -- teach the same rules, so the same model,
   pub rules_alike : learned_rules D ts ≡ learned_rules D ts'
   rules_alike = rules_equal _ _ (λ a n. rules_same D a ts ts' (shown a) n)
+
+  pub learned_alike : learned D ts ≡ learned D ts'
+  unfolding learned
+  learned_alike = ap model_of rules_alike
 
   -- meet row 12 for the same actions,
   pub conflicting_alike : (a : ℕ) → conflicting D ts a ≡ conflicting D ts' a
@@ -41,13 +45,13 @@ module _ (D : Domain) (ts ts' : List Transition) (same : SameMembers ts ts') whe
     -- have the same models that fit, the steps that did not go being the same too,
     pub fitting_alike : (M : Model) → Fitting D ts us M ↔ Fitting D ts' us' M
     fitting_alike M = (
-      λ h. record { positive = h.positive; consistent = (consistent_alike M).0 h.consistent; bars = λ u m. h.bars u ((same' u).1 m) },
-      λ h. record { positive = h.positive; consistent = (consistent_alike M).1 h.consistent; bars = λ u m. h.bars u ((same' u).0 m) },
+      λ h. record { consistent = (consistent_alike M).0 h.consistent; bars = λ u m. h.bars u ((same' u).1 m) },
+      λ h. record { consistent = (consistent_alike M).1 h.consistent; bars = λ u m. h.bars u ((same' u).0 m) },
     )
 
     -- meet row 28 together,
-    pub refuted_alike : any (refuted D (learned_rules D ts)) us ≡ any (refuted D (learned_rules D ts')) us'
-    refuted_alike = rw rules_alike (any_alike (refuted D (learned_rules D ts')) us us' same')
+    pub refuted_alike : any (refuted D (learned D ts)) us ≡ any (refuted D (learned D ts')) us'
+    refuted_alike = rw learned_alike (any_alike (refuted D (learned D ts')) us us' same')
 
     pub unfit_alike : unfit D ts us ≡ unfit D ts' us'
     unfolding unfit
@@ -56,4 +60,4 @@ module _ (D : Domain) (ts ts' : List Transition) (same : SameMembers ts ts') whe
     -- and check every plan alike.
     pub checked_alike : checked D ts us ≡ checked D ts' us'
     unfolding checked
-    checked_alike = rw (unfit_alike, rules_alike)
+    checked_alike = rw (unfit_alike, learned_alike)

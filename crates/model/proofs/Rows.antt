@@ -10,12 +10,12 @@ use borrow.Author.Tests.{not-true, not-false}
 use Rattle.truth.specs.Bools.{clash, is_false, and_in, and_out, or_left, or_right, or_out, neither, not_in}
 use Rattle.quantify.specs.Quantify.{same, below, any, Mem, first, least}
 use Rattle.model.specs.Domain.{Domain, Transition, Failed}
-use Rattle.model.specs.Model.{image, inapplicable}
-use Rattle.model.specs.Learned.{Rules, after, turned, learned_rules, lowest, unbound_effect, conflicting}
+use Rattle.model.specs.Model.{Model, image, inapplicable}
+use Rattle.model.specs.Learned.{after, turned, learned, unbound_effect, conflicting}
 use Rattle.model.specs.Check.{inconsistent, refuted, unfit}
 use Rattle.quantify.proofs.Truth.{same_in, same_out}
 use Rattle.quantify.proofs.Quantify.{any_in, any_out, below_in, below_out, first_none, least_none, below_least}
-use Rattle.model.proofs.Between.{Unconflicted}
+use Rattle.model.proofs.Stricter.{Unconflicted}
 
 module _ (D : Domain) where
   pub unbound_in : (t : Transition) (f : ℕ) → f < D.facts → (t.pre f ≡ t.post f → ⊥) → image D (D.atom t.step.action) t.step f ≡ false → unbound_effect D t ≡ true
@@ -29,18 +29,18 @@ module _ (D : Domain) where
       let (l, r) = and_out (not (same (t.pre f) (t.post f))) (not (image D (D.atom t.step.action) t.step f)) p in
       (f, λ q. clash _ (same_in _ _ q) (not-true _ l), not-true _ r)
 
-  -- Row 28 at a step that did not go, by any rules: met exactly if the step is applicable.
-  pub refuted_in : (R : Rules) (u : Failed) → inapplicable D (lowest R) u.step u.state ≡ false → refuted D R u ≡ true
+  -- Row 28 at a step that did not go, under any model: met exactly if the step is applicable.
+  pub refuted_in : (M : Model) (u : Failed) → inapplicable D M u.step u.state ≡ false → refuted D M u ≡ true
   unfolding refuted
-  refuted_in R u e = not_in _ e
+  refuted_in M u e = not_in _ e
 
-  pub refuted_out : (R : Rules) (u : Failed) → refuted D R u ≡ true → inapplicable D (lowest R) u.step u.state ≡ false
+  pub refuted_out : (M : Model) (u : Failed) → refuted D M u ≡ true → inapplicable D M u.step u.state ≡ false
   unfolding refuted
-  refuted_out R u e = not-true _ e
+  refuted_out M u e = not-true _ e
 
-  pub unrefuted : (R : Rules) (u : Failed) → refuted D R u ≡ false → inapplicable D (lowest R) u.step u.state ≡ true
+  pub unrefuted : (M : Model) (u : Failed) → refuted D M u ≡ false → inapplicable D M u.step u.state ≡ true
   unfolding refuted
-  unrefuted R u e = not-false _ e
+  unrefuted M u e = not-false _ e
 
   module _ (ts : List Transition) where
     pub conflicting_in : (a n : ℕ) → n < D.atoms → D.atom a n ≡ true → (y : Bool) → turned ts y a n ≡ true → after ts (not y) a n ≡ true → conflicting D ts a ≡ true
@@ -93,42 +93,42 @@ module _ (D : Domain) where
 
     module _ (us : List Failed) where
       -- One of the three rows is met: 11 or 12 by the steps that went, or 28 by one that did not.
-      pub unfit_rows : unfit D ts us ≡ (inconsistent D ts || any (refuted D (learned_rules D ts)) us)
+      pub unfit_rows : unfit D ts us ≡ (inconsistent D ts || any (refuted D (learned D ts)) us)
       unfolding unfit
       unfit_rows = refl
 
-      pub unfit_out : unfit D ts us ≡ true → (inconsistent D ts ≡ true) ⊎ ((u : Failed) × Mem u us × (refuted D (learned_rules D ts) u ≡ true))
+      pub unfit_out : unfit D ts us ≡ true → (inconsistent D ts ≡ true) ⊎ ((u : Failed) × Mem u us × (refuted D (learned D ts) u ≡ true))
       unfolding unfit
-      unfit_out e = go (or_out (inconsistent D ts) (any (refuted D (learned_rules D ts)) us) e)
+      unfit_out e = go (or_out (inconsistent D ts) (any (refuted D (learned D ts)) us) e)
         where
-          go : (inconsistent D ts ≡ true) ⊎ (any (refuted D (learned_rules D ts)) us ≡ true) → (inconsistent D ts ≡ true) ⊎ ((u : Failed) × Mem u us × (refuted D (learned_rules D ts) u ≡ true))
+          go : (inconsistent D ts ≡ true) ⊎ (any (refuted D (learned D ts)) us ≡ true) → (inconsistent D ts ≡ true) ⊎ ((u : Failed) × Mem u us × (refuted D (learned D ts) u ≡ true))
           go (inl h) = inl h
-          go (inr h) = inr (any_out (refuted D (learned_rules D ts)) us h)
+          go (inr h) = inr (any_out (refuted D (learned D ts)) us h)
 
       -- None is met: neither 11 nor 12, and 28 by no member.
-      pub fit_out : unfit D ts us ≡ false → (inconsistent D ts ≡ false) × ((u : Failed) → Mem u us → refuted D (learned_rules D ts) u ≡ false)
+      pub fit_out : unfit D ts us ≡ false → (inconsistent D ts ≡ false) × ((u : Failed) → Mem u us → refuted D (learned D ts) u ≡ false)
       unfolding unfit
       fit_out e =
-          let (l, r) = neither (inconsistent D ts) (any (refuted D (learned_rules D ts)) us) e in
-          (l, λ u m. is_false _ (λ h. clash _ (any_in (refuted D (learned_rules D ts)) us m h) r))
+          let (l, r) = neither (inconsistent D ts) (any (refuted D (learned D ts)) us) e in
+          (l, λ u m. is_false _ (λ h. clash _ (any_in (refuted D (learned D ts)) us m h) r))
 
-      pub fit_in : inconsistent D ts ≡ false → ((u : Failed) → Mem u us → refuted D (learned_rules D ts) u ≡ false) → unfit D ts us ≡ false
+      pub fit_in : inconsistent D ts ≡ false → ((u : Failed) → Mem u us → refuted D (learned D ts) u ≡ false) → unfit D ts us ≡ false
       fit_in e none = is_false _ (λ h. go (unfit_out h))
         where
-          go : (inconsistent D ts ≡ true) ⊎ ((u : Failed) × Mem u us × (refuted D (learned_rules D ts) u ≡ true)) → ⊥
+          go : (inconsistent D ts ≡ true) ⊎ ((u : Failed) × Mem u us × (refuted D (learned D ts) u ≡ true)) → ⊥
           go (inl h) = clash _ h e
           go (inr (u, m, h)) = clash _ h (none u m)
 
       -- None is met exactly if 11 has no first transition, 12 no smallest action and 28 no first step: so the three are read off in turn.
       pub fit_rows : unfit D ts us ≡ false
-          ↔ ((first (unbound_effect D) ts ≡ 0) × (least D.actions (conflicting D ts) ≡ 0) × (first (refuted D (learned_rules D ts)) us ≡ 0))
+          ↔ ((first (unbound_effect D) ts ≡ 0) × (least D.actions (conflicting D ts) ≡ 0) × (first (refuted D (learned D ts)) us ≡ 0))
       unfolding unfit
       fit_rows = (
         λ e.
-            let (l, r) = neither (inconsistent D ts) (any (refuted D (learned_rules D ts)) us) e in
+            let (l, r) = neither (inconsistent D ts) (any (refuted D (learned D ts)) us) e in
             let (unbound, conflict) = clean_iff.0 l in
-            (unbound, conflict, (first_none (refuted D (learned_rules D ts)) us).1 r),
-        λ e. rw (clean_iff.1 (e.0, e.1), (first_none (refuted D (learned_rules D ts)) us).0 e.2),
+            (unbound, conflict, (first_none (refuted D (learned D ts)) us).1 r),
+        λ e. rw (clean_iff.1 (e.0, e.1), (first_none (refuted D (learned D ts)) us).0 e.2),
       )
 
     -- Where every step went, 28 is not met.

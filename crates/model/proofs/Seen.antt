@@ -1,14 +1,14 @@
 -- What was seen and what is learned of an atom: one law into each and one out of it.
 use Prim.Native.Nat.{ℕ}
 use mathlib.Core.Path.{◌≡◌, refl}
-use mathlib.Core.Bool.{Bool, true, false, ◌||◌, not}
+use mathlib.Core.Bool.{Bool, true, false, not}
 use mathlib.Core.List.{List}
 use lib.Dec.{eqb}
 use borrow.Author.Tests.{eqb-true, eq-eqb, not-true}
-use Rattle.truth.specs.Bools.{and_in, and_out, neither, neither_in, not_in}
+use Rattle.truth.specs.Bools.{and_in, and_out, not_in}
 use Rattle.quantify.specs.Quantify.{same, Mem}
 use Rattle.model.specs.Domain.{Domain, Transition}
-use Rattle.model.specs.Learned.{saw, before, after, turned, learned_rules}
+use Rattle.model.specs.Learned.{saw, before, after, turned, learned_rules, model_of, learned}
 use Rattle.quantify.proofs.Truth.{same_in, same_out}
 use Rattle.quantify.proofs.Quantify.{any_in, any_out}
 
@@ -63,38 +63,23 @@ module _ (ts : List Transition) (a n : ℕ) where
       let (l, r) = and_out (same (not b) x) (same b y) h in
       rw (← same_out (not b) x l, ← same_out b y r) at s
 
-module _ (D : Domain) (ts : List Transition) (a n : ℕ) where
-  pub needed_in : D.atom a n ≡ true → before ts false a n ≡ false → (learned_rules D ts).needed a n ≡ true
-  unfolding learned_rules
-  needed_in atom e = and_in _ _ atom (not_in _ e)
+module _ (D : Domain) (ts : List Transition) where
+  pub need_in : (b : Bool) (a n : ℕ) → D.atom a n ≡ true → before ts (not b) a n ≡ false → (learned D ts).precondition b a n ≡ true
+  unfolding learned model_of learned_rules
+  need_in true a n atom e = and_in _ _ atom (not_in _ e)
+  need_in false a n atom e = and_in _ _ atom (not_in _ e)
 
-  pub needed_out : (learned_rules D ts).needed a n ≡ true → (D.atom a n ≡ true) × (before ts false a n ≡ false)
-  unfolding learned_rules
-  needed_out e = let (l, r) = and_out (D.atom a n) (not (before ts false a n)) e in (l, not-true _ r)
+  pub need_out : (b : Bool) (a n : ℕ) → (learned D ts).precondition b a n ≡ true → (D.atom a n ≡ true) × (before ts (not b) a n ≡ false)
+  unfolding learned model_of learned_rules
+  need_out true a n e = let (l, r) = and_out (D.atom a n) (not (before ts false a n)) e in (l, not-true _ r)
+  need_out false a n e = let (l, r) = and_out (D.atom a n) (not (before ts true a n)) e in (l, not-true _ r)
 
-  pub may_in : D.atom a n ≡ true → turned ts true a n ≡ false → before ts true a n ≡ false → (learned_rules D ts).may_remove a n ≡ true
-  unfolding learned_rules
-  may_in atom e h = and_in _ _ atom (not_in _ (neither_in _ _ e h))
+  pub effect_in : (b : Bool) (a n : ℕ) → D.atom a n ≡ true → turned ts b a n ≡ true → (learned D ts).effect b a n ≡ true
+  unfolding learned model_of learned_rules
+  effect_in true a n atom e = and_in _ _ atom e
+  effect_in false a n atom e = and_in _ _ atom e
 
-  pub may_out : (learned_rules D ts).may_remove a n ≡ true → (D.atom a n ≡ true) × (turned ts true a n ≡ false) × (before ts true a n ≡ false)
-  unfolding learned_rules
-  may_out e =
-      let (l, r) = and_out (D.atom a n) (not (turned ts true a n || before ts true a n)) e in
-      let (t, b) = neither (turned ts true a n) (before ts true a n) (not-true _ r) in
-      (l, t, b)
-
-  pub added_in : D.atom a n ≡ true → turned ts true a n ≡ true → (learned_rules D ts).added a n ≡ true
-  unfolding learned_rules
-  added_in atom e = and_in _ _ atom e
-
-  pub added_out : (learned_rules D ts).added a n ≡ true → (D.atom a n ≡ true) × (turned ts true a n ≡ true)
-  unfolding learned_rules
-  added_out e = and_out (D.atom a n) (turned ts true a n) e
-
-  pub removed_in : D.atom a n ≡ true → turned ts false a n ≡ true → (learned_rules D ts).removed a n ≡ true
-  unfolding learned_rules
-  removed_in atom e = and_in _ _ atom e
-
-  pub removed_out : (learned_rules D ts).removed a n ≡ true → (D.atom a n ≡ true) × (turned ts false a n ≡ true)
-  unfolding learned_rules
-  removed_out e = and_out (D.atom a n) (turned ts false a n) e
+  pub effect_out : (b : Bool) (a n : ℕ) → (learned D ts).effect b a n ≡ true → (D.atom a n ≡ true) × (turned ts b a n ≡ true)
+  unfolding learned model_of learned_rules
+  effect_out true a n e = and_out (D.atom a n) (turned ts true a n) e
+  effect_out false a n e = and_out (D.atom a n) (turned ts false a n) e

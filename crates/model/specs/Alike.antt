@@ -22,7 +22,7 @@ pub record SameOfAction (D : Domain) (a : ℕ) (ts us : List Transition) : Type 
 -- the same rules at an atom of an action
 pub record SameRules (R S : Rules) (a n : ℕ) : Type 0 where
   pub needed : R.needed a n ≡ S.needed a n
-  pub may_remove : R.may_remove a n ≡ S.may_remove a n
+  pub needed_not : R.needed_not a n ≡ S.needed_not a n
   pub added : R.added a n ≡ S.added a n
   pub removed : R.removed a n ≡ S.removed a n
 

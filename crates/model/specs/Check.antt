@@ -1,57 +1,37 @@
--- The check of a plan by the learned rules, as a verdict, and the rows by which no model fits.
-use Rattle.std.specs.Prelude.{ℕ, zero, suc, Bool, true, false, ◌||◌, not, List, [], ◌∷◌}
+-- The check of a plan by the learned model, as a verdict, and the rows by which no model fits.
+use Rattle.std.specs.Prelude.{ℕ, zero, suc, Bool, true, false, ◌||◌, not, List}
 use Rattle.quantify.specs.Quantify.{any, below, first}
 use Rattle.model.specs.Domain.{Domain, State, GroundAction, Transition, Failed, GoalLiteral}
-use Rattle.model.specs.Model.{Model, Run, stopped, ended, inapplicable, next}
-use Rattle.model.specs.Span.{Span, sure}
+use Rattle.model.specs.Model.{Model, Run, stopped, ended, inapplicable, run}
 use Rattle.model.specs.Judge.{Verdict, impossible, stops, misses, passes, wrong}
-use Rattle.model.specs.Learned.{Rules, learned_rules, lowest, highest, unbound_effect, conflicting}
+use Rattle.model.specs.Learned.{learned, unbound_effect, conflicting}
 
--- What is known after a step, under the models L and H, of which L leaves the fewest facts and H the most: what is known to hold before goes by L, and what
--- may hold by H. So an effect of both makes a fact known, and a fact that L alone removes becomes unknown, if it may hold.
-unfoldable pub next_known : Domain → Model → Model → GroundAction → Span → Span
-next_known D L H s sp = record { low = next D L s sp.low; high = next D H s sp.high }
-
--- the plan from what is known on, its first step having the number given: a need that is not known to be met stops it
-unfoldable pub run_known : Domain → Model → Model → List GroundAction → Span → ℕ → Run Span
-run_known D L H [] sp k = ended sp
-run_known D L H (s ∷ plan) sp k =
-    elim (inapplicable D L s sp.low) [ true ↦ stopped k | false ↦ run_known D L H plan (next_known D L H s sp) (suc k) ]
-
--- the same by rules, from a state
-unfoldable pub run_rules : Domain → Rules → List GroundAction → State → Run Span
-run_rules D R plan st = run_known D (lowest R) (highest R) plan (sure st) 1
-
--- a goal entry whose fact is unknown, or known and not as wanted
-unfoldable pub missed : Span → GoalLiteral → Bool
-missed sp e = wrong sp.low e || wrong sp.high e
-
--- the goal at the end
-unfoldable pub reached : Span → ℕ → Verdict
-reached sp zero = passes sp
-reached sp (suc i) = misses (suc i)
+-- the goal at the end state
+unfoldable pub reached : State → ℕ → Verdict
+reached end zero = passes end
+reached end (suc i) = misses (suc i)
 
 -- what a run comes to, with the goal
-unfoldable pub judged_run : List GoalLiteral → Run Span → Verdict
+unfoldable pub judged_run : List GoalLiteral → Run → Verdict
 judged_run goal (stopped k) = stops k
-judged_run goal (ended sp) = reached sp (first (missed sp) goal)
+judged_run goal (ended end) = reached end (first (wrong end) goal)
 
--- a check by rules: impossible where `none` is true, which says that no model fits; else what the run by the rules comes to
-unfoldable pub checked_by : Bool → Domain → Rules → List GroundAction → State → List GoalLiteral → Verdict
-checked_by none D R plan st goal = elim none [ true ↦ impossible | false ↦ judged_run goal (run_rules D R plan st) ]
+-- a check by one model L: impossible where `none` is true, which says that no model fits; else what the run under L comes to
+unfoldable pub checked_by : Bool → Domain → Model → List GroundAction → State → List GoalLiteral → Verdict
+checked_by none D L plan st goal = elim none [ true ↦ impossible | false ↦ judged_run goal (run D L plan st 1) ]
 
 -- rows 11 and 12
 unfoldable pub inconsistent : Domain → List Transition → Bool
 inconsistent D ts = any (unbound_effect D) ts || below D.actions (λ a. conflicting D ts (suc a))
 
--- row 28: a step that did not go is applicable under the rules, that is where all that is needed holds
-unfoldable pub refuted : Domain → Rules → Failed → Bool
-refuted D R u = not (inapplicable D (lowest R) u.step u.state)
+-- row 28: a step that did not go is applicable under the model
+unfoldable pub refuted : Domain → Model → Failed → Bool
+refuted D L u = not (inapplicable D L u.step u.state)
 
 -- rows 11, 12 and 28
 unfoldable pub unfit : Domain → List Transition → List Failed → Bool
-unfit D ts us = inconsistent D ts || any (refuted D (learned_rules D ts)) us
+unfit D ts us = inconsistent D ts || any (refuted D (learned D ts)) us
 
--- the whole check: impossible by row 11, 12 or 28, else the plan by the learned rules
+-- the whole check: impossible by row 11, 12 or 28, else the plan under the learned model
 unfoldable pub checked : Domain → List Transition → List Failed → List GroundAction → State → List GoalLiteral → Verdict
-checked D ts us = checked_by (unfit D ts us) D (learned_rules D ts)
+checked D ts us = checked_by (unfit D ts us) D (learned D ts)

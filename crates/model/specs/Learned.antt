@@ -1,5 +1,4 @@
--- What is learned from transitions: the safe action model (document 001, formulas 1 and 2, over lifted atoms), as the rules of each action and as the two
--- models between which every model that fits lies; and when there is none.
+-- What is learned from transitions: the safe action model (document 001, formulas 1 and 2, over lifted atoms), and when there is none.
 use Rattle.std.specs.Prelude.{ℕ, Bool, true, false, ◌&&◌, ◌||◌, not, List, eqb}
 use Rattle.quantify.specs.Quantify.{same, below, any}
 use Rattle.model.specs.Domain.{Domain, Transition}
@@ -19,21 +18,20 @@ after ts b = saw ts (λ x y. same b y)
 unfoldable pub turned : List Transition → Bool → ℕ → ℕ → Bool
 turned ts b = saw ts (λ x y. same (not b) x && same b y)
 
--- The rules: the four sets of lifted atoms of each action that the rule sheet has. Needed to hold, may be removed (possible delete effects), added, removed.
+-- The rules: the four sets of lifted atoms of each action that the rule sheet has. Needed to hold, needed not to hold, added, removed.
 pub record Rules : Type 0 where
   pub needed : ℕ → ℕ → Bool
-  pub may_remove : ℕ → ℕ → Bool
+  pub needed_not : ℕ → ℕ → Bool
   pub added : ℕ → ℕ → Bool
   pub removed : ℕ → ℕ → Bool
 
--- An atom is needed if it held before every transition of the action; it is added or removed if some transition turned it; it may be removed if it was
--- neither seen added nor seen to hold before the action, since no transition then shows what the action makes of an atom that holds.
--- So an action never seen needs each of its atoms, may remove each, and has no effect that was seen.
+-- An atom is needed to have a value if it had that value before every transition of the action; it is added or removed if some transition turned it.
+-- So an action never seen needs each of its atoms both ways, and has no effect.
 unfoldable pub learned_rules : Domain → List Transition → Rules
 learned_rules D ts =
     record {
       needed = λ a n. D.atom a n && not (before ts false a n);
-      may_remove = λ a n. D.atom a n && not (turned ts true a n || before ts true a n);
+      needed_not = λ a n. D.atom a n && not (before ts true a n);
       added = λ a n. D.atom a n && turned ts true a n;
       removed = λ a n. D.atom a n && turned ts false a n;
     }
@@ -43,17 +41,12 @@ abbrev pub by_value : (ℕ → ℕ → Bool) → (ℕ → ℕ → Bool) → Bool
 by_value p q true a n = p a n
 by_value p q false a n = q a n
 
--- A model of the rules, which needs what is needed to hold and nothing not to: it removes what was seen removed and, where `all` is true, all that may be.
-unfoldable pub model_of : Bool → Rules → Model
-model_of all R =
-    record { precondition = λ b a n. b && R.needed a n; effect = by_value R.added (λ a n. all && R.may_remove a n || R.removed a n) }
+-- the model that the rules are
+unfoldable pub model_of : Rules → Model
+model_of R = record { precondition = by_value R.needed R.needed_not; effect = by_value R.added R.removed }
 
--- the two ends of the rules: under the first the fewest facts hold after a step, under the second the most
-abbrev pub lowest : Rules → Model
-lowest R = model_of true R
-
-abbrev pub highest : Rules → Model
-highest R = model_of false R
+unfoldable pub learned : Domain → List Transition → Model
+learned D ts = model_of (learned_rules D ts)
 
 -- row 11: a fact changed that is no atom of the step
 unfoldable pub unbound_effect : Domain → Transition → Bool

@@ -38,28 +38,17 @@ pub record Consistent (D : Domain) (ts : List Transition) (M : Model) : Type 0 w
   pub valid : Valid D M
   pub fits : (t : Transition) → Mem t ts → Fits D M t
 
--- needs nothing not to hold
-abbrev pub Positive : Model → Type 0
-Positive M = (a n : ℕ) → M.precondition false a n ≡ false
-
--- fits the steps that went and those that did not: it needs nothing not to hold, is consistent with the former, and each of the latter has a need unmet in
--- the state in which it was tried
+-- fits the steps that went and those that did not: consistent with the former, and each of the latter has a need unmet in the state in which it was tried
 pub record Fitting (D : Domain) (ts : List Transition) (us : List Failed) (M : Model) : Type 0 where
-  pub positive : Positive M
   pub consistent : Consistent D ts M
   pub bars : (u : Failed) → Mem u us → inapplicable D M u.step u.state ≡ true
 
--- the same of a model that may also need a fact not to hold: cited by one sentence alone, that a judge of fewer models loses no plan
-pub record Wider (D : Domain) (ts : List Transition) (us : List Failed) (M : Model) : Type 0 where
-  pub consistent : Consistent D ts M
-  pub bars : (u : Failed) → Mem u us → inapplicable D M u.step u.state ≡ true
-
--- what a plan comes to: the number of the step that is not applicable, or what it ends in
-pub data Run (A : Type 0) : Type 0 where
-  stopped : ℕ → Run A
-  ended : A → Run A
+-- what a plan comes to: the number of the step that is not applicable, or the end state
+pub data Run : Type 0 where
+  stopped : ℕ → Run
+  ended : State → Run
 
 -- the plan from a state on, its first step having the number given
-unfoldable pub run : Domain → Model → List GroundAction → State → ℕ → Run State
+unfoldable pub run : Domain → Model → List GroundAction → State → ℕ → Run
 run D M [] st k = ended st
 run D M (s ∷ plan) st k = elim (inapplicable D M s st) [ true ↦ stopped k | false ↦ run D M plan (next D M s st) (suc k) ]

@@ -11,9 +11,7 @@ use Rattle.terms.specs.declared.Binding.{Binding}
 use Rattle.terms.specs.declared.Fact.{Fact}
 use Rattle.terms.specs.Facts.{precedes}
 use Rattle.terms.specs.Steps.{object_of}
-use Rattle.jobs.specs.SheetBits.{may_remove_set}
-use Rattle.observed.specs.Observed.{always_before, ever_before, added, deleted, set_at, observed_set, noted, sets_of, encoded, with_sets, after_step}
-use Rattle.observed.specs.Rules.{rule_set}
+use Rattle.observed.specs.Observed.{ever_before, added, deleted, set_at, observed_set, noted, sets_of, encoded, with_sets, after_step}
 use Rattle.observed.specs.Inverse.{gives, param_of, place_bound, fact_bound, atom_of, mark, marks, atoms_in, unbound, merge_from, in_one_alone, some_fact, unbound_changed}
 
 abbrev roll : ℕ → ℕ → ℕ → Binding
@@ -50,38 +48,21 @@ alone_right = refl
 
 -- ---- two steps, in either sequence
 
--- a set of some of the first eight bound facts of a move, as the byte that has them; and what is observed of a move with four bound facts before any step
+-- nothing in any of the sets of one move, and a set of some of its first eight bound facts, as the byte that has them
+abbrev none : List ℕ
+none = replicate 224 0
+
 abbrev some : ℕ → List ℕ
 some bits = bits ∷ replicate 31 0
 
-abbrev start : List ℕ
-start = some 15 ++ some 0 ++ some 15 ++ replicate 96 0 ++ some 15
-
--- One step changes bound fact 1 to holding, and does not have number 2. The other leaves number 1 as it is, holding, and removes number 2. Number 0 holds
--- throughout both, and number 3 never.
-abbrev adds : List ℕ → List ℕ
-adds l = noted 1 (some 1) (some 3) l
-
-abbrev removes : List ℕ → List ℕ
-removes l = noted 1 (some 7) (some 3) l
-
--- Whichever comes last, number 1 is added and number 2 removed, number 0 held before both, and the three before some.
+-- One step changes bound fact 1 to holding, and does not have number 2. The other leaves number 1 as it is, holding, and removes number 2. Whichever comes
+-- last, number 1 is added and number 2 removed, and both held before some step.
 sequence-right :
-    (observed_set (removes (adds start)) 1 added ≡ some 2)
-    × (observed_set (adds (removes start)) 1 added ≡ some 2)
-    × (observed_set (removes (adds start)) 1 deleted ≡ some 4)
-    × (observed_set (adds (removes start)) 1 deleted ≡ some 4)
-    × (observed_set (removes (adds start)) 1 always_before ≡ some 1)
-    × (observed_set (adds (removes start)) 1 always_before ≡ some 1)
-    × (observed_set (removes (adds start)) 1 ever_before ≡ some 7)
-    × (observed_set (adds (removes start)) 1 ever_before ≡ some 7)
+    (observed_set (noted 1 (some 6) (some 2) (noted 1 (some 0) (some 2) none)) 1 added ≡ some 2)
+    × (observed_set (noted 1 (some 0) (some 2) (noted 1 (some 6) (some 2) none)) 1 added ≡ some 2)
+    × (observed_set (noted 1 (some 6) (some 2) (noted 1 (some 0) (some 2) none)) 1 deleted ≡ some 4)
+    × (observed_set (noted 1 (some 0) (some 2) (noted 1 (some 6) (some 2) none)) 1 deleted ≡ some 4)
+    × (observed_set (noted 1 (some 6) (some 2) (noted 1 (some 0) (some 2) none)) 1 ever_before ≡ some 6)
+    × (observed_set (noted 1 (some 0) (some 2) (noted 1 (some 6) (some 2) none)) 1 ever_before ≡ some 6)
 unfolding without bytewise intersection union difference set_at observed_set sets_of encoded with_sets after_step noted
-sequence-right = (refl, refl, refl, refl, refl, refl, refl, refl)
-
--- What may be removed: before any step each of the four; then not number 1 either, which never held before a step but was added; then number 3 alone.
-may-remove-right :
-    (rule_set start 1 may_remove_set ≡ some 15)
-    × (rule_set (adds start) 1 may_remove_set ≡ some 12)
-    × (rule_set (removes (adds start)) 1 may_remove_set ≡ some 8)
-unfolding without bytewise intersection union difference set_at observed_set sets_of encoded with_sets after_step noted rule_set
-may-remove-right = (refl, refl, refl)
+sequence-right = (refl, refl, refl, refl, refl, refl)

@@ -2,7 +2,7 @@
 use Prim.Native.Nat.{ℕ, zero, suc, ◌+◌, ◌≤◌, ◌<◌}
 use native.Mathlib.Omega.{arith}
 use mathlib.Core.Path.{◌≡◌, refl, ap₂, ◌∙◌}
-use mathlib.Core.Bool.{Bool, true, false, ◌&&◌, ◌||◌, not, and-true, and-false}
+use mathlib.Core.Bool.{Bool, true, false, ◌&&◌, not}
 use mathlib.Core.List.{List, ◌++◌}
 use Rattle.mask.specs.Sets.{mask_of, difference}
 use Rattle.mask.proofs.Laws.{test_difference, length_difference, bytes_difference}
@@ -21,37 +21,32 @@ use Rattle.observed.proofs.Parts.{part_bytes}
 use Rattle.observed.proofs.Noted.{length_observed_set}
 
 module _ (sch : Schema) (ts : List Transition) (l : List ℕ) (seen : Seen sch ts l) (a : ℕ) (h : 1 ≤ a) (h' : a ≤ 32) where
-  -- ---- a set of a move, as a set of its bound facts: those in it, and those in neither of two
-  seen_in : (k : ℕ) → k < 6 → observed_set l a k ≡ mask_of 32 (λ n. is_atom sch a n && in_set ts k a n)
+  -- ---- a set of a move, as a set of its bound facts: those in it, and those not in it
+  pub seen_in : (k : ℕ) → k < 6 → observed_set l a k ≡ mask_of 32 (λ n. is_atom sch a n && in_set ts k a n)
   unfolding observed_set
   seen_in k hk =
       is_mask_of _ 32 _ (length_observed_set l a k seen.sized h h' (omega arith)) (part_bytes l (set_at a k) seen.bytes)
       (λ n hn. seen.says k hk a h h' n hn)
 
-  seen_neither : (j k : ℕ) → j < 6 → k < 6
-      → difference (difference (observed_set l a bound) (observed_set l a j)) (observed_set l a k) ≡ mask_of 32 (λ n. is_atom sch a n && not (in_set ts k a n || in_set ts j a n))
+  pub seen_out : (k : ℕ) → k < 6 → difference (observed_set l a bound) (observed_set l a k) ≡ mask_of 32 (λ n. is_atom sch a n && not (in_set ts k a n))
   unfolding atom_set
-  seen_neither j k hj hk =
-      let once : List ℕ = difference (mask_of 32 (is_atom sch a)) (observed_set l a j) in
+  seen_out k hk =
       rw (seen.atoms a h h')
-      (is_mask_of _ 32 _ (length_difference once (observed_set l a k) ∙ length_difference _ (observed_set l a j) ∙ length_mask_of 32 _)
-      (bytes_difference once (observed_set l a k) (bytes_difference _ (observed_set l a j) (bytes_mask_of 32 _)))
-      (λ n hn.
-      rw (test_difference, test_difference, test_mask_of 32 (is_atom sch a) n hn, seen.says j hj a h h' n hn, seen.says k hk a h h' n hn)
-      (without_both (is_atom sch a n) (in_set ts j a n) (in_set ts k a n))))
+      (is_mask_of _ 32 _ (length_difference _ (observed_set l a k) ∙ length_mask_of 32 _) (bytes_difference _ (observed_set l a k) (bytes_mask_of 32 _))
+      (λ n hn. test_difference _ (observed_set l a k) n
+      ∙ rw (test_mask_of 32 (is_atom sch a) n hn, seen.says k hk a h h' n hn) (without_within (is_atom sch a n) (in_set ts k a n))))
     where
-      without_both : (i x y : Bool) → (i && not (i && x) && not (i && y)) ≡ (i && not (y || x))
-      without_both true x true = and-false (not x)
-      without_both true x false = and-true (not x)
-      without_both false x y = refl
+      without_within : (i x : Bool) → (i && not (i && x)) ≡ (i && not x)
+      without_within true x = refl
+      without_within false x = refl
 
   -- The four sets of a move are its learned ones.
   pub rules_block : rules_observed l a ≡ rule_block (learned_rules (domain sch) ts) a
   unfolding rules_observed rule_set rule_block learned_rules domain in_set
   rules_block =
       rw (
-        seen_neither ever_before added (omega arith) (omega arith),
         seen_in always_before (omega arith),
+        seen_out ever_before (omega arith),
         seen_in added (omega arith),
         seen_in deleted (omega arith),
       )

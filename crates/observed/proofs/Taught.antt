@@ -48,5 +48,5 @@ taught sch relations moves fs all =
       row12 = conflicting_same sch relations (map (transition sch) (went_steps fs)) (observe_all fs (nothing_seen sch)).masks seen moves;
       sheet = sheet_blocks sch (map (transition sch) (went_steps fs)) (observe_all fs (nothing_seen sch)).masks seen sch.moves 1 (omega arith) (omega arith);
       failed = fail_observed fs (nothing_seen sch) ∙ rw (none_failed sch);
-      row28 = refuted_same sch (map (transition sch) (went_steps fs)) (observe_all fs (nothing_seen sch)).masks seen relations moves fs all;
+      row28 = refuted_same sch relations moves (map (transition sch) (went_steps fs)) (observe_all fs (nothing_seen sch)).masks seen fs all;
     }

@@ -9,20 +9,20 @@ use Rattle.quantify.specs.Quantify.{any, least}
 use Rattle.format.specs.Decode.{RecordedStep}
 use Rattle.jobs.specs.Planning.{failed_steps}
 use Rattle.jobs.specs.Learn.{conflict_answer}
-use Rattle.jobs.specs.SheetBits.{needed_set, may_remove_set, added_set, removed_set}
+use Rattle.jobs.specs.SheetBits.{needed_set, needed_not_set, added_set, removed_set}
 use Rattle.observed.specs.Inverse.{atoms_in}
 use Rattle.observed.specs.Observed.{always_before, ever_before, always_after, ever_after, added, deleted, bound, observed_set}
 
 -- one of the four sets of a move's rules, in their order (jobs/specs/SheetBits.antt)
 unfoldable pub rule_set : List ℕ → ℕ → ℕ → List ℕ
 rule_set l a zero = observed_set l a always_before
-rule_set l a (suc zero) = difference (difference (observed_set l a bound) (observed_set l a ever_before)) (observed_set l a added)
+rule_set l a (suc zero) = difference (observed_set l a bound) (observed_set l a ever_before)
 rule_set l a (suc (suc zero)) = observed_set l a added
 rule_set l a (suc (suc (suc k))) = observed_set l a deleted
 
 unfoldable pub rules_observed : List ℕ → ℕ → List ℕ
 rules_observed l a =
-    rule_set l a needed_set ++ rule_set l a may_remove_set ++ rule_set l a added_set ++ rule_set l a removed_set
+    rule_set l a needed_set ++ rule_set l a needed_not_set ++ rule_set l a added_set ++ rule_set l a removed_set
 
 unfoldable pub sheet_observed : List ℕ → ℕ → ℕ → List ℕ
 sheet_observed l zero a = []
@@ -50,9 +50,9 @@ conflict_among l moves = conflict_answer (least moves (conflict_observed l))
 
 -- ---- row 28
 
--- the preconditions of a move that are unmet where `held` are its bound facts that hold
+-- the preconditions of a move that are unmet where `held` are its bound facts that hold: needed not to hold and held, or needed to hold and not held
 unfoldable pub unmet_set : List ℕ → ℕ → List ℕ → List ℕ
-unmet_set l a held = difference (rule_set l a needed_set) held
+unmet_set l a held = union (intersection (rule_set l a needed_not_set) held) (difference (rule_set l a needed_set) held)
 
 -- all preconditions of the step's move are met in the state before it
 unfoldable pub met_before : List ℕ → RecordedStep → Bool

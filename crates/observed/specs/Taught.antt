@@ -5,7 +5,7 @@ use Rattle.mask.specs.Bits.{Bytes}
 use Rattle.terms.specs.Schema.{Schema}
 use Rattle.format.specs.Decode.{RecordedStep}
 use Rattle.quantify.specs.Quantify.{any}
-use Rattle.model.specs.Learned.{learned_rules}
+use Rattle.model.specs.Learned.{learned_rules, learned}
 use Rattle.jobs.specs.Planning.{domain, transition, went_steps}
 use Rattle.jobs.specs.Learn.{unbound_effects, conflicting_move, refuted_steps, rule_blocks}
 use Rattle.observed.specs.Observed.{Observed}
@@ -19,4 +19,4 @@ pub record Taught (sch : Schema) (xs : List RecordedStep) (seen : Observed) : Ty
   pub row12 : conflict_among seen.masks sch.moves ≡ conflicting_move sch (map (transition sch) (went_steps xs))
   pub sheet : sheet_observed seen.masks sch.moves 1 ≡ rule_blocks (learned_rules (domain sch) (map (transition sch) (went_steps xs))) sch.moves 1
   pub failed : seen.failed ≡ any (λ x. not x.went) xs
-  pub row28 : refuted_observed seen.masks xs ≡ refuted_steps sch (learned_rules (domain sch) (map (transition sch) (went_steps xs))) xs
+  pub row28 : refuted_observed seen.masks xs ≡ refuted_steps sch (learned (domain sch) (map (transition sch) (went_steps xs))) xs

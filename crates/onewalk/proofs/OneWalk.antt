@@ -29,7 +29,7 @@ use Rattle.format.proofs.Parts.{parts_joined}
 use Rattle.quantify.specs.Quantify.{Mem, here, there}
 use Rattle.quantify.proofs.Members.{mem_left}
 use Rattle.jobs.specs.Planning.{schema_of, steps_of_book, transitions_of}
-use Rattle.jobs.specs.Learn.{conflicting_move, inconsistency, rule_sheet, rules_from, refutation, learnable}
+use Rattle.jobs.specs.Learn.{conflicting_move, inconsistency, rule_sheet, rules_from, learned_from, refutation, learnable}
 use Rattle.observed.specs.Observed.{Observed, observe, observe_by, failure_seen, first_named, observe_all, observed_after, nothing_seen, held_after, observed_of}
 use Rattle.observed.specs.Rules.{conflict_among, refuted_observed}
 use Rattle.observed.specs.Seen.{Seen}
@@ -169,7 +169,7 @@ module _ (form : Form) (s : List ℕ) (n : ℕ) (good : look_over form s ≡ Goo
 
   -- Row 28 by what is held and the steps,
   pub refuted_held : refutation form s ≡ refuted_observed (observed_of form s).masks (steps_of_book form s)
-  unfolding refutation rules_from transitions_of
+  unfolding refutation learned_from transitions_of
   refuted_held = sym observed_taught.row28
 
   -- which is not met where all steps went.

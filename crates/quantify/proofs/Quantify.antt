@@ -174,22 +174,6 @@ module _ {A : Type 0} (p : A → Bool) where
       from [] i = refl
       from (y ∷ ys) i = turn (p y) i (first p ys) (first_from ys (suc (suc i))) (from ys (suc i))
 
--- an entry that has one property has another that each member with the first has; and one that has either of two has one of them
-module _ {A : Type 0} (p q : A → Bool) where
-  pub has_each : ((x : A) → p x ≡ true → q x ≡ true) → (xs : List A) (k : ℕ) → has p xs k ≡ true → has q xs k ≡ true
-  unfolding has
-  has_each h [] k e = e
-  has_each h (x ∷ xs) zero e = e
-  has_each h (x ∷ xs) (suc zero) e = h x e
-  has_each h (x ∷ xs) (suc (suc k)) e = has_each h xs (suc k) e
-
-  pub has_either : (xs : List A) (k : ℕ) → has (λ x. p x || q x) xs k ≡ true → (has p xs k ≡ true) ⊎ (has q xs k ≡ true)
-  unfolding has
-  has_either [] k e = inl e
-  has_either (x ∷ xs) zero e = inl e
-  has_either (x ∷ xs) (suc zero) e = or_out (p x) (q x) e
-  has_either (x ∷ xs) (suc (suc k)) e = has_either xs (suc k) e
-
 -- the first of a list mapped, where each member passes as it does mapped
 pub first_map : {A B : Type 0} (p : A → Bool) (q : B → Bool) (f : A → B) → ((x : A) → p x ≡ q (f x)) → (xs : List A) → first p xs ≡ first q (map f xs)
 unfolding first

@@ -9,7 +9,7 @@ use borrow.Rule.Slice.PartMut.{mid_of, put_mid}
 use Rattle.mask.specs.Sets.{difference}
 use Rattle.mask.proofs.Laws.{length_difference}
 use Rattle.limits.specs.Limits.{observed_size}
-use Rattle.jobs.specs.SheetBits.{needed_set, may_remove_set, added_set, removed_set}
+use Rattle.jobs.specs.SheetBits.{needed_set, needed_not_set, added_set, removed_set}
 use Rattle.observed.specs.Observed.{always_before, ever_before, added, deleted, bound, set_at, observed_set}
 use Rattle.observed.proofs.Noted.{length_observed_set}
 use Rattle.observed.specs.Rules.{rule_set, rules_observed, sheet_observed}
@@ -45,16 +45,15 @@ block_by d a b c e {p} {q} {r} {t} h (f, la) (g, lb) (j, lc) (k, le) =
     k ∙ rw r' (written_then d 0 (a ++ b ++ c) e 96 (omega arith) (omega arith))
 
 module _ (l : List ℕ) where
-  pub rules_by : (a : ℕ) {needed all unheld may_remove add delete : List ℕ}
-      → needed ≡ observed_set l a always_before
+  pub rules_by : (a : ℕ) {pos all neg add delete : List ℕ}
+      → pos ≡ observed_set l a always_before
       → all ≡ observed_set l a bound
-      → unheld ≡ difference all (observed_set l a ever_before)
-      → may_remove ≡ difference unheld (observed_set l a added)
+      → neg ≡ difference all (observed_set l a ever_before)
       → add ≡ observed_set l a added
       → delete ≡ observed_set l a deleted
-      → ◌≡◌ {A = List (List ℕ)} (needed ∷ may_remove ∷ add ∷ delete ∷ []) (rule_sets l a)
+      → ◌≡◌ {A = List (List ℕ)} (pos ∷ neg ∷ add ∷ delete ∷ []) (rule_sets l a)
   unfolding rule_sets rule_set
-  rules_by a e f g h j k = rw (e, h, g, f, j, k)
+  rules_by a e f g j k = rw (e, g, f, j, k)
 
   pub block_rules : (a : ℕ) → block (rule_sets l a) ≡ rules_observed l a
   unfolding block rule_sets rules_observed
@@ -64,7 +63,7 @@ module _ (l : List ℕ) where
     pub length_rule_set : (a k : ℕ) → 1 ≤ a → a ≤ 32 → length (rule_set l a k) ≡ 32
     unfolding rule_set
     length_rule_set a zero h h' = length_observed_set l a always_before sized h h' (omega arith)
-    length_rule_set a (suc zero) h h' = length_difference _ _ ∙ length_difference _ _ ∙ length_observed_set l a bound sized h h' (omega arith)
+    length_rule_set a (suc zero) h h' = length_difference _ _ ∙ length_observed_set l a bound sized h h' (omega arith)
     length_rule_set a (suc (suc zero)) h h' = length_observed_set l a added sized h h' (omega arith)
     length_rule_set a (suc (suc (suc k))) h h' = length_observed_set l a deleted sized h h' (omega arith)
 
@@ -74,7 +73,7 @@ module _ (l : List ℕ) where
         simp (
           length-append,
           length_rule_set a needed_set h h',
-          length_rule_set a may_remove_set h h',
+          length_rule_set a needed_not_set h h',
           length_rule_set a added_set h h',
           length_rule_set a removed_set h h',
         )

@@ -12,25 +12,23 @@ use terms::Move;
 
 // ---- the rules of a move
 
-// The four sets of a move: needs to hold, may remove (possible delete effects), added, removed. A bound fact may be removed if it was neither seen to
-// hold before a step nor seen added.
+// The four sets of a move: needs to hold, needs not to hold, added, removed.
 pub fn rules_of(observed: &[u8], m: Move) -> [[u8; 32]; 4]
     requires { MoveObserved observed.now m.0 }
     ensures { result ≡ rule_sets observed.now m.0 }
 {
     let pre_pos = observed::observed_set(observed, m, observed::ALWAYS_BEFORE);
     let bound = observed::observed_set(observed, m, observed::BOUND);
-    let unheld = observed::outside_observed(bound, observed, m, observed::EVER_BEFORE);
-    let possible_delete = observed::outside_observed(unheld, observed, m, observed::ADDED);
+    let pre_neg = observed::outside_observed(bound, observed, m, observed::EVER_BEFORE);
     let add = observed::observed_set(observed, m, observed::ADDED);
     let delete = observed::observed_set(observed, m, observed::DELETED);
-    [pre_pos, possible_delete, add, delete]
+    [pre_pos, pre_neg, add, delete]
 }
 
 // ---- the sheet
 
 // Where the second set of a move stands in its block, and the third and the fourth.
-const POSSIBLE_DELETE_AT: usize = jobs::POSSIBLE_DELETE * limits::SET_SIZE;
+const PRE_NEG_AT: usize = jobs::PRE_NEG * limits::SET_SIZE;
 
 const ADD_AT: usize = jobs::ADD * limits::SET_SIZE;
 
@@ -49,11 +47,11 @@ fn write_rules(part: &mut [u8], rules: [[u8; 32]; 4])
     ensures { part.new ≡ written part.old 0 (block rules) }
 {
     let pre_pos = rules[jobs::PRE_POS];
-    let possible_delete = rules[jobs::POSSIBLE_DELETE];
+    let pre_neg = rules[jobs::PRE_NEG];
     let add = rules[jobs::ADD];
     let delete = rules[jobs::DELETE];
     write_set(part, 0, pre_pos);
-    write_set(part, POSSIBLE_DELETE_AT, possible_delete);
+    write_set(part, PRE_NEG_AT, pre_neg);
     write_set(part, ADD_AT, add);
     write_set(part, DELETE_AT, delete);
 }

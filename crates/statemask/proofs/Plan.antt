@@ -1,9 +1,9 @@
--- A plan over the masks of what is known comes to what it comes to by the rules, and so do rows 19 and 20.
+-- A plan over masks comes to what it comes to under the model, and so do rows 19 and 20.
 use Prim.Native.Nat.{ℕ, zero, suc, ◌≤◌}
 use native.Mathlib.Omega.{arith}
-use mathlib.Core.Path.{◌≡◌, refl, sym, ap₂, subst, subst₂, ◌∙◌}
+use mathlib.Core.Path.{◌≡◌, refl, sym, ap, subst, subst₂, ◌∙◌}
 use mathlib.Core.Logic.{◌⊎◌, inl, inr}
-use mathlib.Core.Bool.{Bool, true, false}
+use mathlib.Core.Bool.{Bool, true, false, not}
 use mathlib.Core.List.{List, [], ◌∷◌, map}
 use Rattle.truth.specs.Bools.{decide}
 use Rattle.limits.specs.Limits.{state_size, max_atoms}
@@ -13,53 +13,46 @@ use Rattle.terms.specs.Schema.{Schema}
 use Rattle.terms.specs.Facts.{fact_number}
 use Rattle.format.specs.Order.{GoalEntry}
 use Rattle.mask.specs.Sets.{mask_of}
-use Rattle.mask.proofs.Whole.{difference_mask_of}
-use Rattle.quantify.specs.Quantify.{first, here, there}
+use Rattle.quantify.specs.Quantify.{same, first, here, there}
 use Rattle.model.specs.Domain.{Domain, State, GroundAction}
-use Rattle.model.specs.Model.{Valid, Run, stopped, ended, inapplicable, next}
-use Rattle.model.specs.Span.{Span, sure, unknown}
+use Rattle.model.specs.Model.{Model, Valid, Run, stopped, ended, inapplicable, next, run}
 use Rattle.model.specs.Judge.{wrong}
-use Rattle.model.specs.Learned.{Rules, model_of, lowest, highest}
-use Rattle.model.specs.Check.{next_known, run_known, run_rules}
-use Rattle.model.specs.Check as check
 use Rattle.quantify.proofs.Quantify.{first_map}
-use Rattle.model.proofs.Lockstep.{known_stop, known_go}
+use Rattle.model.proofs.Lockstep.{run_stop, run_go}
 use Rattle.jobs.specs.Planning.{ground_action, goal_entry}
 use Rattle.jobs.specs.Check.{run_answer, end_sheet}
-use Rattle.statemask.specs.Statemask.{MoveRules, start_mask, step_inapplicable, step_next, Executed, execute, wrong_in, misses, missed}
-use Rattle.statemask.specs.Executing.{AllInMask, Ruled, InMask, Executing, Agrees, executed_answer, sheet_of}
+use Rattle.statemask.specs.Statemask.{MoveRules, start_mask, step_inapplicable, step_next, Executed, execute, missed, misses}
+use Rattle.statemask.specs.Executing.{AllInMask, Ruled, InMask, Executing, Agrees, executed_answer}
 use Rattle.statemask.proofs.Masks.{test_mask, start_mask_lem}
 use Rattle.statemask.proofs.Step.{next_under, inapplicable_mask, next_mask}
 use Rattle.factsets.specs.Holding.{holding}
 
-module _ (sch : Schema) (R : ℕ → MoveRules) (st : Step) (plan : List Step) (low high : List ℕ) (k : ℕ) where
-  pub execute_stop : step_inapplicable sch R st low ≡ true → execute sch R (st ∷ plan) low high k ≡ record { stop = k; low = low; high = high }
+module _ (sch : Schema) (R : ℕ → MoveRules) (st : Step) (plan : List Step) (m : List ℕ) (k : ℕ) where
+  pub execute_stop : step_inapplicable sch R st m ≡ true → execute sch R (st ∷ plan) m k ≡ record { stop = k; mask = m }
   unfolding execute
   execute_stop e = rw (e, execute)
 
-  pub execute_go : step_inapplicable sch R st low ≡ false
-      → execute sch R (st ∷ plan) low high k ≡ execute sch R plan (step_next true sch R st low) (step_next false sch R st high) (suc k)
+  pub execute_go : step_inapplicable sch R st m ≡ false → execute sch R (st ∷ plan) m k ≡ execute sch R plan (step_next sch R st m) (suc k)
   unfolding execute
   execute_go e = rw (e, execute)
 
-module _ (D : Domain) (P : Rules) (sch : Schema) (R : ℕ → MoveRules) where
-  module _ (all : Bool) (few : D.atoms ≤ max_atoms) (valid : Valid D (model_of all P)) (s : Step) (fits : InMask D (ground_action sch s)) (st : State) (under : AllInMask st) where
-    step_inapplicable_lem : Ruled P s.action.0 (R s.action.0) → step_inapplicable sch R s (mask_of state_size st) ≡ inapplicable D (model_of all P) (ground_action sch s) st
+module _ (D : Domain) (M : Model) (sch : Schema) (R : ℕ → MoveRules) where
+  module _ (few : D.atoms ≤ max_atoms) (valid : Valid D M) (s : Step) (fits : InMask D (ground_action sch s)) (st : State) (under : AllInMask st) where
+    step_inapplicable_lem : Ruled M s.action.0 (R s.action.0) → step_inapplicable sch R s (mask_of state_size st) ≡ inapplicable D M (ground_action sch s) st
     unfolding step_inapplicable ground_action
-    step_inapplicable_lem ruled = inapplicable_mask D P all few valid (ground_action sch s) fits (R s.action.0) ruled st under
+    step_inapplicable_lem ruled = inapplicable_mask D M few valid (ground_action sch s) fits (R s.action.0) ruled st under
 
-    step_next_lem : Ruled P s.action.0 (R s.action.0) → step_next all sch R s (mask_of state_size st) ≡ mask_of state_size (next D (model_of all P) (ground_action sch s) st)
+    step_next_lem : Ruled M s.action.0 (R s.action.0) → step_next sch R s (mask_of state_size st) ≡ mask_of state_size (next D M (ground_action sch s) st)
     unfolding step_next ground_action
-    step_next_lem ruled = next_mask D P all few valid (ground_action sch s) fits (R s.action.0) ruled st under
+    step_next_lem ruled = next_mask D M few valid (ground_action sch s) fits (R s.action.0) ruled st under
 
-  -- The plan over the masks of what is known comes to what it comes to from what is known.
-  pub execute_run : (plan : List Step) → Executing D P sch R plan → (sp : Span) → AllInMask sp.low → AllInMask sp.high → (k : ℕ) → 1 ≤ k
-      → Agrees (execute sch R plan (mask_of state_size sp.low) (mask_of state_size sp.high) k) (run_known D (lowest P) (highest P) (map (ground_action sch) plan) sp k)
-  unfolding execute run_known next_known
-  execute_run [] c sp under over k h = (refl, refl, refl, under, over)
-  execute_run (s ∷ plan) c sp under over k h =
-      go (decide (inapplicable D (lowest P) t sp.low))
-      (execute_run plan rest (next_known D (lowest P) (highest P) t sp) (next_under D (lowest P) c.few (c.valid true) t fits sp.low under) (next_under D (highest P) c.few (c.valid false) t fits sp.high over) (suc k) (omega arith))
+  -- The plan over the mask of a state comes to what it comes to from the state.
+  pub execute_run : (plan : List Step) → Executing D M sch R plan → (st : State) → AllInMask st → (k : ℕ) → 1 ≤ k
+      → Agrees (execute sch R plan (mask_of state_size st) k) (run D M (map (ground_action sch) plan) st k)
+  unfolding execute run
+  execute_run [] c st under k h = (refl, refl, under)
+  execute_run (s ∷ plan) c st under k h =
+      go (decide (inapplicable D M t st)) (execute_run plan rest (next D M t st) (next_under D M c.few c.valid t fits st under) (suc k) (omega arith))
     where
       t : GroundAction
       t = ground_action sch s
@@ -67,65 +60,53 @@ module _ (D : Domain) (P : Rules) (sch : Schema) (R : ℕ → MoveRules) where
       fits : InMask D t
       fits = c.in_mask s here
 
-      rest : Executing D P sch R plan
+      rest : Executing D M sch R plan
       rest = record { few = c.few; valid = c.valid; ruled = λ r m. c.ruled r (there m); in_mask = λ r m. c.in_mask r (there m) }
 
-      halts : step_inapplicable sch R s (mask_of state_size sp.low) ≡ inapplicable D (lowest P) t sp.low
-      halts = step_inapplicable_lem true c.few (c.valid true) s fits sp.low under (c.ruled s here)
+      halts : step_inapplicable sch R s (mask_of state_size st) ≡ inapplicable D M t st
+      halts = step_inapplicable_lem c.few c.valid s fits st under (c.ruled s here)
 
-      moves : (all : Bool) (st : State) → AllInMask st → step_next all sch R s (mask_of state_size st) ≡ mask_of state_size (next D (model_of all P) t st)
-      moves all st in-mask = step_next_lem all c.few (c.valid all) s fits st in-mask (c.ruled s here)
+      moves : step_next sch R s (mask_of state_size st) ≡ mask_of state_size (next D M t st)
+      moves = step_next_lem c.few c.valid s fits st under (c.ruled s here)
 
-      go : (inapplicable D (lowest P) t sp.low ≡ true) ⊎ (inapplicable D (lowest P) t sp.low ≡ false)
-          → Agrees (execute sch R plan (mask_of state_size (next D (lowest P) t sp.low)) (mask_of state_size (next D (highest P) t sp.high)) (suc k))
-          (run_known D (lowest P) (highest P) (map (ground_action sch) plan) (next_known D (lowest P) (highest P) t sp) (suc k))
-          → Agrees (execute sch R (s ∷ plan) (mask_of state_size sp.low) (mask_of state_size sp.high) k)
-          (run_known D (lowest P) (highest P) (t ∷ map (ground_action sch) plan) sp k)
+      go : (inapplicable D M t st ≡ true) ⊎ (inapplicable D M t st ≡ false)
+          → Agrees (execute sch R plan (mask_of state_size (next D M t st)) (suc k)) (run D M (map (ground_action sch) plan) (next D M t st) (suc k))
+          → Agrees (execute sch R (s ∷ plan) (mask_of state_size st) k) (run D M (t ∷ map (ground_action sch) plan) st k)
       go (inl e) deeper =
-          subst₂ Agrees (sym (execute_stop sch R s plan (mask_of state_size sp.low) (mask_of state_size sp.high) k (halts ∙ e)))
-          (sym (known_stop D (lowest P) (highest P) t (map (ground_action sch) plan) sp k e)) (refl, h)
+          subst₂ Agrees (sym (execute_stop sch R s plan (mask_of state_size st) k (halts ∙ e))) (sym (run_stop D M t (map (ground_action sch) plan) st k e)) (refl, h)
       go (inr e) deeper =
           subst₂ Agrees
-          (sym
-          (execute_go sch R s plan (mask_of state_size sp.low) (mask_of state_size sp.high) k (halts ∙ e)
-          ∙ ap₂ (λ (l h : List ℕ). execute sch R plan l h (suc k)) (moves true sp.low under) (moves false sp.high over)))
-          (sym (known_go D (lowest P) (highest P) t (map (ground_action sch) plan) sp k e))
+          (sym (execute_go sch R s plan (mask_of state_size st) k (halts ∙ e) ∙ ap (λ m. execute sch R plan m (suc k)) moves))
+          (sym (run_go D M t (map (ground_action sch) plan) st k e))
           deeper
 
--- A goal entry is missed over the masks exactly if it is in what they show.
-misses_mask : (sp : Span) → AllInMask sp.low → AllInMask sp.high → (e : GoalEntry)
-    → misses (mask_of state_size sp.low) (mask_of state_size sp.high) e ≡ check.missed sp (goal_entry e)
-unfolding misses wrong_in check.missed wrong goal_entry
-misses_mask sp under over e = rw (test_mask sp.low under (fact_number e.fact), test_mask sp.high over (fact_number e.fact))
-
--- So the first that is missed is the first that is missed there.
-pub missed_first : (sp : Span) → AllInMask sp.low → AllInMask sp.high → (goal : List GoalEntry)
-    → missed (mask_of state_size sp.low) (mask_of state_size sp.high) goal ≡ first (check.missed sp) (map goal_entry goal)
-unfolding missed
-missed_first sp under over goal = first_map _ _ goal_entry (misses_mask sp under over) goal
+-- The first goal entry that the mask misses is the first that is wrong in the state.
+pub missed_first : (end : State) → AllInMask end → (goal : List GoalEntry) → missed (mask_of state_size end) goal ≡ first (wrong end) (map goal_entry goal)
+unfolding missed misses wrong goal_entry
+missed_first end under goal =
+    first_map _ _ goal_entry (λ e. ap (λ (t : Bool). not (same t e.wanted)) (test_mask end under (fact_number e.fact))) goal
 
 -- ---- rows 19 and 20
 -- What the check answers to a run it answers to the masks that agree with it.
-pub agrees_answer : (steps : ℕ) (goal : List GoalEntry) (c : Executed) (r : Run Span) → Agrees c r → run_answer steps (map goal_entry goal) r ≡ executed_answer steps goal c
+pub agrees_answer : (steps : ℕ) (goal : List GoalEntry) (c : Executed) (r : Run) → Agrees c r → run_answer steps (map goal_entry goal) r ≡ executed_answer steps goal c
 unfolding run_answer executed_answer
 agrees_answer steps goal c (stopped zero) a = absurd (omega arith)
 agrees_answer steps goal c (stopped (suc k)) a = rw a.0
-agrees_answer steps goal c (ended sp) a = rw (a.0, a.1, a.2, missed_first sp a.3 a.4 goal)
+agrees_answer steps goal c (ended end) a = rw (a.0, a.1, missed_first end a.2 goal)
 
--- Where no step stops, the end sheet is that of the masks.
-pub agrees_sheet : (c : Executed) (r : Run Span) → Agrees c r → c.stop ≡ 0 → sheet_of c ≡ end_sheet r
-unfolding end_sheet sheet_of unknown
+-- Where no step stops, the end sheet is the mask.
+pub agrees_sheet : (c : Executed) (r : Run) → Agrees c r → c.stop ≡ 0 → c.mask ≡ end_sheet r
+unfolding end_sheet
 agrees_sheet c (stopped k) a e = absurd (omega arith)
-agrees_sheet c (ended sp) a e = rw (a.1, a.2, difference_mask_of state_size sp.high sp.low)
+agrees_sheet c (ended end) a e = a.1
 
 -- ---- from a start
-module _ (D : Domain) (P : Rules) (sch : Schema) (R : ℕ → MoveRules) (plan : List Step) (c : Executing D P sch R plan) (fs : List Fact) (under : AllInMask (holding fs)) where
-  pub execute_start : Agrees (execute sch R plan (start_mask fs) (start_mask fs) 1) (run_rules D P (map (ground_action sch) plan) (holding fs))
-  unfolding run_rules
+module _ (D : Domain) (M : Model) (sch : Schema) (R : ℕ → MoveRules) (plan : List Step) (c : Executing D M sch R plan) (fs : List Fact) (under : AllInMask (holding fs)) where
+  pub execute_start : Agrees (execute sch R plan (start_mask fs) 1) (run D M (map (ground_action sch) plan) (holding fs) 1)
   execute_start =
-      subst (λ (m : List ℕ). Agrees (execute sch R plan m m 1) (run_known D (lowest P) (highest P) (map (ground_action sch) plan) (sure (holding fs)) 1)) (sym (start_mask_lem fs))
-      (execute_run D P sch R plan c (sure (holding fs)) under under 1 (omega arith))
+      subst (λ (m : List ℕ). Agrees (execute sch R plan m 1) (run D M (map (ground_action sch) plan) (holding fs) 1)) (sym (start_mask_lem fs))
+      (execute_run D M sch R plan c (holding fs) under 1 (omega arith))
 
   pub execute_answer : (steps : ℕ) (goal : List GoalEntry)
-      → run_answer steps (map goal_entry goal) (run_rules D P (map (ground_action sch) plan) (holding fs)) ≡ executed_answer steps goal (execute sch R plan (start_mask fs) (start_mask fs) 1)
+      → run_answer steps (map goal_entry goal) (run D M (map (ground_action sch) plan) (holding fs) 1) ≡ executed_answer steps goal (execute sch R plan (start_mask fs) 1)
   execute_answer steps goal = agrees_answer steps goal _ _ execute_start

@@ -1,22 +1,26 @@
--- One step over masks is one step of a model of the rules, of either end: inapplicable alike, and after it the mask of the next state.
+-- One step over masks is one step of the model: inapplicable alike, and after it the mask of the next state.
 -- Injective grounding is not asked: both sides lay down all removed facts before any added one.
 use Prim.Native.Nat.{ℕ, ◌<◌, ◌≤◌}
 use native.Mathlib.Omega.{arith}
-use mathlib.Core.Path.{◌≡◌, refl, sym, ap, ◌∙◌}
-use mathlib.Core.Bool.{Bool, true, false, cond, not, ◌&&◌, ◌||◌, and-true, and-false}
+use mathlib.Core.Path.{◌≡◌, refl, sym, ap, ap₂, ◌∙◌}
+use mathlib.Core.Bool.{Bool, true, false, cond, not, ◌&&◌, ◌||◌, and-true, and-false, or-false}
 use lib.Dec.{eqb}
 use Rattle.truth.specs.Bools.{is_false, and_out}
 use Rattle.limits.specs.Limits.{state_size, set_size, max_atoms}
 use Rattle.mask.specs.Sets.{mask_of}
-use Rattle.mask.proofs.Whole.{test_mask_of, mask_of_same, union_mask_of}
+use Rattle.mask.proofs.Whole.{test_mask_of, mask_of_same}
 use Rattle.model.specs.Domain.{Domain, State, GroundAction}
 use Rattle.model.specs.Model.{Model, Valid, image, inapplicable, next}
-use Rattle.model.specs.Learned.{Rules, model_of}
 use Rattle.quantify.proofs.Quantify.{below_cong, below_wide}
 use Rattle.model.proofs.Next.{image_out}
-use Rattle.statemask.specs.Statemask.{MoveRules, unmet, inapplicable_in, effects, removed_by, next_in, touched}
+use Rattle.statemask.specs.Statemask.{MoveRules, unmet, inapplicable_in, effects, next_in, touched}
 use Rattle.statemask.specs.Executing.{AllInMask, Ruled, InMask}
 use Rattle.statemask.proofs.Masks.{test_mask, effects_mask}
+
+-- a value is needed to be what it is not
+either : (need : Bool → Bool) (t : Bool) → (need true && not t || need false && t) ≡ need (not t)
+either need true = ap₂ (λ a b. a || b) (and-false (need true)) (and-true (need false))
+either need false = ap₂ (λ a b. a || b) (and-true (need true)) (and-false (need false)) ∙ or-false (need true)
 
 -- what was removed and then added
 put_last : (added removed x : Bool) → cond added true (cond removed false x) ≡ (added || (x && not removed))
@@ -44,53 +48,33 @@ module _ (D : Domain) (M : Model) (few : D.atoms ≤ max_atoms) (valid : Valid D
       in
       rw (off, under f h)
 
--- what a step removes under an end of the rules, as a set
-removed_by_lem : (all : Bool) (P : Rules) (a : ℕ) (R : MoveRules) → Ruled P a R → removed_by all R ≡ mask_of set_size ((model_of all P).effect false a)
-unfolding removed_by model_of
-removed_by_lem true P a R ruled = rw (ruled.may_remove, ruled.removed) (union_mask_of set_size (P.may_remove a) (P.removed a))
-removed_by_lem false P a R ruled = ruled.removed
+  module _ (R : MoveRules) (ruled : Ruled M s.action R) (st : State) (under : AllInMask st) where
+    unmet_mask : (n : ℕ) → n < max_atoms → unmet R s.ground (mask_of state_size st) n ≡ M.precondition (not (st (s.ground n))) s.action n
+    unfolding unmet
+    unmet_mask n l =
+        rw
+        (ruled.needed, ruled.needed_not, test_mask_of set_size (M.precondition true s.action) n l, test_mask_of set_size (M.precondition false s.action) n l, test_mask st under (s.ground n))
+        (either (λ b. M.precondition b s.action n) (st (s.ground n)))
 
-added_by : (all : Bool) (P : Rules) (a : ℕ) (R : MoveRules) → Ruled P a R → R.added ≡ mask_of set_size ((model_of all P).effect true a)
-unfolding model_of
-added_by all P a R ruled = ruled.added
+    -- The step is inapplicable over the mask exactly if it is in the state.
+    pub inapplicable_mask : inapplicable_in R s.ground (mask_of state_size st) ≡ inapplicable D M s st
+    unfolding inapplicable_in inapplicable
+    inapplicable_mask =
+        below_cong max_atoms _ _ unmet_mask
+        ∙ below_wide max_atoms D.atoms (λ n. M.precondition (not (st (s.ground n))) s.action n) few
+        (λ n e. fits.ranged n (valid.needed_atom _ s.action n e))
 
--- a need is unmet exactly if its fact does not hold
-needed_missing : (need t : Bool) → (need && not t) ≡ (not t && need)
-needed_missing true true = refl
-needed_missing true false = refl
-needed_missing false true = refl
-needed_missing false false = refl
-
-module _ (D : Domain) (P : Rules) (all : Bool) (few : D.atoms ≤ max_atoms) (valid : Valid D (model_of all P)) (s : GroundAction) (fits : InMask D s)
-    (R : MoveRules) (ruled : Ruled P s.action R) (st : State) (under : AllInMask st) where
-  unmet_mask : (n : ℕ) → n < max_atoms → unmet R s.ground (mask_of state_size st) n ≡ (model_of all P).precondition (not (st (s.ground n))) s.action n
-  unfolding unmet model_of
-  unmet_mask n l =
-      rw (ruled.needed, test_mask_of set_size (P.needed s.action) n l, test_mask st under (s.ground n))
-      (needed_missing (P.needed s.action n) (st (s.ground n)))
-
-  -- The step is inapplicable over the mask exactly if it is in the state.
-  pub inapplicable_mask : inapplicable_in R s.ground (mask_of state_size st) ≡ inapplicable D (model_of all P) s st
-  unfolding inapplicable_in inapplicable
-  inapplicable_mask =
-      below_cong max_atoms _ _ unmet_mask
-      ∙ below_wide max_atoms D.atoms (λ n. (model_of all P).precondition (not (st (s.ground n))) s.action n) few
-      (λ n e. fits.ranged n (valid.needed_atom _ s.action n e))
-
-  -- The mask after the step is that of the next state.
-  pub next_mask : next_in all R s.ground (mask_of state_size st) ≡ mask_of state_size (next D (model_of all P) s st)
-  unfolding next_in next
-  next_mask =
-      ap (λ l. effects true R.added s.ground l max_atoms) (effects_mask false (removed_by all R) s.ground state_size st max_atoms)
-      ∙ effects_mask true R.added s.ground state_size (λ f. cond (touched (removed_by all R) s.ground max_atoms f) false (st f)) max_atoms
-      ∙ mask_of_same state_size _ _ (λ f h. laid f)
-    where
-      is_added : R.added ≡ mask_of set_size ((model_of all P).effect true s.action)
-      is_added = added_by all P s.action R ruled
-
-      laid : (f : ℕ) → cond (touched R.added s.ground max_atoms f) true (cond (touched (removed_by all R) s.ground max_atoms f) false (st f))
-          ≡ (image D ((model_of all P).effect true s.action) s f || (st f && not (image D ((model_of all P).effect false s.action) s f)))
-      laid f =
-          rw
-          (removed_by_lem all P s.action R ruled, is_added, image_mask D (model_of all P) few valid s fits ((model_of all P).effect true s.action) (valid.effect_atom true s.action) f, image_mask D (model_of all P) few valid s fits ((model_of all P).effect false s.action) (valid.effect_atom false s.action) f)
-          (put_last (image D ((model_of all P).effect true s.action) s f) (image D ((model_of all P).effect false s.action) s f) (st f))
+    -- The mask after the step is that of the next state.
+    pub next_mask : next_in R s.ground (mask_of state_size st) ≡ mask_of state_size (next D M s st)
+    unfolding next_in next
+    next_mask =
+        ap (λ l. effects true R.added s.ground l max_atoms) (effects_mask false R.removed s.ground state_size st max_atoms)
+        ∙ effects_mask true R.added s.ground state_size (λ f. cond (touched R.removed s.ground max_atoms f) false (st f)) max_atoms
+        ∙ mask_of_same state_size _ _ (λ f h. laid f)
+      where
+        laid : (f : ℕ) → cond (touched R.added s.ground max_atoms f) true (cond (touched R.removed s.ground max_atoms f) false (st f))
+            ≡ (image D (M.effect true s.action) s f || (st f && not (image D (M.effect false s.action) s f)))
+        laid f =
+            rw
+            (ruled.added, ruled.removed, image_mask (M.effect true s.action) (valid.effect_atom true s.action) f, image_mask (M.effect false s.action) (valid.effect_atom false s.action) f)
+            (put_last (image D (M.effect true s.action) s f) (image D (M.effect false s.action) s f) (st f))

@@ -1,9 +1,10 @@
--- A mask after the effects of a step's bound facts below n under one end of the rules, one relation more at a time, and that it is the next mask in the end.
+-- The state after the effects of a step's bound facts below n, one relation more at a time, and that it is the next state in the end.
 use Prim.Native.Nat.{ℕ, ◌+◌, ◌-◌, ◌<◌}
 use native.Mathlib.Omega.{arith}
 use mathlib.Core.Path.{◌≡◌, refl, sym, ap, ap₂, ◌∙◌}
 use mathlib.Core.Bool.{Bool, true, false, cond, ◌&&◌, ◌||◌}
 use mathlib.Core.List.{List}
+use lib.Bits.{bit_or, or_add_and, and_le_l, and_le_r}
 use lib.Dec.{eqb}
 use lib.ListN.{length}
 use borrow.Author.Tests.{eqb-true}
@@ -17,7 +18,7 @@ use Rattle.quantify.proofs.Quantify.{below_out, below_cong}
 use Rattle.terms.specs.declared.Step.{Step}
 use Rattle.terms.specs.Schema.{Schema}
 use Rattle.terms.specs.Steps.{ground}
-use Rattle.statemask.specs.Statemask.{MoveRules, effects, removed_by, next_in, step_next, touched}
+use Rattle.statemask.specs.Statemask.{MoveRules, effects, next_in, step_next, touched}
 use Rattle.statemask.proofs.Masks as masks
 use Rattle.factgroups.specs.Groups.{StartsRelation, put_at, in_word}
 use Rattle.grounding.specs.Grounding.{Bounded}
@@ -26,21 +27,16 @@ use Rattle.factgroups.proofs.Tests.{below_join}
 use Rattle.grounding.proofs.Objects.{ground_relation}
 use Rattle.factgroups.proofs.Effects.{put_none, put_mask, put_length}
 
-module _ (all : Bool) (sch : Schema) (R : ℕ → MoveRules) (st : Step) (m : List ℕ) (n : ℕ) where
-  next_mask : next_below all sch R st m n ≡ mask_of 512 (test_bit (next_below all sch R st m n))
-  unfolding next_below
-  next_mask = put_mask true _ _
+next_mask : (sch : Schema) (R : ℕ → MoveRules) (st : Step) (m : List ℕ) (n : ℕ) → next_below sch R st m n ≡ mask_of 512 (test_bit (next_below sch R st m n))
+unfolding next_below
+next_mask sch R st m n = put_mask true _ _
 
-  pub next_length : (new : List ℕ) → new ≡ next_below all sch R st m n → length new ≡ 512
-  unfolding next_below
-  next_length new e = put_length true _ _ new e
-
--- what is removed and then what is added
-pub put_both : (p q : ℕ → Bool) (m mid new : List ℕ) → mid ≡ put_at false p m → new ≡ put_at true q mid → new ≡ put_at true q (put_at false p m)
-put_both p q m mid new e f = f ∙ ap (put_at true q) e
+pub next_length : (sch : Schema) (R : ℕ → MoveRules) (st : Step) (m : List ℕ) (n : ℕ) (new : List ℕ) → new ≡ next_below sch R st m n → length new ≡ 512
+unfolding next_below
+next_length sch R st m n new e = put_length true _ _ new e
 
 -- one relation more
-module _ (all : Bool) (sch : Schema) (R : ℕ → MoveRules) (st : Step) (m : List ℕ) (n : ℕ) (first : StartsRelation n) (bounded : Bounded st.binding) (g : ℕ → ℕ)
+module _ (sch : Schema) (R : ℕ → MoveRules) (st : Step) (m : List ℕ) (n : ℕ) (first : StartsRelation n) (bounded : Bounded st.binding) (g : ℕ → ℕ)
     (is : (j : ℕ) → j < 16 → g j ≡ ground sch st.binding (n + j)) where
   -- the facts of a relation's bound facts in a set
   word_touched : (s : List ℕ) (bits f : ℕ) → bits ≡ number (test_bit s) n 16
@@ -78,54 +74,60 @@ module _ (all : Bool) (sch : Schema) (R : ℕ → MoveRules) (st : Step) (m : Li
   mixed false false false true x no' = refl
   mixed false false false false x no' = refl
 
+  pub next_more : (removed' added' : ℕ) (old mid new : List ℕ)
+      → removed' ≡ number (test_bit (R st.action.0).removed) n 16
+      → added' ≡ number (test_bit (R st.action.0).added) n 16
+      → old ≡ next_below sch R st m n
+      → mid ≡ put_at false (in_word g removed') old
+      → new ≡ put_at true (in_word g added') mid
+      → new ≡ next_below sch R st m (n + 16)
+  unfolding next_below put_at
+  next_more removed' added' old mid new d a e p q =
+      rw (q, p, e)
+      (mask_of_same 512 _ _
+      (λ f h.
+      ap (cond (in_word g added' f) true)
+      (test_mask_of 512 _ f h ∙ ap (cond (in_word g removed' f) false)
+      (test_mask_of 512 _ f h ∙ ap (cond (touched (R st.action.0).added (ground sch st.binding) n f) true) (test_mask_of 512 _ f h)))
+      ∙ mixed (in_word g added' f) (in_word g removed' f) (touched (R st.action.0).added (ground sch st.binding) n f)
+      (touched (R st.action.0).removed (ground sch st.binding) n f) (test_bit m f) (apart (R st.action.0).added removed' f)
+      ∙ sym (ap₂ (λ (x y : Bool). cond x true y) (word_touched (R st.action.0).added added' f a)
+      (test_mask_of 512 _ f h ∙ ap (λ (x : Bool). cond x false (test_bit m f)) (word_touched (R st.action.0).removed removed' f d)))))
+
   none_in : (bits f : ℕ) → bits ≡ 0 → in_word g bits f ≡ false
   unfolding in_word
   none_in bits f e = rw e (is_false _ (λ t. let (j, h, some) = below_out 16 _ t in clash _ (and_out (bit_of 0 j) _ some).0 (bit_none j)))
 
-  -- what goes and what comes
-  abbrev gone : List ℕ
-  gone = removed_by all (R st.action.0)
+  -- where a relation has no effects, nothing changes
+  pub next_none : (removed' added' : ℕ) (old : List ℕ)
+      → removed' ≡ number (test_bit (R st.action.0).removed) n 16
+      → added' ≡ number (test_bit (R st.action.0).added) n 16
+      → bit_or removed' added' ≡ 0
+      → old ≡ next_below sch R st m n
+      → old ≡ next_below sch R st m (n + 16)
+  next_none removed' added' old d a none e =
+      let is_mask : old ≡ mask_of 512 (test_bit old) = masked old e in
+      let p : removed' ≡ 0 = omega (arith, or_add_and removed' added', and_le_r removed' added') in
+      let q : added' ≡ 0 = omega (arith, or_add_and removed' added', and_le_l removed' added') in
+      next_more removed' added' old old old d a e (put_none false _ old (λ f. none_in removed' f p) is_mask) (put_none true _ old (λ f. none_in added' f q) is_mask)
+    where
+      masked : (o : List ℕ) → o ≡ next_below sch R st m n → o ≡ mask_of 512 (test_bit o)
+      masked o e = rw e (next_mask sch R st m n)
 
-  abbrev come : List ℕ
-  come = (R st.action.0).added
-
-  module _ (removed' added' : ℕ) (old : List ℕ) (d : removed' ≡ number (test_bit (removed_by all (R st.action.0))) n 16)
-      (a : added' ≡ number (test_bit (R st.action.0).added) n 16) (e : old ≡ next_below all sch R st m n) where
-    pub next_more : (new : List ℕ) → new ≡ put_at true (in_word g added') (put_at false (in_word g removed') old) → new ≡ next_below all sch R st m (n + 16)
-    unfolding next_below put_at
-    next_more new q =
-        rw (q, e)
-        (mask_of_same 512 _ _
-        (λ f h.
-        ap (cond (in_word g added' f) true)
-        (test_mask_of 512 _ f h ∙ ap (cond (in_word g removed' f) false)
-        (test_mask_of 512 _ f h ∙ ap (cond (touched come (ground sch st.binding) n f) true) (test_mask_of 512 _ f h)))
-        ∙ mixed (in_word g added' f) (in_word g removed' f) (touched come (ground sch st.binding) n f) (touched gone (ground sch st.binding) n f) (test_bit m f)
-        (apart come removed' f)
-        ∙ sym (ap₂ (λ (x y : Bool). cond x true y) (word_touched come added' f a)
-        (test_mask_of 512 _ f h ∙ ap (λ (x : Bool). cond x false (test_bit m f)) (word_touched gone removed' f d)))))
-
-    -- where nothing is added, and where nothing changes at all
-    pub next_less : (new : List ℕ) → added' ≡ 0 → new ≡ put_at false (in_word g removed') old → new ≡ next_below all sch R st m (n + 16)
-    next_less new z q = next_more new (q ∙ put_none true _ _ (λ f. none_in added' f z) (put_mask false _ old))
-
-    pub next_none : removed' ≡ 0 → added' ≡ 0 → old ≡ next_below all sch R st m (n + 16)
-    next_none y z = next_less old z (put_none false _ old (λ f. none_in removed' f y) (rw e (next_mask all sch R st m n)))
-
-module _ (all : Bool) (sch : Schema) (R : ℕ → MoveRules) (st : Step) (m : List ℕ) (len : length m ≡ 512) (fits : Bytes m) where
+module _ (sch : Schema) (R : ℕ → MoveRules) (st : Step) (m : List ℕ) (len : length m ≡ 512) (fits : Bytes m) where
   is_mask : m ≡ mask_of 512 (test_bit m)
   is_mask = rw len at (mask_of_test_bit m fits)
 
-  pub next_first : m ≡ next_below all sch R st m 0
+  pub next_first : m ≡ next_below sch R st m 0
   unfolding next_below touched below
   next_first =
       let none : m ≡ put_at false (λ f. false) m = put_none false (λ f. false) m (λ f. refl) is_mask in
       none ∙ put_none true (λ f. false) (put_at false (λ f. false) m) (λ f. refl) (put_mask false (λ f. false) m)
 
-  pub next_last : (n : ℕ) → n ≡ 256 → next_below all sch R st m n ≡ step_next all sch R st m
+  pub next_last : (n : ℕ) → n ≡ 256 → next_below sch R st m n ≡ step_next sch R st m
   unfolding next_below touched put_at step_next next_in
   next_last n e =
-      let gone : List ℕ = removed_by all (R st.action.0) in
+      let gone : List ℕ = (R st.action.0).removed in
       let come : List ℕ = (R st.action.0).added in
       let g : ℕ → ℕ = ground sch st.binding in
       let first : effects false gone g m 256 ≡ _ = ap (λ (o : List ℕ). effects false gone g o 256) is_mask ∙ masks.effects_mask false gone g 512 (test_bit m) 256 in

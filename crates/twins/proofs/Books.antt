@@ -16,18 +16,18 @@ use Rattle.format.specs.Order.{plan}
 use Rattle.quantify.specs.Quantify.{any}
 use Rattle.model.specs.Domain.{Domain, State, GroundAction}
 use Rattle.model.specs.Model.{Model, Fitting, run}
-use Rattle.model.specs.Learned.{Rules, learned_rules, model_of, unbound_effect, conflicting}
-use Rattle.model.specs.Check.{run_rules, refuted}
+use Rattle.model.specs.Learned.{learned_rules, model_of, learned, unbound_effect, conflicting}
+use Rattle.model.specs.Check.{refuted}
 use Rattle.model.specs.Alike.{SameMembers, SameFailed}
 use Rattle.model.proofs.Order.{fitting_alike, rules_alike, conflicting_alike, unbound_alike}
 use Rattle.jobs.specs.Planning.{domain, ground_action, transition, failed, went_steps, failed_steps, schema_of, steps_of_book, transitions_of, failed_of, plan_of}
-use Rattle.jobs.specs.Learn.{rules_from}
+use Rattle.jobs.specs.Learn.{rules_from, learned_from}
 use Rattle.jobs.specs.Judge.{FitsBook}
 use Rattle.demand.proofs.Agree.{domain_same}
 use Rattle.wellformed.proofs.Headers.{right_schema}
 use Rattle.quantify.proofs.Quantify.{any_alike}
 use Rattle.twins.specs.Twins.{SameTransitions}
-use Rattle.twins.proofs.Trimmed.{trimmed, trimmed_transition, trimmed_failed, OfAtoms, ends_of_atoms, rules_trimmed, conflicting_trimmed, any_unbound_trimmed, any_refuted_trimmed, run_trimmed, rules_run_trimmed, fitting_trimmed}
+use Rattle.twins.proofs.Trimmed.{trimmed, trimmed_transition, trimmed_failed, OfAtoms, learned_of_atoms, rules_trimmed, conflicting_trimmed, any_unbound_trimmed, any_refuted_trimmed, run_trimmed, fitting_trimmed}
 use Rattle.twins.proofs.Told.{went_same, failed_same, told_same}
 
 -- ---- schemas that say the same
@@ -90,9 +90,14 @@ module _ (f g : Form) (s t : List ℕ) (n : ℕ) (same : SameTransitions f g s t
       rules_trimmed D (transitions_of f s) ∙ rules_alike D _ _ members_same ∙ sym (rules_trimmed D (transitions_of g t))
       ∙ ap (λ (E : Domain). learned_rules E (transitions_of g t)) domains
 
-  own : (all : Bool) → OfAtoms (domain (schema_of s)) (model_of all (rules_from f s))
-  unfolding rules_from
-  own = ends_of_atoms (domain (schema_of s)) (transitions_of f s)
+  -- so the same model,
+  pub learned_same : learned_from f s ≡ learned_from g t
+  unfolding learned_from rules_from learned
+  learned_same = ap model_of rules_same
+
+  pub own : OfAtoms (domain (schema_of s)) (learned_from f s)
+  unfolding learned_from
+  own = learned_of_atoms (domain (schema_of s)) (transitions_of f s)
 
   -- the same moves have a conflict,
   pub conflicts_same : conflicting (domain (schema_of s)) (transitions_of f s) ≡ conflicting (domain (schema_of t)) (transitions_of g t)
@@ -111,12 +116,12 @@ module _ (f g : Form) (s t : List ℕ) (n : ℕ) (same : SameTransitions f g s t
       ∙ ap (λ (E : Domain). any (unbound_effect E) (transitions_of g t)) domains
 
   -- and so is row 28,
-  pub refuted_same : any (refuted (domain (schema_of s)) (rules_from f s)) (failed_of f s) ≡ any (refuted (domain (schema_of t)) (rules_from g t)) (failed_of g t)
+  pub refuted_same : any (refuted (domain (schema_of s)) (learned_from f s)) (failed_of f s) ≡ any (refuted (domain (schema_of t)) (learned_from g t)) (failed_of g t)
   refuted_same =
       let D : Domain = domain (schema_of s) in
-      let R : Rules = rules_from f s in
-      sym (any_refuted_trimmed D R own (failed_of f s)) ∙ any_alike (refuted D R) _ _ failures_same ∙ any_refuted_trimmed D R own (failed_of g t)
-      ∙ ap₂ (λ (E : Domain) (S : Rules). any (refuted E S) (failed_of g t)) domains rules_same
+      let M : Model = learned_from f s in
+      sym (any_refuted_trimmed D M own (failed_of f s)) ∙ any_alike (refuted D M) _ _ failures_same ∙ any_refuted_trimmed D M own (failed_of g t)
+      ∙ ap₂ (λ (E : Domain) (N : Model). any (refuted E N) (failed_of g t)) domains learned_same
 
   -- the same models fit,
   pub fit_over : (M : Model) → FitsBook f s M → FitsBook g t M
@@ -125,22 +130,12 @@ module _ (f g : Form) (s t : List ℕ) (n : ℕ) (same : SameTransitions f g s t
       let cut = (fitting_alike D _ _ members_same _ _ failures_same M).0 ((fitting_trimmed D (transitions_of f s) (failed_of f s) M).0 h) in
       subst (λ (E : Domain). Fitting E (transitions_of g t) (failed_of g t) M) domains ((fitting_trimmed D (transitions_of g t) (failed_of g t) M).1 cut)
 
-  -- what a plan comes to, trimmed or not, an order's plan comes to with both books,
-  plans_same : {A : Type 0} (comes : Domain → List GroundAction → A)
-      → ((plan : List GroundAction) → comes (domain (schema_of s)) (map (trimmed (domain (schema_of s))) plan) ≡ comes (domain (schema_of s)) plan)
-      → (o : List ℕ) → comes (domain (schema_of s)) (plan_of (schema_of s) o) ≡ comes (domain (schema_of t)) (plan_of (schema_of t) o)
-  plans_same comes cut o =
-      sym (cut (plan_of (schema_of s) o)) ∙ ap (comes (domain (schema_of s))) (plan_same (schema_of s) (schema_of t) same.comparable.schema o) ∙ cut (plan_of (schema_of t) o)
-      ∙ ap (λ (E : Domain). comes E (plan_of (schema_of t) o)) domains
-
-  -- so under a model of atoms,
+  -- and under a model of atoms an order's plan comes to the same.
   pub runs_same : (M : Model) → OfAtoms (domain (schema_of s)) M → (o : List ℕ) (st : State) (k : ℕ)
       → run (domain (schema_of s)) M (plan_of (schema_of s) o) st k ≡ run (domain (schema_of t)) M (plan_of (schema_of t) o) st k
-  runs_same M of-atoms o st k = plans_same (λ E plan. run E M plan st k) (λ plan. run_trimmed (domain (schema_of s)) M of-atoms plan st k) o
-
-  -- and by the learned rules.
-  pub rules_runs_same : (o : List ℕ) (st : State)
-      → run_rules (domain (schema_of s)) (rules_from f s) (plan_of (schema_of s) o) st ≡ run_rules (domain (schema_of t)) (rules_from g t) (plan_of (schema_of t) o) st
-  rules_runs_same o st =
-      plans_same (λ E plan. run_rules E (rules_from f s) plan st) (λ plan. rules_run_trimmed (domain (schema_of s)) (rules_from f s) own plan st) o
-      ∙ ap (λ (R : Rules). run_rules (domain (schema_of t)) R (plan_of (schema_of t) o) st) rules_same
+  runs_same M own o st k =
+      let D : Domain = domain (schema_of s) in
+      sym (run_trimmed D M own (plan_of (schema_of s) o) st k)
+      ∙ ap (λ (plan : List GroundAction). run D M plan st k) (plan_same (schema_of s) (schema_of t) same.comparable.schema o)
+      ∙ run_trimmed D M own (plan_of (schema_of t) o) st k
+      ∙ ap (λ (E : Domain). run E M (plan_of (schema_of t) o) st k) domains

@@ -1,7 +1,7 @@
 -- Checking an order against two books with the same transitions: answers that are the same but for the places of 11 and 28, the same position, the
 -- same end sheet.
 use Prim.Native.Nat.{ℕ}
-use mathlib.Core.Path.{◌≡◌, ap}
+use mathlib.Core.Path.{◌≡◌, ap, ◌∙◌}
 use mathlib.Core.Bool.{not}
 use mathlib.Core.List.{List}
 use lib.Dec.{eqb}
@@ -12,27 +12,31 @@ use Rattle.limits.specs.Limits.{end_sheet_size}
 use Rattle.format.specs.Form.{Form}
 use Rattle.format.specs.Order.{step_count}
 use Rattle.model.specs.Domain.{State}
-use Rattle.model.specs.Model.{Run}
-use Rattle.model.specs.Span.{Span}
-use Rattle.jobs.specs.Planning.{schema_of, start_states, goal_of}
+use Rattle.model.specs.Model.{Model, Run, run}
+use Rattle.jobs.specs.Planning.{domain, schema_of, start_states, plan_of, goal_of}
+use Rattle.jobs.specs.Learn.{learned_from}
 use Rattle.jobs.specs.Check.{plan_run, order_run, run_answer, start_answer, first_failing, starts_answer, before_plan, check, end_sheet, end_after, check_bytes}
 use Rattle.wellformed.proofs.Headers.{right_schema}
 use Rattle.twins.specs.Twins.{SameTransitions}
 use Rattle.twins.proofs.Answers.{Twin, equal, twin_bind, twin_kept, twin_then, twin_position}
 use Rattle.twins.proofs.Order.{order_form_same}
-use Rattle.twins.proofs.Books.{rules_runs_same}
+use Rattle.twins.proofs.Books.{own, learned_same, runs_same}
 use Rattle.twins.proofs.Learning.{learnable_twin}
 
 module _ (f g : Form) (s t : List ℕ) (n : ℕ) (same : SameTransitions f g s t n) (o : List ℕ) where
   -- from each start the plan comes to the same
   run_same : order_run f s o ≡ order_run g t o
   unfolding order_run plan_run
-  run_same = λ i start. rules_runs_same f g s t n same o start i
+  run_same =
+      λ i start.
+      (runs_same f g s t n same (learned_from f s) (own f g s t n same) o start 1
+      ∙ ap (λ (M : Model). run (domain (schema_of t)) M (plan_of (schema_of t) o) start 1) (learned_same f g s t n same))
+      i
 
   starts_answer_same : starts_answer f s o ≡ starts_answer g t o
   unfolding starts_answer start_answer
   starts_answer_same =
-      ap (λ (r : State → Run Span). first_failing (λ start. run_answer (step_count o) (goal_of o) (r start)) (step_count o) 1 (start_states o)) run_same
+      ap (λ (r : State → Run). first_failing (λ start. run_answer (step_count o) (goal_of o) (r start)) (step_count o) 1 (start_states o)) run_same
 
   before_plan_twin : (size : ℕ) → Twin (before_plan f s o size) (before_plan g t o size)
   unfolding before_plan
@@ -59,4 +63,4 @@ module _ (f g : Form) (s t : List ℕ) (n : ℕ) (same : SameTransitions f g s t
   unfolding check_bytes
   check_bytes_same lent =
       twin_kept _ _ _ _ lent (check_twin (length lent))
-      (ap (λ (r : State → Run Span). end_after (λ start. end_sheet (r start)) (start_states o) lent) run_same)
+      (ap (λ (r : State → Run). end_after (λ start. end_sheet (r start)) (start_states o) lent) run_same)

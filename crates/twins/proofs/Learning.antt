@@ -14,7 +14,7 @@ use Rattle.quantify.specs.Quantify.{least}
 use Rattle.model.specs.Learned.{Rules, unbound_effect}
 use Rattle.model.specs.Check.{refuted}
 use Rattle.jobs.specs.Planning.{domain, transition, failed, went_steps, failed_steps, schema_of, steps_of_book, transitions_of, failed_of}
-use Rattle.jobs.specs.Learn.{unbound_effects, conflict_answer, conflicting_move, inconsistency, rules_from, refuted_steps, refutation, learnable, rule_blocks, rule_sheet, learn, learn_bytes}
+use Rattle.jobs.specs.Learn.{unbound_effects, conflict_answer, conflicting_move, inconsistency, learned_from, refuted_steps, refutation, learnable, rule_blocks, rule_sheet, learn, learn_bytes}
 use Rattle.quantify.proofs.Mapped.{any_map}
 use Rattle.twins.specs.Twins.{SameTransitions}
 use Rattle.twins.proofs.Answers.{Twin, equal, twin_bind, first_twin, twin_kept}
@@ -43,9 +43,9 @@ module _ (f g : Form) (s t : List ℕ) (n : ℕ) (same : SameTransitions f g s t
   unfolding failed_of refutation refuted_steps among impossible_rows is_impossible book_offset_rows is_book_offset
   refutation_twin =
       first_twin _ _ 28 _ _ (failed_steps (steps_of_book f s)) (failed_steps (steps_of_book g t)) refl
-      (sym (any_map (refuted (domain (schema_of s)) (rules_from f s)) (failed (schema_of s)) (failed_steps (steps_of_book f s)))
+      (sym (any_map (refuted (domain (schema_of s)) (learned_from f s)) (failed (schema_of s)) (failed_steps (steps_of_book f s)))
       ∙ refuted_same f g s t n same
-      ∙ any_map (refuted (domain (schema_of t)) (rules_from g t)) (failed (schema_of t)) (failed_steps (steps_of_book g t)))
+      ∙ any_map (refuted (domain (schema_of t)) (learned_from g t)) (failed (schema_of t)) (failed_steps (steps_of_book g t)))
 
   -- ---- learning
 

@@ -2,22 +2,20 @@
 -- transitions, steps that did not go and plans, so that books whose groundings differ elsewhere need only be compared trimmed.
 use Prim.Native.Nat.{ℕ, suc}
 use mathlib.Core.Path.{◌≡◌, refl, sym, ap, ap₂, ◌∙◌, subst}
-use mathlib.Core.Logic.{◌⊎◌, inl, inr, ◌↔◌}
+use mathlib.Core.Logic.{◌↔◌}
 use mathlib.Core.Bool.{Bool, true, false, cond, ◌&&◌, ◌||◌, not}
 use mathlib.Core.List.{List, [], ◌∷◌, map}
 use lib.Dec.{eqb}
-use Rattle.truth.specs.Bools.{clash, is_false, and_out, guarded}
+use Rattle.truth.specs.Bools.{clash, is_false, guarded}
 use Rattle.quantify.specs.Quantify.{same, any}
 use Rattle.model.specs.Domain.{Domain, State, GroundAction, Transition, Failed}
 use Rattle.model.specs.Model.{Model, Valid, Fits, Consistent, Fitting, image, inapplicable, next, Run, stopped, run}
-use Rattle.model.specs.Span.{Span, sure}
-use Rattle.model.specs.Learned.{Rules, learned_rules, model_of, lowest, highest, unbound_effect, conflicting}
-use Rattle.model.specs.Check.{next_known, run_known, run_rules, refuted}
+use Rattle.model.specs.Learned.{learned_rules, learned, unbound_effect, conflicting}
+use Rattle.model.specs.Check.{refuted}
 use Rattle.model.specs.Alike.{Alike, SameOfAction, Renumbered, none, more}
 use Rattle.quantify.proofs.Quantify.{below_same}
 use Rattle.model.proofs.OneAction.{rules_equal, same_of_renumbered, rules_same, conflicting_same}
-use Rattle.model.proofs.Seen.{needed_out, may_out, added_out, removed_out}
-use Rattle.model.proofs.Between.{removes_out}
+use Rattle.model.proofs.Seen.{need_out, effect_out}
 use Rattle.quantify.proofs.Mapped.{mem_map_out, mem_map_in}
 
 -- a ground action with no fact but those of its atoms
@@ -41,18 +39,9 @@ pub record OfAtoms (D : Domain) (M : Model) : Type 0 where
 pub valid_of_atoms : (D : Domain) (M : Model) → Valid D M → OfAtoms D M
 valid_of_atoms D M v = record { needs = v.needed_atom; effects = v.effect_atom }
 
--- and those of both ends of the learned rules, in conflict or not
-pub ends_of_atoms : (D : Domain) (ts : List Transition) (all : Bool) → OfAtoms D (model_of all (learned_rules D ts))
-unfolding model_of
-ends_of_atoms D ts all = record { needs = λ b a n e. (needed_out D ts a n (and_out b _ e).1).0; effects = effects }
-  where
-    removed : (a n : ℕ) → ((all ≡ true) × ((learned_rules D ts).may_remove a n ≡ true)) ⊎ ((learned_rules D ts).removed a n ≡ true) → D.atom a n ≡ true
-    removed a n (inl h) = (may_out D ts a n h.1).0
-    removed a n (inr h) = (removed_out D ts a n h).0
-
-    effects : (b : Bool) (a n : ℕ) → (model_of all (learned_rules D ts)).effect b a n ≡ true → D.atom a n ≡ true
-    effects true a n e = (added_out D ts a n e).0
-    effects false a n e = removed a n (removes_out all (learned_rules D ts) a n e)
+-- and those of a learned one
+pub learned_of_atoms : (D : Domain) (ts : List Transition) → OfAtoms D (learned D ts)
+learned_of_atoms D ts = record { needs = λ b a n e. (need_out D ts b a n e).0; effects = λ b a n e. (effect_out D ts b a n e).0 }
 
 module _ (D : Domain) where
   trimmed_ground : (s : GroundAction) (n : ℕ) → D.atom s.action n ≡ true → (trimmed D s).ground n ≡ s.ground n
@@ -128,10 +117,20 @@ module _ (D : Domain) where
     unfolding run
     run_trimmed [] st k = refl
     run_trimmed (s ∷ plan) st k =
-        ap₂ (λ (b : Bool) (r : Run State). elim b as (λ c. Run State) [ true ↦ stopped k | false ↦ r ]) (inapplicable_trimmed s st)
+        ap₂ (λ (b : Bool) (r : Run). elim b as (λ c. Run) [ true ↦ stopped k | false ↦ r ]) (inapplicable_trimmed s st)
         (ap (λ (x : State). run D M (map (trimmed D) plan) x (suc k)) (next_trimmed s st) ∙ run_trimmed plan (next D M s st) (suc k))
 
-    -- and a transition fits.
+    -- row 28 is met by both, or by neither,
+    refuted_trimmed : (u : Failed) → refuted D M (trimmed_failed D u) ≡ refuted D M u
+    unfolding refuted trimmed_failed
+    refuted_trimmed u = ap not (inapplicable_trimmed u.step u.state)
+
+    pub any_refuted_trimmed : (us : List Failed) → any (refuted D M) (map (trimmed_failed D) us) ≡ any (refuted D M) us
+    unfolding any
+    any_refuted_trimmed [] = refl
+    any_refuted_trimmed (u ∷ us) = ap₂ (λ (b c : Bool). b || c) (refuted_trimmed u) (any_refuted_trimmed us)
+
+    -- a transition fits,
     fits_trimmed : (t : Transition) → Fits D M t ↔ Fits D M (trimmed_transition D t)
     unfolding trimmed_transition
     fits_trimmed t =
@@ -141,39 +140,7 @@ module _ (D : Domain) where
           λ h. record { goes = sym goes ∙ h.goes; yields = λ f. h.yields f ∙ ap (λ (x : State). x f) yields },
         )
 
-  -- ---- rules
-
-  module _ (R : Rules) (own : (all : Bool) → OfAtoms D (model_of all R)) where
-    next_known_trimmed : (s : GroundAction) (sp : Span) → next_known D (lowest R) (highest R) (trimmed D s) sp ≡ next_known D (lowest R) (highest R) s sp
-    unfolding next_known
-    next_known_trimmed s sp =
-        λ i. record { low = next_trimmed (lowest R) (own true) s sp.low i; high = next_trimmed (highest R) (own false) s sp.high i }
-
-    known_trimmed : (plan : List GroundAction) (sp : Span) (k : ℕ) → run_known D (lowest R) (highest R) (map (trimmed D) plan) sp k ≡ run_known D (lowest R) (highest R) plan sp k
-    unfolding run_known
-    known_trimmed [] sp k = refl
-    known_trimmed (s ∷ plan) sp k =
-        ap₂ (λ (b : Bool) (r : Run Span). elim b as (λ c. Run Span) [ true ↦ stopped k | false ↦ r ]) (inapplicable_trimmed (lowest R) (own true) s sp.low)
-        (ap (λ (x : Span). run_known D (lowest R) (highest R) (map (trimmed D) plan) x (suc k)) (next_known_trimmed s sp) ∙ known_trimmed plan (next_known D (lowest R) (highest R) s sp) (suc k))
-
-    -- A plan comes to the same by rules too,
-    pub rules_run_trimmed : (plan : List GroundAction) (st : State) → run_rules D R (map (trimmed D) plan) st ≡ run_rules D R plan st
-    unfolding run_rules
-    rules_run_trimmed plan st = known_trimmed plan (sure st) 1
-
-    -- and row 28 is met by both, or by neither.
-    refuted_trimmed : (u : Failed) → refuted D R (trimmed_failed D u) ≡ refuted D R u
-    unfolding refuted trimmed_failed
-    refuted_trimmed u = ap not (inapplicable_trimmed (lowest R) (own true) u.step u.state)
-
-    pub any_refuted_trimmed : (us : List Failed) → any (refuted D R) (map (trimmed_failed D) us) ≡ any (refuted D R) us
-    unfolding any
-    any_refuted_trimmed [] = refl
-    any_refuted_trimmed (u ∷ us) = ap₂ (λ (b c : Bool). b || c) (refuted_trimmed u) (any_refuted_trimmed us)
-
-  -- ---- fitting models
-
-  -- The same models are consistent,
+  -- the same models are consistent,
   consistent_trimmed : (ts : List Transition) (M : Model) → Consistent D ts M ↔ Consistent D (map (trimmed_transition D) ts) M
   consistent_trimmed ts M = (
     λ h.
@@ -196,7 +163,6 @@ module _ (D : Domain) where
   fitting_trimmed ts us M = (
     λ h.
         record {
-          positive = h.positive;
           consistent = (consistent_trimmed ts M).0 h.consistent;
           bars = λ v m.
               let (u, k, e) = mem_map_out (trimmed_failed D) us m in
@@ -205,7 +171,6 @@ module _ (D : Domain) where
         },
     λ h.
         record {
-          positive = h.positive;
           consistent = (consistent_trimmed ts M).1 h.consistent;
           bars = λ u m.
               sym (inapplicable_trimmed M (valid_of_atoms D M h.consistent.valid) u.step u.state)

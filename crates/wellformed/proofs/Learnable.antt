@@ -18,7 +18,7 @@ use Rattle.model.specs.Learned.{unbound_effect, conflicting}
 use Rattle.model.specs.Check.{inconsistent, refuted, unfit}
 use Rattle.quantify.proofs.Quantify.{least_none}
 use Rattle.jobs.specs.Planning.{domain, transition, failed, went_steps, failed_steps, schema_of, steps_of_book, transitions_of, failed_of}
-use Rattle.jobs.specs.Learn.{unbound_effects, conflict_answer, conflicting_move, inconsistency, rules_from, refuted_steps, refutation, learnable}
+use Rattle.jobs.specs.Learn.{unbound_effects, conflict_answer, conflicting_move, inconsistency, learned_from, refuted_steps, refutation, learnable}
 use Rattle.jobs.proofs.FirstRefused.{first_refused_none, first_refused_some}
 use Rattle.quantify.proofs.Mapped.{any_map}
 
@@ -79,11 +79,11 @@ inconsistency_some form s e = go (decide (any (unbound_effect D) ts))
 -- row 28 is met exactly if some step that did not go refutes what is learned
 module _ (form : Form) (s : List ℕ) where
   abbrev refutes : Bool
-  refutes = any (refuted (domain (schema_of s)) (rules_from form s)) (failed_of form s)
+  refutes = any (refuted (domain (schema_of s)) (learned_from form s)) (failed_of form s)
 
-  each_refuted : refutes ≡ any (λ x. refuted (domain (schema_of s)) (rules_from form s) (failed (schema_of s) x)) (failed_steps (steps_of_book form s))
+  each_refuted : refutes ≡ any (λ x. refuted (domain (schema_of s)) (learned_from form s) (failed (schema_of s) x)) (failed_steps (steps_of_book form s))
   unfolding failed_of
-  each_refuted = any_map (refuted (domain (schema_of s)) (rules_from form s)) (failed (schema_of s)) (failed_steps (steps_of_book form s))
+  each_refuted = any_map (refuted (domain (schema_of s)) (learned_from form s)) (failed (schema_of s)) (failed_steps (steps_of_book form s))
 
   pub refutation_none : refutes ≡ false → refutation form s ≡ Good 0
   unfolding refutation refuted_steps
@@ -103,7 +103,7 @@ fit_clean form s fit = (neither (inconsistent_in form s) _ fit).0
 module _ (form : Form) (s : List ℕ) (n : ℕ) (good : look_over form s ≡ Good n) where
   -- Where no row is met, a book of good form is learnable,
   pub learnable_fit : unfit_in form s ≡ false → learnable form s ≡ Good n
-  unfolding learnable unfit rules_from
+  unfolding learnable unfit learned_from
   learnable_fit fit =
       let (clean, free) = neither (inconsistent_in form s) (refutes form s) fit in
       bind_good (look_over form s) _ n good ∙ bind_good (inconsistency form s) _ 0 (inconsistency_none form s clean)
@@ -111,7 +111,7 @@ module _ (form : Form) (s : List ℕ) (n : ℕ) (good : look_over form s ≡ Goo
 
   -- and else it is refused as impossible, with 11, 12 or 28.
   pub learnable_unfit : unfit_in form s ≡ true → (num p : ℕ) × (learnable form s ≡ Refused num p) × (is_impossible num ≡ true)
-  unfolding learnable unfit rules_from impossible_rows is_impossible among
+  unfolding learnable unfit learned_from impossible_rows is_impossible among
   learnable_unfit e = go (decide (inconsistent_in form s))
     where
       go : (inconsistent_in form s ≡ true) ⊎ (inconsistent_in form s ≡ false) → (num p : ℕ) × (learnable form s ≡ Refused num p) × (is_impossible num ≡ true)

@@ -5,7 +5,7 @@
 
 use crate::answer::{Answer, Refusal};
 use crate::calls::{unpacked, Calls};
-use crate::definition::end_sheet_with;
+use crate::definition::end_sheet;
 use crate::gen::Fact;
 use crate::limits::{FACT_LIMIT, RULES_LENGTH, SET_LENGTH};
 use crate::Second;
@@ -53,20 +53,19 @@ fn execute(book: &[u8], order: &[u8], rules: &[u8], end: &mut [u8]) -> Answer {
     for position in 1..=starts {
         let facts = &order[at + 2..][..3 * number(at)];
         at += 2 + facts.len();
-        let known = facts.chunks_exact(3).map(fact).collect();
-        let mut state = State { known, unknown: Vec::new() };
+        let mut state: Vec<Fact> = facts.chunks_exact(3).map(fact).collect();
         for (number, step) in (1..).zip(order[steps_at..].chunks_exact(5)) {
             if !execute_step(book, step, rules, &mut state) {
                 return Refusal::NeedUnmet.at(number).from_start(position);
             }
         }
         let mut goal = order[goal_at..steps_at].chunks_exact(4);
-        let missed = |entry: &[u8]| !state.has_value(&fact(&entry[1..]), entry[0] == 1);
+        let missed = |entry: &[u8]| (entry[0] == 1) != state.contains(&fact(&entry[1..]));
         if let Some(index) = goal.position(missed) {
             return Refusal::GoalMissed.at(index + 1).from_start(position);
         }
         if starts == 1 {
-            end.copy_from_slice(&end_sheet_with(&state.known, &state.unknown));
+            end.copy_from_slice(&end_sheet(&state));
         }
     }
     Answer::success((order.len() - steps_at) / 5)
@@ -76,34 +75,20 @@ fn fact(bytes: &[u8]) -> Fact {
     [bytes[0], bytes[1], bytes[2]]
 }
 
-/// The facts known to hold, and those unknown.
-struct State {
-    known: Vec<Fact>,
-    unknown: Vec<Fact>,
-}
-
-impl State {
-    /// Whether this fact is known to hold, or known not to.
-    fn has_value(&self, fact: &Fact, holds: bool) -> bool {
-        self.known.contains(fact) == holds && !self.unknown.contains(fact)
-    }
-}
-
 /// Whether the step goes; the state is then the one after it.
-fn execute_step(book: &[u8], step: &[u8], rules: &[u8], state: &mut State) -> bool {
+fn execute_step(book: &[u8], step: &[u8], rules: &[u8], state: &mut Vec<Fact>) -> bool {
     let sets = rules[RULES_LENGTH * (usize::from(step[0]) - 1)..].chunks_exact(SET_LENGTH);
     let facts: Vec<Vec<Fact>> = sets.take(4).map(|set| bound_facts(book, step, set)).collect();
-    let [pre, possible_delete, add, delete] = [&facts[0], &facts[1], &facts[2], &facts[3]];
-    let State { known, unknown } = state;
-    if pre.iter().any(|fact| !known.contains(fact)) {
+    let [pre_pos, pre_neg, add, delete] = [&facts[0], &facts[1], &facts[2], &facts[3]];
+    if pre_pos.iter().any(|fact| !state.contains(fact))
+        || pre_neg.iter().any(|fact| state.contains(fact))
+    {
         return false;
     }
-    unknown.retain(|fact| !add.contains(fact) && !delete.contains(fact));
-    unknown.extend(known.extract_if(.., |fact| possible_delete.contains(fact)));
-    known.retain(|fact| !delete.contains(fact));
+    state.retain(|fact| !delete.contains(fact));
     for fact in add {
-        if !known.contains(fact) && known.len() + unknown.len() < FACT_LIMIT {
-            known.push(*fact);
+        if !state.contains(fact) && state.len() < FACT_LIMIT {
+            state.push(*fact);
         }
     }
     true

@@ -6,7 +6,7 @@ use super::lent::Lent;
 use super::Run;
 use crate::answer::Answer;
 use crate::calls::{unpacked, Calls, Form, Job};
-use crate::definition::{self, barred_both_ways, Defined, Unknowns};
+use crate::definition::{self, Defined};
 use crate::gen::plan::any;
 use crate::gen::plan::order::Plan;
 use crate::gen::plan::tiny::most_atoms;
@@ -16,9 +16,8 @@ use crate::limits::{END_SHEET_LENGTH, RULES_LENGTH};
 /// Whether a hall is of a kind of outcome.
 pub type IsMet = fn(&Outcome<'_>) -> bool;
 
-/// Of 24,000 halls 1,000 of each kind, 600 of those that need open facts or needs to hold
-/// alone.
-const KINDS: [Kind<IsMet>; 19] = [
+/// Of 24,000 halls 1,000 of each kind.
+const KINDS: [Kind<IsMet>; 11] = [
     Kind { name: "11", one_in: 24, is_met: |by| by.checked.number == 11 },
     Kind { name: "12", one_in: 24, is_met: |by| by.checked.number == 12 },
     Kind { name: "28", one_in: 24, is_met: |by| by.checked.number == 28 },
@@ -34,25 +33,12 @@ const KINDS: [Kind<IsMet>; 19] = [
         one_in: 24,
         is_met: |by| by.passes_beside(),
     },
-    Kind { name: "28 by needs to hold alone", one_in: 40, is_met: |by| by.needs_met_now() },
-    Kind { name: "passes with an open fact", one_in: 40, is_met: |by| by.unknowns.end },
-    Kind { name: "19 by an open need", one_in: 40, is_met: |by| by.unknowns.need },
-    Kind { name: "20 by an open entry of 1", one_in: 40, is_met: |by| by.unknowns.wanted },
-    Kind { name: "20 by an open entry of 0", one_in: 40, is_met: |by| by.unknowns.unwanted },
-    Kind { name: "an open fact added", one_in: 40, is_met: |by| by.unknowns.added },
-    Kind { name: "an open fact removed", one_in: 40, is_met: |by| by.unknowns.deleted },
-    Kind {
-        name: "an unrecorded move leaves facts open",
-        one_in: 40,
-        is_met: |by| by.unknowns.unrecorded,
-    },
 ];
 
 /// What a plan comes to.
 pub struct Outcome<'a> {
     plan: &'a Plan,
     checked: Answer,
-    unknowns: Unknowns,
 }
 
 impl Outcome<'_> {
@@ -74,11 +60,6 @@ impl Outcome<'_> {
     fn passes_beside(&self) -> bool {
         self.steps() > Some(0) && self.plan.book.has_inapplicable()
     }
-
-    /// 28, which needs that a fact does not hold would prevent.
-    fn needs_met_now(&self) -> bool {
-        self.checked.number == 28 && barred_both_ways(&self.plan.book)
-    }
 }
 
 /// Compares `calls` with the definition, or tells the first hall on which they differ.
@@ -88,14 +69,14 @@ pub fn definition(run: Run, calls: &impl Calls) -> Result<Kinds<IsMet>, String> 
         let plan = any::draw(&mut Rng::of_case(run.seed, index));
         let [full, short] = Form::BOTH.map(|form| compare(calls, &plan, form, index as u8));
         let in_case = |note| format!("seed {} hall {index}: {note}", run.seed);
-        let Defined { answer: checked, unknowns, .. } = short.and(full).map_err(in_case)?;
-        met.count(|is_met| is_met(&Outcome { plan: &plan, checked, unknowns }));
+        let checked = short.and(full).map_err(in_case)?;
+        met.count(|is_met| is_met(&Outcome { plan: &plan, checked }));
     }
     Ok(met)
 }
 
-/// The check by definition, if both calls do as defined with the book in this form.
-fn compare(calls: &impl Calls, plan: &Plan, form: Form, fill: u8) -> Result<Defined, String> {
+/// The answer to the check, if both calls do as defined with the book in this form.
+fn compare(calls: &impl Calls, plan: &Plan, form: Form, fill: u8) -> Result<Answer, String> {
     let (book, order) = (plan.book.in_form(form).bytes(), plan.order.bytes());
     let learned = definition::learn(&plan.book, form);
     let checked = definition::check(&plan.book, form, &plan.order);
@@ -105,7 +86,7 @@ fn compare(calls: &impl Calls, plan: &Plan, form: Form, fill: u8) -> Result<Defi
     {
         let mut lent = Lent::new(output, fill);
         let said = unpacked(job.run(calls, &book, form.number(), &order, lent.theirs()));
-        let Defined { answer, written, .. } = defined;
+        let Defined { answer, written } = defined;
         if let Some(bytes) = written {
             lent.ours().copy_from_slice(bytes);
         }
@@ -118,5 +99,5 @@ fn compare(calls: &impl Calls, plan: &Plan, form: Form, fill: u8) -> Result<Defi
             ));
         }
     }
-    Ok(checked)
+    Ok(checked.answer)
 }

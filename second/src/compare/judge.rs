@@ -3,17 +3,16 @@
 //! book.
 //!
 //! The judge enumerates the action models; nothing of this implementation's
-//! learning or checking is asked. He also says what he would with lists of a wider kind.
+//! learning or checking is asked.
 
 use std::fmt;
 
-use super::both_ways::BothWays;
 use super::kinds::Kind;
 use super::verdicts::{Decision, IsMet, Verdicts, CROWDED, TINY};
 use super::Run;
 use crate::answer::{Answer, Refusal};
 use crate::calls::{unpacked, Calls, Form};
-use crate::definition::{self, end_sheet_with};
+use crate::definition::end_sheet;
 use crate::gen::plan::order::Plan;
 use crate::gen::plan::{crowded_hall, tiny};
 use crate::gen::{OrderDraft, Rng};
@@ -48,60 +47,28 @@ fn compare_halls(
         let plan = draw(&mut Rng::of_case(run.seed, index));
         let halls = Form::BOTH.map(|form| Hall::new(calls, &plan, form));
         // He is shown each form of a book in turn; the calls are asked about both.
-        let judged = Judged::of(&halls[index % halls.len()], &plan);
-        if let Some(note) = judged.note().or_else(|| judged.differs(calls, &plan, &halls)) {
-            return Err(format!("seed {} hall {index}: {note}", run.seed));
+        let shown = &halls[index % halls.len()];
+        let judgements = judge::judge(&shown.book, shown.form, &plan.order.bytes());
+        let absent = plan.book.has_inapplicable().then(|| Absent::of(shown, &judgements));
+        if matches!(absent, Some(Absent::Differs)) {
+            return Err(format!("seed {} hall {index}: not as if absent", run.seed));
         }
-        let decision = judged.decision(&plan);
-        met.count_hall(Some(&decision).filter(|_| is_counted(&judged.judgements)));
-    }
-    Ok(met)
-}
-
-/// What he says of a hall.
-struct Judged {
-    judgements: Vec<Judgement>,
-    /// If the book has steps that did not go.
-    absent: Option<Absent>,
-    both_ways: BothWays,
-}
-
-impl Judged {
-    fn of(hall: &Hall, plan: &Plan) -> Self {
-        let judgements = judge::judge(&hall.book, hall.form, &hall.order);
-        let wider = judge::judge_both_ways(&hall.book, hall.form, &hall.order);
-        let absent = plan.book.has_inapplicable().then(|| Absent::of(hall, &judgements));
-        let both_ways = BothWays::of(&judgements, &wider);
-        Self { judgements, absent, both_ways }
-    }
-
-    /// What he must not say, in words.
-    fn note(&self) -> Option<String> {
-        if self.absent == Some(Absent::Differs) {
-            return Some("not as if absent".into());
-        }
-        (self.both_ways == BothWays::Lost).then(|| "a plan that passed is lost".into())
-    }
-
-    /// What the calls say otherwise of the halls, which are one in both forms.
-    fn differs(&self, calls: &impl Calls, plan: &Plan, halls: &[Hall; 2]) -> Option<String> {
-        let impossible = match self.absent {
+        let impossible = match absent {
             Some(Absent::Possible) => &[Refusal::NeedsMet][..],
             _ => &[Refusal::UnboundChange, Refusal::EffectConflict],
         };
-        let differs = |hall: &&Hall| !hall.agrees(calls, plan, &self.judgements, impossible);
+        let differs = |hall: &&Hall| !hall.agrees(calls, &plan, &judgements, impossible);
         if let Some(hall) = halls.iter().find(differs) {
-            let verdicts: Vec<&Verdict> = self.judgements.iter().map(|of| &of.verdict).collect();
-            return Some(format!("{hall}, {verdicts:?}"));
+            let verdicts: Vec<&Verdict> = judgements.iter().map(|of| &of.verdict).collect();
+            return Err(format!("seed {} hall {index}: {hall}, {verdicts:?}", run.seed));
         }
-        (halls[0].given.sheet != halls[1].given.sheet).then(|| "two sheets for one book".into())
+        if halls[0].given.sheet != halls[1].given.sheet {
+            return Err(format!("seed {} hall {index}: two sheets for one book", run.seed));
+        }
+        let decision = Decision::of(&judgements, absent);
+        met.count_hall(Some(&decision).filter(|_| is_counted(&judgements)));
     }
-
-    /// What was met of unknown facts is told by definition.
-    fn decision(&self, plan: &Plan) -> Decision<'_> {
-        let unknowns = definition::check(&plan.book, Form::Full, &plan.order).unknowns;
-        Decision::of(&self.judgements, self.absent, self.both_ways, unknowns)
-    }
+    Ok(met)
 }
 
 /// What he says of a book with steps that did not go, beside what he says as if these
@@ -242,13 +209,12 @@ impl Given {
     }
 
     fn passes_as(&self, judgements: &[Judgement]) -> bool {
-        let Verdict::Passes { steps, end, unknown } = &judgements[0].verdict else {
+        let Some(Judgement { verdict: Verdict::Passes { steps, end }, .. }) = judgements.first()
+        else {
             return false;
         };
-        let written = match judgements {
-            [_] => self.end == end_sheet_with(end, unknown),
-            _ => untouched(&self.end),
-        };
+        let written =
+            if judgements.len() == 1 { self.end == end_sheet(end) } else { untouched(&self.end) };
         self.end_answer == Answer::success(*steps as usize) && written
     }
 }

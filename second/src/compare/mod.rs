@@ -6,7 +6,6 @@
 
 mod agreed;
 mod alone;
-mod both_ways;
 mod by;
 mod capped;
 mod definition;

@@ -1,9 +1,7 @@
 //! Which verdicts of the judge were met in a run, and how often each must be.
 
-use super::both_ways::BothWays;
 use super::judge::Absent;
 use super::kinds::{Kind, Kinds};
-use crate::definition::Unknowns;
 use crate::judge::{self, Judgement, Verdict};
 
 /// Whether a hall is of a kind of verdict.
@@ -12,9 +10,9 @@ pub(super) type IsMet = fn(&Decision<'_>) -> bool;
 /// How often each kind of verdict was met.
 pub type Verdicts = Kinds<IsMet>;
 
-/// Of 8,000 halls 500 of each kind, 200 of those that need several starts, steps that did
-/// not go or open facts.
-pub(super) const TINY: [Kind<IsMet>; 20] = [
+/// Of 8,000 halls 500 of each kind, 200 of those that need several starts or steps that did
+/// not go.
+pub(super) const TINY: [Kind<IsMet>; 11] = [
     Kind { name: "impossible", one_in: 16, is_met: |by| *by.verdict == Verdict::Impossible },
     Kind { name: "28", one_in: 40, is_met: |by| by.absent == Some(Absent::Possible) },
     Kind {
@@ -30,27 +28,6 @@ pub(super) const TINY: [Kind<IsMet>; 20] = [
     Kind { name: "passes without steps", one_in: 16, is_met: |by| by.steps() == Some(0) },
     Kind { name: "passes with steps", one_in: 16, is_met: |by| by.steps() > Some(0) },
     Kind { name: "passes from several starts", one_in: 40, is_met: |by| by.passes_several() },
-    Kind {
-        name: "28 by needs to hold alone",
-        one_in: 40,
-        is_met: |by| by.both_ways == BothWays::Possible,
-    },
-    Kind {
-        name: "passes with needs both ways too",
-        one_in: 16,
-        is_met: |by| by.both_ways == BothWays::Passes,
-    },
-    Kind { name: "passes with an open fact", one_in: 40, is_met: |by| by.unknowns.end },
-    Kind { name: "19 by an open need", one_in: 40, is_met: |by| by.unknowns.need },
-    Kind { name: "20 by an open entry of 1", one_in: 40, is_met: |by| by.unknowns.wanted },
-    Kind { name: "20 by an open entry of 0", one_in: 40, is_met: |by| by.unknowns.unwanted },
-    Kind { name: "an open fact added", one_in: 40, is_met: |by| by.unknowns.added },
-    Kind { name: "an open fact removed", one_in: 40, is_met: |by| by.unknowns.deleted },
-    Kind {
-        name: "an unrecorded move leaves facts open",
-        one_in: 40,
-        is_met: |by| by.unknowns.unrecorded,
-    },
 ];
 
 /// Of 800 halls 100 of each kind, 40 of those that need several starts.
@@ -73,20 +50,12 @@ pub struct Decision<'a> {
     starts: usize,
     /// If the book has steps that did not go.
     absent: Option<Absent>,
-    both_ways: BothWays,
-    unknowns: Unknowns,
 }
 
 impl<'a> Decision<'a> {
-    pub(super) fn of(
-        judgements: &'a [Judgement],
-        absent: Option<Absent>,
-        both_ways: BothWays,
-        unknowns: Unknowns,
-    ) -> Self {
+    pub(super) fn of(judgements: &'a [Judgement], absent: Option<Absent>) -> Self {
         let (position, by) = judge::failing(judgements).unwrap_or((1, &judgements[0]));
-        let starts = judgements.len();
-        Self { verdict: &by.verdict, position, starts, absent, both_ways, unknowns }
+        Self { verdict: &by.verdict, position, starts: judgements.len(), absent }
     }
 
     fn stops(&self) -> bool {
@@ -123,20 +92,13 @@ impl Verdicts {
 
 #[cfg(test)]
 mod tests {
-    use super::{BothWays, Decision, IsMet, Kind, Unknowns, Verdict, Verdicts, CROWDED, TINY};
+    use super::{Decision, IsMet, Kind, Verdict, Verdicts, CROWDED, TINY};
 
     /// What is missing after so many halls that pass without steps from two starts
     /// and so many of no kind.
     fn missing(kinds: &'static [Kind<IsMet>], passes: usize, others: usize) -> Vec<String> {
-        let verdict = Verdict::Passes { steps: 0, end: Vec::new(), unknown: Vec::new() };
-        let decision = Decision {
-            verdict: &verdict,
-            position: 1,
-            starts: 2,
-            absent: None,
-            both_ways: BothWays::Other,
-            unknowns: Unknowns::default(),
-        };
+        let verdict = Verdict::Passes { steps: 0, end: Vec::new() };
+        let decision = Decision { verdict: &verdict, position: 1, starts: 2, absent: None };
         let mut met = Verdicts::of(kinds);
         (0..passes).for_each(|_| met.count_hall(Some(&decision)));
         (0..others).for_each(|_| met.count_hall(None));
@@ -156,15 +118,6 @@ mod tests {
             "20 from a later start: 0 times, at least 200 wanted",
             "passes without steps: 499 times, at least 500 wanted",
             "passes with steps: 0 times, at least 500 wanted",
-            "28 by needs to hold alone: 0 times, at least 200 wanted",
-            "passes with needs both ways too: 0 times, at least 500 wanted",
-            "passes with an open fact: 0 times, at least 200 wanted",
-            "19 by an open need: 0 times, at least 200 wanted",
-            "20 by an open entry of 1: 0 times, at least 200 wanted",
-            "20 by an open entry of 0: 0 times, at least 200 wanted",
-            "an open fact added: 0 times, at least 200 wanted",
-            "an open fact removed: 0 times, at least 200 wanted",
-            "an unrecorded move leaves facts open: 0 times, at least 200 wanted",
         ];
         assert_eq!(missing(&TINY, 499, 7_501), tiny);
         assert_eq!(missing(&TINY, 500, 7_500), [&tiny[..8], &tiny[9..]].concat());

@@ -10,8 +10,8 @@ use crate::gen::{BookDraft, Fact};
 /// What is learned of one lifted atom of a move.
 pub(super) struct Rule {
     pub(super) atom: Atom,
-    pub(super) pre: bool,
-    pub(super) possible_delete: bool,
+    pub(super) pre_pos: bool,
+    pub(super) pre_neg: bool,
     pub(super) add: bool,
     pub(super) delete: bool,
 }
@@ -37,14 +37,13 @@ pub(super) fn model(book: &BookDraft, form: Form) -> Result<Vec<Rules>, Answer> 
     }
 }
 
-/// Where the first step stands that did not go, though each learned need held in the state
-/// before it: row 28.
+/// Where the first step stands that did not go, though what is learned of each atom was
+/// met in the state before it: row 28.
 fn needs_met(book: &BookDraft, form: Form, model: &[Rules]) -> Option<usize> {
     for (record, layout) in book.records.iter().zip(book.in_form(form).layout().records) {
         for (index, step) in record.steps.iter().enumerate().filter(|(_, step)| !went(step)) {
             let before = &record.states[index];
-            let is_met = |rule: &Rule| !rule.pre || before.contains(&rule.atom.fact(step));
-            if model[action(step)].iter().all(is_met) {
+            if model[action(step)].iter().all(|rule| rule.is_met(step, before)) {
                 return Some(layout.steps[index]);
             }
         }
@@ -72,19 +71,17 @@ fn unbound_change(book: &BookDraft, form: Form, of_move: &[Vec<Atom>]) -> Option
 /// The atom's rule in the move of this number; `None` if its values conflict.
 fn learned(book: &BookDraft, number: usize, atom: Atom) -> Option<Rule> {
     let values = values(book, number, &atom);
-    let add = values.contains(&(false, true));
-    let held_before = values.iter().any(|&(before, _)| before);
     (!conflict(&values)).then(|| Rule {
         atom,
-        pre: values.iter().all(|&(before, _)| before),
-        possible_delete: !add && !held_before,
-        add,
+        pre_pos: values.iter().all(|&(before, _)| before),
+        pre_neg: values.iter().all(|&(before, _)| !before),
+        add: values.contains(&(false, true)),
         delete: values.contains(&(true, false)),
     })
 }
 
 /// The atom's values before and after each step of the move of this number that went.
-pub(super) fn values(book: &BookDraft, number: usize, atom: &Atom) -> Vec<(bool, bool)> {
+fn values(book: &BookDraft, number: usize, atom: &Atom) -> Vec<(bool, bool)> {
     let mut values = Vec::new();
     for record in &book.records {
         for (at, step) in record.steps.iter().enumerate() {

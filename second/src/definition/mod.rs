@@ -6,15 +6,11 @@
 //! all that fit.
 
 mod atom;
-mod both_ways;
 mod execution;
 mod learning;
 mod sheets;
-mod unknowns;
 
-pub use both_ways::barred_both_ways;
-pub use sheets::{end_sheet, end_sheet_with};
-pub use unknowns::Unknowns;
+pub use sheets::end_sheet;
 
 use crate::answer::Answer;
 use crate::calls::Form;
@@ -26,13 +22,11 @@ use learning::model;
 pub struct Defined {
     pub answer: Answer,
     pub written: Option<Vec<u8>>,
-    /// Of a check alone.
-    pub unknowns: Unknowns,
 }
 
 impl Defined {
     fn refused(answer: Answer) -> Self {
-        Self { answer, written: None, unknowns: Unknowns::default() }
+        Self { answer, written: None }
     }
 }
 
@@ -45,7 +39,6 @@ pub fn learn(book: &BookDraft, form: Form) -> Defined {
         Ok(model) => Defined {
             answer: Answer::success(book.steps()),
             written: Some(sheets::rule_sheet(&model)),
-            unknowns: Unknowns::default(),
         },
     }
 }

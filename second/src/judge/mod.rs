@@ -16,14 +16,13 @@ use crate::calls::Form;
 use reading::{is_tiny, read_book, read_order};
 use state::{State, FULL, TINY};
 
-/// His verdict on a start alone. In order, `end` lists the facts that hold in every end
-/// state, and `unknown` those that hold in some.
+/// His verdict on a start alone; `end` lists the facts of the end state in order.
 #[derive(Debug, PartialEq, Eq)]
 pub enum Verdict {
     Impossible,
     Stops { step: u32 },
     Misses { entry: u32 },
-    Passes { steps: u32, end: Vec<[u8; 3]>, unknown: Vec<[u8; 3]> },
+    Passes { steps: u32, end: Vec<[u8; 3]> },
 }
 
 /// His verdict on a start alone, and how many facts held at most, up to the step
@@ -51,29 +50,8 @@ struct Rules {
     delete: u32,
 }
 
-/// The rule lists that he chooses from.
-#[derive(Clone, Copy, PartialEq, Eq)]
-enum Lists {
-    /// A move may need that a fact holds.
-    Positive,
-    /// A move may also need that a fact does not hold.
-    BothWays,
-}
-
-impl Lists {
-    /// For one atom: none or to hold; with both ways, also not to hold or both.
-    const fn needs(self) -> u32 {
-        match self {
-            Self::Positive => 2,
-            Self::BothWays => 4,
-        }
-    }
-
-    /// Each need with each of three effects: none, add, delete.
-    const fn choices(self) -> u32 {
-        3 * self.needs()
-    }
-}
+/// Four needs (none, hold, not hold, both) by three effects (none, add, delete).
+const CHOICES: u32 = 12;
 
 /// A lifted atom: a relation, and for each place the parameter from 0 or `None`.
 struct Atom {
@@ -103,8 +81,8 @@ struct Plan<const WORDS: usize> {
 /// The judge's verdict on a book and each start of an order, both of good form.
 ///
 /// # Panics
-/// If a record has no steps, or if a move has more lifted atoms than its lists can be
-/// numbered for.
+/// If a record has no steps, if a move has over 8 lifted atoms, or if the end states
+/// of a passing plan differ between models.
 #[must_use]
 pub fn verdicts(book: &[u8], form: Form, order: &[u8]) -> Vec<Verdict> {
     judge(book, form, order).into_iter().map(|judgement| judgement.verdict).collect()
@@ -113,20 +91,14 @@ pub fn verdicts(book: &[u8], form: Form, order: &[u8]) -> Vec<Verdict> {
 /// As [`verdicts`], with how many facts held at most.
 #[must_use]
 pub fn judge(book: &[u8], form: Form, order: &[u8]) -> Vec<Judgement> {
-    judge_by(book, form, order, Steps::All, Lists::Positive)
+    judge_by(book, form, order, Steps::All)
 }
 
 /// As if the steps that did not go were absent from the records, each other step keeping
 /// its own two states.
 #[must_use]
 pub fn judge_absent(book: &[u8], form: Form, order: &[u8]) -> Vec<Judgement> {
-    judge_by(book, form, order, Steps::Went, Lists::Positive)
-}
-
-/// With the lists of a wider kind, of which a move may also need that a fact does not hold.
-#[must_use]
-pub fn judge_both_ways(book: &[u8], form: Form, order: &[u8]) -> Vec<Judgement> {
-    judge_by(book, form, order, Steps::All, Lists::BothWays)
+    judge_by(book, form, order, Steps::Went)
 }
 
 /// The recorded steps that a rule list must fit.
@@ -136,11 +108,11 @@ enum Steps {
     Went,
 }
 
-fn judge_by(book: &[u8], form: Form, order: &[u8], steps: Steps, lists: Lists) -> Vec<Judgement> {
+fn judge_by(book: &[u8], form: Form, order: &[u8], steps: Steps) -> Vec<Judgement> {
     if is_tiny(book, order) {
-        judge_in::<TINY>(book, form, order, steps, lists)
+        judge_in::<TINY>(book, form, order, steps)
     } else {
-        judge_in::<FULL>(book, form, order, steps, lists)
+        judge_in::<FULL>(book, form, order, steps)
     }
 }
 
@@ -157,11 +129,10 @@ fn judge_in<const WORDS: usize>(
     form: Form,
     order: &[u8],
     steps: Steps,
-    lists: Lists,
 ) -> Vec<Judgement> {
     let (atoms, mut transitions) = read_book::<WORDS>(book, form);
     transitions.retain(|transition| transition.went || steps == Steps::All);
-    let kept = consistent(&atoms, &transitions, lists);
+    let kept = consistent(&atoms, &transitions);
     let plan = read_order::<WORDS>(order, &atoms);
     plan.starts.iter().map(|start| judge_start(start, &plan, &kept)).collect()
 }
@@ -177,7 +148,7 @@ fn judge_start<const WORDS: usize>(
     }
     // Begins as the last in order; of equal outcomes the one of most facts counts.
     let mut first = (Outcome::Passes, Reverse(0));
-    let mut ends: Option<Ends<WORDS>> = None;
+    let mut ends = Vec::new();
     let mut model = vec![0; kept.len()];
     loop {
         let (most, end) = plan.carry_out(start, |action| kept[action][model[action]]);
@@ -186,8 +157,8 @@ fn judge_start<const WORDS: usize>(
             Ok(end) => plan.missed(end).map_or(Outcome::Passes, Outcome::Misses),
         };
         first = first.min((outcome, Reverse(most)));
-        if let Ok(end) = end {
-            ends = Some(ends.map_or_else(|| Ends::of(&end), |ends| ends.with(&end)));
+        if let Some(end) = end.ok().filter(|end| !ends.contains(end)) {
+            ends.push(end);
         }
         if !advance(&mut model, kept) {
             break;
@@ -198,34 +169,11 @@ fn judge_start<const WORDS: usize>(
         Outcome::Stops(step) => Verdict::Stops { step },
         Outcome::Misses(entry) => Verdict::Misses { entry },
         Outcome::Passes => {
-            let (end, unknown) = ends.expect("every model has an end state").facts();
-            Verdict::Passes { steps: plan.steps.len() as u32, end, unknown }
+            assert_eq!(ends.len(), 1, "the end states of a passing plan differ");
+            Verdict::Passes { steps: plan.steps.len() as u32, end: ends[0].facts() }
         }
     };
     Judgement { verdict, most }
-}
-
-/// The end states under the models so far: the facts that hold in each, and in some.
-struct Ends<const WORDS: usize> {
-    every: State<WORDS>,
-    some: State<WORDS>,
-}
-
-impl<const WORDS: usize> Ends<WORDS> {
-    fn of(end: &State<WORDS>) -> Self {
-        Self { every: end.clone(), some: end.clone() }
-    }
-
-    fn with(self, end: &State<WORDS>) -> Self {
-        Self { every: self.every.and(end), some: self.some.or(end) }
-    }
-
-    /// Those of every end state, and those in which the end states differ.
-    fn facts(&self) -> (Vec<[u8; 3]>, Vec<[u8; 3]>) {
-        let every = self.every.facts();
-        let unknown = self.some.facts().into_iter().filter(|fact| !every.contains(fact)).collect();
-        (every, unknown)
-    }
 }
 
 /// The rule lists of each move that fit all its recorded steps. A step asks for
@@ -234,18 +182,17 @@ impl<const WORDS: usize> Ends<WORDS> {
 fn consistent<const WORDS: usize>(
     atoms: &[Vec<Atom>],
     transitions: &[Transition<WORDS>],
-    lists: Lists,
 ) -> Vec<Vec<Rules>> {
-    let fitting = |(action, atoms): (usize, &Vec<Atom>)| {
+    let lists = |(action, atoms): (usize, &Vec<Atom>)| {
         let of_action: Vec<_> =
             transitions.iter().filter(|transition| transition.step.action == action).collect();
-        let count = lists.choices().checked_pow(atoms.len() as u32).expect("few lifted atoms");
+        let count = CHOICES.checked_pow(atoms.len() as u32).expect("few lifted atoms");
         (0..count)
-            .map(|number| Rules::numbered(number, atoms.len(), lists))
+            .map(|number| Rules::numbered(number, atoms.len()))
             .filter(|rules| of_action.iter().all(|transition| rules.fits(transition)))
             .collect()
     };
-    atoms.iter().enumerate().map(fitting).collect()
+    atoms.iter().enumerate().map(lists).collect()
 }
 
 /// The next combination, the first move's choice changing fastest.
@@ -261,17 +208,16 @@ fn advance(model: &mut [usize], kept: &[Vec<Rules>]) -> bool {
 }
 
 impl Rules {
-    /// The digits of `number` to the base of all choices are those for the atoms.
-    fn numbered(mut number: u32, atoms: usize, lists: Lists) -> Self {
+    /// The digits of `number` to base 12 are the choices for the atoms.
+    fn numbered(mut number: u32, atoms: usize) -> Self {
         let mut rules = Self { pre_pos: 0, pre_neg: 0, add: 0, delete: 0 };
         for atom in 0..atoms {
-            let choice = number % lists.choices();
-            let (need, effect) = (choice % lists.needs(), choice / lists.needs());
+            let (need, effect) = (number % CHOICES % 4, number % CHOICES / 4);
             rules.pre_pos |= (need & 1) << atom;
             rules.pre_neg |= (need >> 1) << atom;
             rules.add |= u32::from(effect == 1) << atom;
             rules.delete |= u32::from(effect == 2) << atom;
-            number /= lists.choices();
+            number /= CHOICES;
         }
         rules
     }

@@ -35,21 +35,6 @@ impl<const WORDS: usize> State<WORDS> {
         }
     }
 
-    pub(super) fn and(mut self, other: &Self) -> Self {
-        self.words.iter_mut().zip(other.words).for_each(|(word, other)| *word &= other);
-        self.counted()
-    }
-
-    pub(super) fn or(mut self, other: &Self) -> Self {
-        self.words.iter_mut().zip(other.words).for_each(|(word, other)| *word |= other);
-        self.counted()
-    }
-
-    fn counted(mut self) -> Self {
-        self.count = self.words.iter().map(|word| word.count_ones() as usize).sum();
-        self
-    }
-
     pub(super) fn facts(&self) -> Vec<[u8; 3]> {
         let radix = Self::RADIX;
         (0..64 * WORDS)

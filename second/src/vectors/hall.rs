@@ -1,6 +1,6 @@
 //! The small hall of the paper and what is built from it.
 
-pub use crate::definition::{end_sheet, end_sheet_with};
+pub use crate::definition::end_sheet;
 use crate::gen::{BookDraft, Fact, OrderDraft, RecordDraft, Step};
 use crate::limits::{RULES_LENGTH, SET_LENGTH};
 
@@ -103,11 +103,6 @@ pub const ROLL_3_4: Step = [1, 1, 3, 4, 0];
 /// facts at 22, the goal at 31 and the two steps at 35.
 pub fn m2() -> OrderDraft {
     order(&START, &[(1, AT_4)], &[ROLL_2_3, ROLL_3_4])
-}
-
-/// M3's order, which passes too: that spot 2 is clear is no need unmet.
-pub fn m3() -> OrderDraft {
-    order(&START_2_CLEAR, &[(1, AT_4)], &[ROLL_2_3, ROLL_3_4])
 }
 
 /// M2's order with a fault of each row that checking has behind the lent output, and the

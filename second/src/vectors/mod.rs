@@ -19,7 +19,6 @@ mod rows;
 mod sequence;
 mod short;
 mod starts;
-mod unknown;
 
 pub use file::{missing, parse, print, run, Failure, Vector};
 
@@ -62,7 +61,6 @@ pub fn all() -> Vec<Vector> {
     vectors.extend(no_steps::calls::all());
     vectors.extend(sequence::permuted::all());
     vectors.extend(inapplicable::all());
-    vectors.extend(unknown::all());
     vectors
 }
 

@@ -1,8 +1,8 @@
 //! The paper's marked cases, the examples of docs/DECISIONS.md, and the limits.
 
 use super::hall::{
-    changed, empty_end, end_sheet, filed, m2, m3, one_fact, order, sheet, small_hall, story,
-    unrecorded, with, AT_2, AT_4, HEAD, OBJECTS, ROLL_2_3, ROLL_3_4, START, STEP,
+    changed, empty_end, end_sheet, filed, m2, one_fact, order, sheet, small_hall, story,
+    unrecorded, with, AT_2, AT_4, HEAD, OBJECTS, ROLL_2_3, ROLL_3_4, START, START_2_CLEAR, STEP,
 };
 use super::Vector;
 use crate::answer::{Answer, Refusal};
@@ -39,7 +39,7 @@ pub fn learn(name: impl Into<String>, book: &BookDraft, sheet: Vec<u8>) -> Vecto
 /// and 2 are "bank at spot" of parameters 1 2 and 1 3, 20 and 24 "spot clear"
 /// of parameters 2 and 3.
 pub fn m1_sheet() -> Vec<u8> {
-    sheet(&[[&[1, 24], &[], &[2, 20], &[1, 24]]])
+    sheet(&[[&[1, 24], &[2, 20], &[2, 20], &[1, 24]]])
 }
 
 pub fn marked() -> Vec<Vector> {
@@ -60,7 +60,7 @@ fn one_record() -> Vec<Vector> {
         Vector::new("M1 looked over", &[LookOver], hall(), Answer::success(1)),
         learn("M1 learned", &small_hall(), m1_sheet()),
         check("M2", hall(), m2().bytes(), Answer::success(2)).after(end_sheet(&ended)),
-        check("M3", hall(), m3().bytes(), Answer::success(2)).after(end_sheet(&ended)),
+        check("M3", hall(), order(&START_2_CLEAR, &goal, &[ROLL_2_3, ROLL_3_4]).bytes(), unmet(1)),
         check("M4", hall(), order(&START, &[(1, AT_2)], &[]).bytes(), Answer::success(0))
             .after(end_sheet(&START)),
         check("M5", hall(), order(&START, &goal, &[]).bytes(), missed(1)),

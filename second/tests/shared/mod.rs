@@ -4,7 +4,6 @@
 #![allow(dead_code, reason = "not every test needs all of it")]
 
 use second::calls::Form;
-use second::limits::{END_SHEET_HALF, END_SHEET_LENGTH};
 use second::{check, learn, listing, Answer};
 
 pub fn hex(text: &str) -> Vec<u8> {
@@ -45,7 +44,7 @@ pub fn order(
 }
 
 fn check_all(book: &[u8], order: &[u8]) -> (Answer, Vec<u8>) {
-    let mut end = vec![0xa5; END_SHEET_LENGTH];
+    let mut end = vec![0xa5; 512];
     let answer = check::check(book, Form::Full, order, &mut end);
     (answer, end)
 }
@@ -53,23 +52,16 @@ fn check_all(book: &[u8], order: &[u8]) -> (Answer, Vec<u8>) {
 pub fn refused(book: &[u8], order: &[u8], answer: Answer) {
     let (given, end) = check_all(book, order);
     assert_eq!(given, answer);
-    assert_eq!(end, vec![0xa5; END_SHEET_LENGTH], "a refusal leaves lent memory untouched");
+    assert_eq!(end, vec![0xa5; 512], "a refusal leaves lent memory untouched");
     let text = format!("refused {} {}\n", answer.number, answer.place);
     assert_eq!(listing::plan(book, order), text);
 }
 
-/// Passes with these facts at the end, by their numbers in the end sheet, and none open.
+/// Passes with these facts at the end, by their numbers in the end sheet.
 pub fn passes(book: &[u8], order: &[u8], steps: usize, facts: &[usize]) {
-    passes_with(book, order, steps, facts, &[]);
-}
-
-/// Passes with these facts known to hold at the end, and these open.
-pub fn passes_with(book: &[u8], order: &[u8], steps: usize, known: &[usize], open: &[usize]) {
-    let facts: Vec<usize> =
-        known.iter().copied().chain(open.iter().map(|fact| 8 * END_SHEET_HALF + fact)).collect();
     let (given, end) = check_all(book, order);
     assert_eq!(given, Answer::success(steps));
-    assert_eq!(end, set(END_SHEET_LENGTH, &facts));
+    assert_eq!(end, set(512, facts));
     assert_eq!(listing::plan(book, order), format!("passes {steps}\n"));
 }
 

@@ -1,4 +1,4 @@
--- `execution::misses` meets its contract: what is wanted against the fact's bits.
+-- `execution::misses` meets its contract: what is wanted against the fact's bit.
 use borrow.Author.Rules.{rules}
 use Rattle.execution.proofs.Goal.{misses_by}
 use Rattle.execution.proofs.misses.Statement.{statement}
@@ -6,11 +6,10 @@ use Rattle.execution.proofs.misses.Tie as tie
 
 returns : tie.Need-returns
 returns c =
-    let h = c.before in
-    let d = h.before.before in
-    misses_by _ _ _ _ _ _ _ _ _ d.before.byte_at.ensures d.read.ensures h.before.number.ensures h.has512.ensures c.has5122.ensures
+    let d = c.before.before in
+    misses_by _ _ _ _ _ _ _ d.before.byte_at.ensures d.read.ensures c.before.number.ensures c.has512.ensures
 
 pub misses_spec : {M : Type 1} → statement M
 misses_spec =
     tie.close
-    (tie.spec (λ c κs. search rules) (λ c. search rules) (λ c κs. search rules) (λ c κs. search rules) (λ c κs. search rules) (λ c κs. search rules) returns)
+    (tie.spec (λ c κs. search rules) (λ c. search rules) (λ c κs. search rules) (λ c κs. search rules) (λ c κs. search rules) returns)

@@ -7,8 +7,9 @@ use Rattle.factgroups.proofs.group_unmet.Tie as tie
 
 returns : tie.Need-returns
 returns c ys small right =
-    rw (← c.before.columns.ensures ys small right)
-    (group_unmet_by _ _ _ _ (omega arith) c.group-word.ensures)
+    let first = c.before in
+    rw (← first.columns.ensures ys small right, ← c.columns2.ensures ys small right)
+    (group_unmet_by _ _ _ _ _ (omega arith) (omega arith) first.before.group-word.ensures)
 
 pub group_unmet_spec : {M : Type 1} → statement M
-group_unmet_spec = tie.close (tie.spec (λ c κs. search rules) (λ c κs. search rules) returns)
+group_unmet_spec = tie.close (tie.spec (λ c κs. search rules) (λ c κs. search rules) (λ c κs. search rules) returns)

@@ -6,14 +6,15 @@ use borrow.Author.Rules.{rules}
 use Rattle.answer.specs.declared.Answer.TheVariants.{Good}
 use Rattle.terms.specs.Sections.{sections_of}
 use Rattle.format.specs.LookOver.{look_over}
-use Rattle.observed.specs.Observed.{observed_of}
+use Rattle.jobs.specs.Planning.{schema_of}
+use Rattle.observed.specs.Begun.{Begun}
 use Rattle.failedsteps.proofs.Book.{head_length, book_asked, Left, left_first, left_near, left_none, left_record, left_refused, left_next}
 use Rattle.failedsteps.proofs.first_refuted.Statement.{statement}
 use Rattle.failedsteps.proofs.first_refuted.Tie as tie
 
 abbrev invariant-loop : tie.invariant-loop
 invariant-loop s short h observed left₀ at₀ left at =
-    (is : h ≡ sections_of s) × (looked : (n : ℕ) × (look_over short s ≡ Good n)) × (held : observed ≡ (observed_of short s).masks) × Left short h s observed is looked held left at
+    (is : h ≡ sections_of s) × (looked : (n : ℕ) × (look_over short s ≡ Good n)) × (begun : Begun (schema_of s) observed) × Left short h s observed is looked begun left at
 
 abbrev decreases-loop : tie.decreases-loop
 decreases-loop s short h observed left₀ at₀ left at = left

@@ -1,6 +1,6 @@
 -- `learner::refutation` meets its contract: the second walk where some step did not go, by the form, and else nothing to ask.
 use mathlib.Core.Path.{sym, ◌∙◌}
-use Rattle.learner.proofs.Book.{refuted_by, unrefuted_by}
+use Rattle.learner.proofs.Book.{begun_held, refuted_by, unrefuted_by}
 use borrow.Author.Tests.{not-true}
 use Rattle.learner.proofs.refutation.Statement.{statement}
 use Rattle.learner.proofs.refutation.Tie as tie
@@ -13,7 +13,7 @@ returns c =
 first_refuted_requires : tie.Need-first-refuted-requires
 first_refuted_requires c κs =
     let p = c.before.before.before.before.requires in
-    rw (← c.if2.true) (p.0, p.1, p.2)
+    rw (← c.if2.true) (p.0, p.1, begun_held _ _ _ p.1.1 _ p.2)
 
 returns_2 : tie.Need-returns-2
 returns_2 c =
@@ -24,7 +24,7 @@ returns_2 c =
 first_refuted_requires_2 : tie.Need-first-refuted-requires-2
 first_refuted_requires_2 c κs =
     let p = c.before.before.before.before.requires in
-    rw (← c.if2.false) (p.0, p.1, p.2)
+    rw (← c.if2.false) (p.0, p.1, begun_held _ _ _ p.1.1 _ p.2)
 
 returns_3 : tie.Need-returns-3
 returns_3 c =

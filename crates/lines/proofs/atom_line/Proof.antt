@@ -9,27 +9,20 @@ use Rattle.lines.proofs.atom_line.Statement.{statement}
 use Rattle.lines.proofs.atom_line.Tie as tie
 
 returns : tie.Need-returns
-unfolding rules_on
 returns c =
     let end = c.before.before in
     let front = end.before.before.before.before.before in
     let effect = front.before.before in
     let need = effect.before in
-    let removed = need.before in
-    let added = removed.before in
-    let may-remove = added.before in
-    let needed = may-remove.before in
-    let start = needed.before.before.before.before in (
+    let start = need.before.before.before.before in (
       (omega (arith, end.put.ensures.0.0, front.atom-front.ensures.0), end.put.ensures.0.1),
       rw (end.put.ensures.1, front.atom-front.ensures.1)
-          (line_whole (schema start.args.h start.args.book.now) (rules_on start.args.sheet.now) (take start.args.at start.args.out.now) start.args.m.0 start.args.n _ _
-          (rw needed.sheet_bit_lem.ensures at need.need-letter.ensures)
-          (rw (added.sheet-bit3.ensures, removed.sheet-bit4.ensures, may-remove.sheet-bit2.ensures) at effect.effect-letter.ensures)),
+          (line_whole (schema start.args.h start.args.book.now) (rules_on start.args.sheet.now) (take start.args.at start.args.out.now) start.args.m.0 start.args.n _ _ need.need-letter.ensures effect.effect-letter.ensures),
     )
 
 pub atom_line_spec : {M : Type 1} → statement M
 atom_line_spec =
     tie.close
     (tie.spec
-    (λ c κs. search rules) (λ c κs. search rules) (λ c κs. search rules) (λ c κs. search rules) (λ c κs. search rules)
-    (λ c κs. search rules) (λ c κs. search rules) (λ c. search rules) (λ c κs. search rules) (λ c. search rules) returns)
+    (λ c κs. search rules) (λ c κs. search rules) (λ c κs. search rules) (λ c. search rules) (λ c κs. search rules) (λ c. search rules)
+    returns)

@@ -19,34 +19,20 @@ pub enum Inapplicable {
     Any,
 }
 
-/// The state in which one such step is wanted.
-#[derive(Clone, Copy, PartialEq, Eq)]
-enum Wanted {
-    Barred,
-    NeedsMet,
-    /// All learned needs are met, and a bound fact holds that was never seen to: needs that
-    /// a fact does not hold would bar the step.
-    NeedsMetAlone,
-}
-
 /// The book with such steps in most cases, in its form and within its limits.
 pub fn filed(draft: BookDraft, which: Inapplicable, rng: &mut Rng) -> BookDraft {
     if draft.records.is_empty() || rng.chance(10) {
         return draft;
     }
-    let first = match rng.below(100) {
-        0..=7 if which == Inapplicable::Any => Wanted::NeedsMet,
-        8..=19 if which == Inapplicable::Any => Wanted::NeedsMetAlone,
-        _ => Wanted::Barred,
-    };
+    let unbarred = which == Inapplicable::Any && rng.chance(10);
     let count = rng.range(2, 2 + 2 * draft.records.len()).min(STEP_LIMIT);
     let mut filing = Filing::new(&draft);
     for number in 0..count {
-        let wanted = if number == 0 { first } else { Wanted::Barred };
-        if rng.chance(25) || wanted == Wanted::NeedsMetAlone {
-            filing.add_record(wanted, rng);
+        let barred = !unbarred || number > 0;
+        if rng.chance(25) {
+            filing.add_record(barred, rng);
         } else {
-            filing.insert(wanted, rng);
+            filing.insert(barred, rng);
         }
     }
     filing.world.book.in_form(draft.form)
@@ -67,7 +53,8 @@ struct Filing {
 
 impl Filing {
     fn new(draft: &BookDraft) -> Self {
-        let world = World::with_rules(draft.in_form(Form::Full), Rule::default);
+        let no_rule = || Rule { needed: None, effect: None };
+        let world = World::with_rules(draft.in_form(Form::Full), no_rule);
         let mut seen: Vec<Vec<Seen>> =
             world.rules.iter().map(|atoms| vec![[false; 2]; atoms.len()]).collect();
         for record in &world.book.records {
@@ -82,29 +69,15 @@ impl Filing {
         Self { world, seen, form: draft.form, length: draft.length() }
     }
 
-    /// A learned need is unmet if an atom does not hold that held before each step of the
-    /// move that went.
-    fn is(&self, wanted: Wanted, step: &Step, state: &[Fact]) -> bool {
+    /// Whether a learned need is unmet: an atom has a value that it had before no step
+    /// of the move that went.
+    fn is_barred(&self, step: &Step, state: &[Fact]) -> bool {
         let values = self.world.values(step, state);
-        let has_unseen = |of: bool| {
-            let atoms = self.seen[action(step)].iter().zip(&values);
-            atoms.filter(|&(_, &value)| value == of).any(|(seen, _)| !seen[usize::from(of)])
-        };
-        match wanted {
-            Wanted::Barred => has_unseen(false),
-            Wanted::NeedsMet => !has_unseen(false),
-            Wanted::NeedsMetAlone => !has_unseen(false) && has_unseen(true),
-        }
-    }
-
-    /// The facts that the step is learned to need.
-    fn needs(&self, step: &Step) -> Vec<Fact> {
-        let facts = self.world.bound_facts(step).into_iter();
-        facts.zip(&self.seen[action(step)]).filter(|(_, seen)| !seen[0]).map(|(f, _)| f).collect()
+        self.seen[action(step)].iter().zip(values).any(|(seen, value)| !seen[usize::from(value)])
     }
 
     /// A step in a record, in any of its states.
-    fn insert(&mut self, wanted: Wanted, rng: &mut Rng) {
+    fn insert(&mut self, barred: bool, rng: &mut Rng) {
         let index = rng.below(self.world.book.records.len());
         let record = &self.world.book.records[index];
         let drawn = (0..TRIES).find_map(|_| {
@@ -113,7 +86,7 @@ impl Filing {
                 0 => rng.pick(&record.steps).copied(),
                 _ => self.world.step(&record.objects, rng),
             }?;
-            self.is(wanted, &step, &record.states[at]).then_some((at, step))
+            (self.is_barred(&step, &record.states[at]) == barred).then_some((at, step))
         });
         let Some((at, step)) = drawn else { return };
         let state = record.states[at].clone();
@@ -126,21 +99,19 @@ impl Filing {
         }
     }
 
-    /// A record of one step that went elsewhere, in the state before it without one of its
-    /// needs, or with a bound fact turned: all needs but one may be met there, or all.
-    fn add_record(&mut self, wanted: Wanted, rng: &mut Rng) {
+    /// A record of one step that went elsewhere, in the state before it with a bound fact
+    /// turned: all needs but one may be met there, or all.
+    fn add_record(&mut self, barred: bool, rng: &mut Rng) {
         let records = &self.world.book.records;
         let drawn = (0..TRIES).find_map(|_| {
             let record = rng.pick(records)?;
             let index = rng.below(record.steps.len());
             let (step, mut state) = (record.steps[index], record.states[index].clone());
-            match rng.pick(&self.needs(&step)) {
-                Some(need) if wanted == Wanted::Barred => state.retain(|fact| fact != need),
-                _ if rng.chance(80) => self.world.turn_bound(&step, &mut state, rng),
-                _ => {}
+            if rng.chance(80) {
+                self.world.turn_bound(&step, &mut state, rng);
             }
-            let is_wanted = state.len() <= FACT_LIMIT && self.is(wanted, &step, &state);
-            is_wanted.then(|| RecordDraft {
+            let wanted = state.len() <= FACT_LIMIT && self.is_barred(&step, &state) == barred;
+            wanted.then(|| RecordDraft {
                 objects: record.objects.clone(),
                 states: vec![state; 2],
                 steps: vec![not_gone(step)],

@@ -40,15 +40,12 @@ pub struct Shape {
     pub facts: usize,
 }
 
-/// What the hidden rules say of one lifted atom: whether it is needed to hold, and
+/// What the hidden rules say of one lifted atom: the value that is needed, and
 /// the value that the step gives it.
-#[derive(Clone, Copy, Default)]
+#[derive(Clone, Copy)]
 pub struct Rule {
-    pub needed: bool,
+    pub needed: Option<bool>,
     pub effect: Option<bool>,
-    /// It is not taught what the step does to it if it holds: it may be removed. If it is
-    /// also needed, the move is never recorded.
-    pub unseen: bool,
 }
 
 /// One lifted atom in the hidden rules of a move.
@@ -77,9 +74,8 @@ impl World {
     pub fn draw(shape: &Shape, rng: &mut Rng) -> Self {
         let book = draw_front(shape, rng);
         Self::with_rules(book, || Rule {
-            needed: rng.chance(8),
+            needed: rng.chance(8).then(|| rng.chance(60)),
             effect: rng.chance(30).then(|| rng.chance(50)),
-            unseen: false,
         })
     }
 
@@ -87,11 +83,6 @@ impl World {
     pub fn with_rules(book: BookDraft, mut draw: impl FnMut() -> Rule) -> Self {
         let rules = book.moves.iter().map(|entry| hidden_atoms(&book, entry, &mut draw)).collect();
         Self { book, rules }
-    }
-
-    /// Draws the hidden rules of the move of this index anew.
-    pub fn redraw(&mut self, index: usize, mut draw: impl FnMut() -> Rule) {
-        self.rules[index].iter_mut().for_each(|atom| atom.rule = draw());
     }
 
     pub fn objects(&self, shape: &Shape, rng: &mut Rng) -> Vec<u8> {
@@ -200,12 +191,10 @@ impl World {
 
     /// The facts of the step's needs that are unmet in `state`.
     pub fn unmet(&self, step: &Step, state: &State) -> Vec<Fact> {
-        self.needs(step).filter(|fact| !state.contains(fact)).collect()
-    }
-
-    /// The facts that the step needs to hold.
-    pub fn needs<'a>(&'a self, step: &'a Step) -> impl Iterator<Item = Fact> + 'a {
-        self.bound(step, |rule| rule.needed.then_some(true)).map(|(fact, _)| fact)
+        self.bound(step, |rule| rule.needed)
+            .filter(|(fact, needed)| state.contains(fact) != *needed)
+            .map(|(fact, _)| fact)
+            .collect()
     }
 
     /// What the step changes in `state`, or `None` if a need is unmet.
@@ -231,7 +220,7 @@ impl World {
 
     /// The facts of the step of which the hidden rules say something in this
     /// part, and what.
-    pub fn bound<'a>(
+    fn bound<'a>(
         &'a self,
         step: &'a Step,
         part: impl Fn(&Rule) -> Option<bool> + 'a,

@@ -7,19 +7,13 @@ use crate::gen::rng::Rng;
 use crate::limits::FACT_LIMIT;
 
 impl World {
-    /// Files two records of one step for each move. A lifted atom that is not needed
-    /// has another value before each of the two, so that no other need is learned and
-    /// each effect is seen; one that is unseen holds before neither, so that it is learned
-    /// that it may be removed. A move with atoms that are needed and unseen is not filed.
-    /// The hidden rules must add no atom that is needed, for that is never seen, and none
-    /// that is unseen.
+    /// Files two records of one step for each move. A lifted atom that is needed
+    /// neither way has another value before each of the two, so that no other
+    /// need is learned and each effect is seen. The hidden rules must have no
+    /// effect that gives an atom the value needed, for that is never seen.
     pub fn teach(&mut self, rng: &mut Rng) {
         for index in 0..self.rules.len() {
-            let atoms = &self.rules[index];
-            if atoms.iter().any(|atom| atom.rule.needed && atom.rule.unseen) {
-                continue;
-            }
-            let values: Vec<bool> = atoms.iter().map(|_| rng.chance(50)).collect();
+            let values: Vec<bool> = self.rules[index].iter().map(|_| rng.chance(50)).collect();
             for turned in [false, true] {
                 let record = self.one_step(index, |atom| values[atom] != turned, rng);
                 self.book.records.push(record);
@@ -28,8 +22,8 @@ impl World {
         rng.shuffle(&mut self.book.records);
     }
 
-    /// A record of one step of this move, with `free` values of the atoms that are
-    /// neither needed nor unseen.
+    /// A record of one step of this move, with `free` values of the atoms that
+    /// are needed neither way.
     fn one_step(&self, index: usize, free: impl Fn(usize) -> bool, rng: &mut Rng) -> RecordDraft {
         let (entry, atoms) = (self.book.moves[index], &self.rules[index]);
         let mut objects = Vec::new();
@@ -45,7 +39,7 @@ impl World {
         let mut before = self.state(&objects, others, rng);
         for (number, atom) in atoms.iter().enumerate() {
             let fact = atom.fact(&step);
-            if atom.rule.needed || (free(number) && !atom.rule.unseen) {
+            if atom.rule.needed.unwrap_or_else(|| free(number)) {
                 before.insert(fact);
             } else {
                 before.remove(&fact);

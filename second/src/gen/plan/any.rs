@@ -3,7 +3,6 @@
 use super::crowded::{self, Ending};
 use super::order::{self, Plan};
 use super::several::{self, Starts};
-use super::unknown::{self, Unknown};
 use crate::gen::hall::inapplicable::{filed, Inapplicable};
 use crate::gen::hall::{book, Dynamics, Shape};
 use crate::gen::rng::Rng;
@@ -13,8 +12,7 @@ pub fn draw(rng: &mut Rng) -> Plan {
     let Plan { book, order } = match rng.below(100) {
         0..=4 => crowded::case(any_of(&Ending::ALL, rng), rng).0,
         5..=14 => several::case(any_of(&Starts::ALL, rng), rng).0,
-        15..=34 => unknown::case(any_of(&Unknown::ALL, rng), rng).0,
-        35..=74 => of_shape(&book::SMALL, rng),
+        15..=74 => of_shape(&book::SMALL, rng),
         75..=94 => of_shape(&book::MEDIUM, rng),
         _ => of_shape(&book::DENSE, rng),
     };

@@ -29,7 +29,7 @@ pub enum Ending {
     Passes,
     PassesWithOver320,
     PassesAfterRemovals,
-    PassesByAdded,
+    StopsAtAdded,
     StopsAtRemoved,
     MissesAdded,
     MissesRemoved,
@@ -42,7 +42,7 @@ impl Ending {
         Self::Passes,
         Self::PassesWithOver320,
         Self::PassesAfterRemovals,
-        Self::PassesByAdded,
+        Self::StopsAtAdded,
         Self::StopsAtRemoved,
         Self::MissesAdded,
         Self::MissesRemoved,
@@ -54,7 +54,7 @@ impl Ending {
             Self::Passes => "over 256 facts, passes",
             Self::PassesWithOver320 => "over 256 facts, passes with over 320",
             Self::PassesAfterRemovals => "over 256 facts, passes after removals",
-            Self::PassesByAdded => "over 256 facts, passes by one added",
+            Self::StopsAtAdded => "over 256 facts, stops at one added",
             Self::StopsAtRemoved => "over 256 facts, stops at one removed",
             Self::MissesAdded => "over 256 facts, misses one added",
             Self::MissesRemoved => "over 256 facts, misses one removed",
@@ -70,7 +70,7 @@ impl Ending {
             Self::Passes => Some(passes(execution, rng)),
             Self::PassesWithOver320 => (state.len() > 320).then(|| passes(execution, rng)),
             Self::PassesAfterRemovals => (!removed.is_empty()).then(|| passes(execution, rng)),
-            Self::PassesByAdded => goes_by(&(beyond & state), execution, rng),
+            Self::StopsAtAdded => stops(&(beyond & state), execution, rng),
             Self::StopsAtRemoved => stops(&(removed - state), execution, rng),
             Self::MissesAdded => misses(&(beyond & state), execution, rng),
             // The entry is about a fact beyond the 256th, too.
@@ -125,29 +125,17 @@ fn draw_world(rng: &mut Rng) -> World {
     World::with_rules(book, || visible_rule(atoms, adds, removes, rng))
 }
 
-/// Less than two needs in `atoms` atoms, effects in percent. What is needed is never
-/// added, so that each effect is seen.
+/// Two needs in `atoms` atoms, effects in percent. An effect never gives the
+/// value that is needed, so that it is seen.
 pub fn visible_rule(atoms: usize, adds: usize, removes: usize, rng: &mut Rng) -> Rule {
-    let needed = rng.below(2 * atoms) < 3;
+    let needed = (rng.below(atoms) < 2).then(|| rng.chance(50));
     let drawn = rng.below(100);
     let effect = (drawn < adds + removes).then_some(drawn < adds);
-    Rule { needed, effect: effect.filter(|adds| !(*adds && needed)), unseen: false }
+    Rule { needed, effect: effect.filter(|_| effect != needed) }
 }
 
 fn passes(execution: &Execution<'_>, rng: &mut Rng) -> (Goal, Answer) {
     (sorted(true_entries(execution, rng)), Answer::success(execution.steps.len()))
-}
-
-/// One more step, which goes and needs one of `facts`; the plan passes.
-fn goes_by(facts: &State, execution: &mut Execution<'_>, rng: &mut Rng) -> Option<(Goal, Answer)> {
-    let (world, objects) = (execution.world, &execution.objects);
-    let going = (0..200).filter_map(|_| world.step(objects, rng)).find_map(|step| {
-        let change = world.change(&step, &execution.state)?;
-        world.needs(&step).any(|fact| facts.contains(&fact)).then_some((step, change))
-    });
-    let (step, change) = going.filter(|_| execution.steps.len() < STEP_LIMIT)?;
-    execution.take(step, &change);
-    Some(passes(execution, rng))
 }
 
 /// One more step, whose unmet needs are all of `facts`, and some behind it. No

@@ -23,7 +23,7 @@ const SHAPE: Shape =
 const ENDINGS: [Ending; 6] = [
     Ending::Passes,
     Ending::PassesAfterRemovals,
-    Ending::PassesByAdded,
+    Ending::StopsAtAdded,
     Ending::StopsAtRemoved,
     Ending::MissesAdded,
     Ending::MissesRemoved,

@@ -62,7 +62,7 @@ impl<'a> Execution<'a> {
         }
     }
 
-    pub fn take(&mut self, step: Step, change: &Change) {
+    fn take(&mut self, step: Step, change: &Change) {
         let before = self.state.len();
         if before > FACT_LIMIT {
             self.removed.extend(&change.removed);

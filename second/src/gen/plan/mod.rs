@@ -1,6 +1,5 @@
 //! Books with an order of good form: plans from one start and from several, plans in
-//! whose execution over 256 facts hold or facts are open, and halls that are small enough
-//! for the judge.
+//! whose execution over 256 facts hold, and halls that are small enough for the judge.
 
 pub mod any;
 pub mod crowded;
@@ -10,4 +9,3 @@ pub mod order;
 pub mod several;
 pub mod starts;
 pub mod tiny;
-pub mod unknown;

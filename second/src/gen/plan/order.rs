@@ -23,11 +23,11 @@ pub fn draw(rng: &mut Rng) -> Plan {
     Plan { book: world.book, order }
 }
 
-/// Draws until a plan has steps, and keeps one without in 20 of 100 cases.
+/// Draws until a plan has steps, and keeps one without in 15 of 100 cases.
 pub(super) fn with_steps(draw: impl Fn(&mut Rng) -> Plan, rng: &mut Rng) -> Plan {
     loop {
         let plan = draw(rng);
-        if !plan.order.steps.is_empty() || rng.chance(20) {
+        if !plan.order.steps.is_empty() || rng.chance(15) {
             return plan;
         }
     }

@@ -1,8 +1,6 @@
 //! Halls so small that a judge can hold every action model of them.
 
 use super::order::{self, Plan};
-use super::starts::multiply;
-use super::unknown::{self, Unknown};
 use crate::gen::draft::BookDraft;
 use crate::gen::hall::inapplicable::{filed, Inapplicable};
 use crate::gen::hall::{book, Dynamics, Shape, World};
@@ -14,22 +12,7 @@ const SHAPE: Shape =
 /// A book with few lifted atoms and an order for it, with steps in most cases;
 /// some books are impossible.
 pub fn draw(rng: &mut Rng) -> Plan {
-    if rng.chance(30) {
-        draw_unknown(rng)
-    } else {
-        order::with_steps(draw_any, rng)
-    }
-}
-
-/// With facts that are open, from one start in most cases.
-fn draw_unknown(rng: &mut Rng) -> Plan {
-    let kind = *rng.pick(&Unknown::ALL).expect("there are some");
-    let shape = Shape { steps: 5, ..SHAPE };
-    let Plan { book, mut order } = unknown::case_of(kind, &shape, few_atoms, rng).0;
-    if rng.chance(25) {
-        multiply(&mut order, &book, rng);
-    }
-    Plan { book: filed(book, Inapplicable::Any, rng), order }
+    order::with_steps(draw_any, rng)
 }
 
 fn draw_any(rng: &mut Rng) -> Plan {
@@ -50,8 +33,8 @@ fn draw_any(rng: &mut Rng) -> Plan {
     Plan { book: filed(world.book, Inapplicable::Any, rng), order }
 }
 
-/// The models of one move number 12 to the power of its atoms if needs go both ways: four
-/// atoms at most, five now and then; with a second move three each.
+/// The models of one move number 12 to the power of its atoms: four atoms at
+/// most, five now and then; with a second move three each.
 pub(super) fn few_atoms(book: &BookDraft, rng: &mut Rng) -> bool {
     let limit = match book.moves.len() {
         0..=1 => 4 + usize::from(rng.chance(4)),

@@ -10,10 +10,9 @@ use crate::gen::hall::inapplicable::{filed, Inapplicable};
 use crate::gen::plan::crowded::{self, Ending};
 use crate::gen::plan::order::{self, Plan};
 use crate::gen::plan::several::{self, Starts};
-use crate::gen::plan::unknown::{self, Unknown};
 use crate::gen::rng::Rng;
 use crate::gen::{faults, BookDraft, JobCase};
-use crate::limits::{END_SHEET_HALF, END_SHEET_LENGTH, START_LIMIT};
+use crate::limits::{END_SHEET_LENGTH, START_LIMIT};
 
 pub struct CheckStream {
     books: BookStream,
@@ -32,10 +31,7 @@ impl CheckStream {
     #[must_use]
     pub fn labels(&self) -> Vec<Label> {
         let aims = self.aims.iter().map(|aim| aim.label);
-        aims.chain(Ending::ALL.map(Ending::label))
-            .chain(Starts::ALL.map(Starts::label))
-            .chain(Unknown::ALL.map(Unknown::label))
-            .collect()
+        aims.chain(Ending::ALL.map(Ending::label)).chain(Starts::ALL.map(Starts::label)).collect()
     }
 
     #[must_use]
@@ -62,20 +58,11 @@ impl CheckStream {
                 let label = Label { part: "order", what: "at every limit but that of starts" };
                 self.aimed_plan(label, plan, answer, rng)
             }
-            14 => {
-                let ending = Ending::ALL[round % Ending::ALL.len()];
-                let (plan, answer) = crowded::case(ending, rng);
-                self.aimed_plan(ending.label(), from_equal_starts(plan, rng), answer, rng)
-            }
+            14 => self.crowded_plan(Ending::ALL[round % Ending::ALL.len()], rng),
             15 => {
                 let kind = Starts::ALL[round % Starts::ALL.len()];
                 let (plan, answer) = several::case(kind, rng);
                 self.aimed_plan(kind.label(), plan, answer, rng)
-            }
-            16 => {
-                let kind = Unknown::ALL[round % Unknown::ALL.len()];
-                let (plan, answer) = unknown::case(kind, rng);
-                self.aimed_plan(kind.label(), from_equal_starts(plan, rng), answer, rng)
             }
             _ => {
                 let plan = order::draw(rng);
@@ -106,6 +93,17 @@ impl CheckStream {
         case(label, Some(aimed), self.book(plan.book, Inapplicable::Barred, rng), order, output)
     }
 
+    /// A plan in whose execution over 256 facts hold. At times it has equal starts:
+    /// they have the answer of the first, and no end sheet.
+    fn crowded_plan(&self, ending: Ending, rng: &mut Rng) -> JobCase {
+        let (mut plan, answer) = crowded::case(ending, rng);
+        if rng.chance(40) {
+            let start = plan.order.starts[0].clone();
+            plan.order.starts.resize(rng.range(2, START_LIMIT), start);
+        }
+        self.aimed_plan(ending.label(), plan, answer, rng)
+    }
+
     /// A plan that must get this answer, with an end sheet of the right length. Steps that
     /// did not go do not change it.
     fn aimed_plan(&self, label: Label, plan: Plan, answer: Answer, rng: &mut Rng) -> JobCase {
@@ -113,16 +111,6 @@ impl CheckStream {
         let book = self.book(book, Inapplicable::Barred, rng);
         case(label, Some(answer), book, order.bytes(), END_SHEET_LENGTH)
     }
-}
-
-/// The plan, which has one start, at times with equal ones: they have the answer of the
-/// first, and no end sheet.
-fn from_equal_starts(mut plan: Plan, rng: &mut Rng) -> Plan {
-    if rng.chance(40) {
-        let start = plan.order.starts[0].clone();
-        plan.order.starts.resize(rng.range(2, START_LIMIT), start);
-    }
-    plan
 }
 
 fn case(
@@ -140,6 +128,5 @@ fn end_length(percent: usize, rng: &mut Rng) -> usize {
     if rng.chance(percent) {
         return END_SHEET_LENGTH;
     }
-    let lengths = [0, 1, END_SHEET_HALF, END_SHEET_LENGTH - 1, END_SHEET_LENGTH + 1];
-    *rng.pick(&lengths).expect("there are five")
+    *rng.pick(&[0, 1, 511, 513, 1024]).expect("there are five")
 }

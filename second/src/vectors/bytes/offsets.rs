@@ -4,7 +4,7 @@
 use crate::answer::{Answer, Refusal};
 use crate::calls::Job;
 use crate::gen::OrderDraft;
-use crate::vectors::hall::{changed, end_sheet, m2, small_hall, ROLL_2_3};
+use crate::vectors::hall::{changed, m2, small_hall, ROLL_2_3};
 use crate::vectors::paper::check;
 use crate::vectors::Vector;
 
@@ -74,7 +74,7 @@ fn orders() -> Vec<Vector> {
     };
     vectors.extend([
         check("limit: order of 18 bytes", hall(), ended(18), Answer::success(0))
-            .after(end_sheet(&[])),
+            .after(vec![0; 512]),
         check("16: order of 17 bytes", hall(), ended(17), Refusal::Start.at(16)),
         check("16: order of 16 bytes", hall(), ended(16), Refusal::Start.at(16)),
     ]);

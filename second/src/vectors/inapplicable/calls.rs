@@ -8,8 +8,8 @@ use crate::calls::Job::{Add, Check, Learn};
 use crate::gen::{BookDraft, RecordDraft};
 use crate::limits::{END_SHEET_LENGTH, RULES_LENGTH};
 use crate::vectors::hall::{
-    end_sheet, failing_orders, filed, m2, m3, order, small_hall, story, with, AT_2, AT_4, ROLL_2_3,
-    ROLL_3_4, START, STAYS_OUT,
+    end_sheet, failing_orders, filed, m2, order, small_hall, story, with, AT_2, AT_4, ROLL_2_3,
+    ROLL_3_4, START, START_2_CLEAR, STAYS_OUT,
 };
 use crate::vectors::paper::{check, missed, unmet};
 use crate::vectors::short::converting::converted;
@@ -98,8 +98,8 @@ fn plans(form: Form) -> Vec<Vector> {
     let goal = [(1, AT_4)];
     let ended = end_sheet(&[AT_4, [2, 2, 0], CLEAR_3]);
     vec![
-        check("M2", book.clone(), m2().bytes(), Answer::success(2)).after(ended.clone()),
-        check("M3", book.clone(), m3().bytes(), Answer::success(2)).after(ended),
+        check("M2", book.clone(), m2().bytes(), Answer::success(2)).after(ended),
+        check("M3", book.clone(), order(&START_2_CLEAR, &goal, &rolls).bytes(), unmet(1)),
         check("M4", book.clone(), order(&START, &[(1, AT_2)], &[]).bytes(), Answer::success(0))
             .after(end_sheet(&START)),
         check("M5", book.clone(), order(&START, &goal, &[]).bytes(), missed(1)),

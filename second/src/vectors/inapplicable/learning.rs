@@ -61,8 +61,8 @@ fn answered(form: Form, (name, book, said): Case) -> [Vector; 2] {
     [looked, learned].map(|vector| vector.form(form.number()))
 }
 
-/// With a need unmet, all is learned as without the step: the bank still at spot 2 is no
-/// 12, and a spot that is taken drops no need.
+/// With a need unmet, to hold or not to hold, all is learned as without the step: the bank
+/// still at spot 2 is no 12, and a spot that is clear or taken drops no need.
 fn taught_nothing() -> Vec<Case> {
     let case = |name, state: &[Fact]| (name, with([filed(), tried(state)]), Learned(m1_sheet()));
     // Tried back, rolled, and tried again in one record.
@@ -79,17 +79,17 @@ fn taught_nothing() -> Vec<Case> {
     vec![
         case("a spot needed clear is not", &[AT_2]),
         case("a bank needed at a spot is not", &[CLEAR_3]),
-        case("a spot needed clear is not, another is", &[AT_2, CLEAR_2]),
-        case("a bank needed at a spot is elsewhere", &[[1, 1, 3], CLEAR_3]),
+        case("a spot needed taken is clear", &[AT_2, CLEAR_2, CLEAR_3]),
+        case("a bank needed elsewhere is there", &[AT_2, [1, 1, 3], CLEAR_3]),
         case("no fact at all", &[]),
-        case("every fact but one needed", &[AT_2, [1, 1, 3], CLEAR_2]),
+        case("every fact", &[AT_2, [1, 1, 3], CLEAR_2, CLEAR_3]),
         ("the record of the step first", with([barred(), filed()]), Learned(m1_sheet())),
         ("among the steps of the record", with([among]), Learned(m1_sheet())),
         ("two in one record", with([filed(), tried_twice]), Learned(m1_sheet())),
         (
             "of two moves the other one",
-            one_fact(2, [story(&[true, true, false, false, false], &[2, 1, 129, 130])]),
-            Learned(sheet(&[[&[0], &[], &[], &[0]], [&[0], &[], &[], &[]]])),
+            one_fact(2, [story(&[false, true, true, false, false], &[1, 129, 2, 130])]),
+            Learned(sheet(&[[&[], &[0], &[0], &[]], [&[0], &[], &[], &[0]]])),
         ),
     ]
 }
@@ -99,20 +99,20 @@ fn taught_nothing() -> Vec<Case> {
 fn never_recorded() -> Vec<Case> {
     let all: &[usize] = &[1, 2, 20, 24];
     let unrecorded = || Learned(sheet(&[[all, all, &[], &[]]]));
-    let both = || sheet(&[[&[0], &[0], &[], &[]], [&[], &[], &[0], &[]]]);
+    let both = || sheet(&[[&[0], &[0], &[], &[]], [&[], &[0], &[0], &[]]]);
     vec![
         ("never recorded, a need unmet", with([barred()]), unrecorded()),
         ("never recorded, as the roll that went elsewhere", with([unbarred()]), unrecorded()),
         ("never recorded, in two states", with([tried(&[]), unbarred()]), unrecorded()),
         (
             "never recorded, beside a move that is",
-            one_fact(2, [story(&[false, false, true], &[129, 2])]),
+            one_fact(2, [story(&[false, false, true, true], &[129, 2, 129])]),
             Learned(both()),
         ),
     ]
 }
 
-/// Both of the needs, and facts that are no bound facts of the step.
+/// All of the four needs, and facts that are no bound facts of the step.
 fn needs_met() -> Vec<Case> {
     let mut idle = unbarred();
     idle.objects.push(2);
@@ -163,9 +163,14 @@ fn needs_met() -> Vec<Case> {
             Learned(sheet(&[[&[0], &[], &[], &[]]])),
         ),
         (
+            "a need not to hold unmet, and no other",
+            one_fact(1, [story(STAYS_OUT, &[1]), story(STAYS, &[129])]),
+            Learned(sheet(&[[&[], &[0], &[], &[]]])),
+        ),
+        (
             "all needs of the second move met",
-            one_fact(2, [story(&[true, false, false, true], &[1, 129, 2])]),
-            Learned(sheet(&[[&[0], &[], &[], &[0]], [&[], &[], &[0], &[]]])),
+            one_fact(2, [story(&[false, true, true, true], &[1, 129, 130])]),
+            Learned(sheet(&[[&[], &[0], &[0], &[]], [&[0], &[0], &[], &[]]])),
         ),
     ]
 }
@@ -195,18 +200,14 @@ fn no_needs() -> Vec<Case> {
 /// was unmet.
 fn whole_book() -> Vec<Case> {
     let clear = || tried(&[AT_2, CLEAR_2, CLEAR_3]);
-    let taken = sheet(&[[&[1], &[], &[2, 20], &[1, 24]]]);
+    let dropped = sheet(&[[&[1, 24], &[2], &[2, 20], &[1, 24]]]);
     vec![
-        ("a spot clear as in a later record", with([filed(), clear(), stays_clear()]), {
-            NeedsMet(1, 0)
-        }),
-        ("a spot clear as in a record before", with([stays_clear(), filed(), clear()]), {
+        ("a need not to hold dropped", with([filed(), clear(), stays_clear()]), NeedsMet(1, 0)),
+        ("a need not to hold dropped before", with([stays_clear(), filed(), clear()]), {
             NeedsMet(2, 0)
         }),
-        ("a need dropped", with([filed(), barred(), stays_taken()]), NeedsMet(1, 0)),
-        ("a need dropped before", with([stays_taken(), filed(), barred()]), NeedsMet(2, 0)),
-        ("another need dropped", with([filed(), tried(&[]), stays_taken()]), Learned(taken)),
-        ("no need dropped", with([filed(), barred(), stays_clear()]), Learned(m1_sheet())),
+        ("a need to hold dropped", with([filed(), barred(), stays_taken()]), NeedsMet(1, 0)),
+        ("another need dropped", with([filed(), barred(), stays_clear()]), Learned(dropped)),
     ]
 }
 

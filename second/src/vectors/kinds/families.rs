@@ -4,8 +4,8 @@
 use crate::answer::{Answer, Refusal};
 use crate::calls::Job;
 use crate::gen::{BookDraft, Fact, OrderDraft, RecordDraft, Step};
-use crate::vectors::hall::{end_sheet, end_sheet_with, m2, sheet, with_parents as hall};
-use crate::vectors::paper::{check, learn, m1_sheet};
+use crate::vectors::hall::{end_sheet, m2, sheet, with_parents as hall};
+use crate::vectors::paper::{check, learn, m1_sheet, unmet};
 use crate::vectors::Vector;
 
 pub fn all() -> Vec<Vector> {
@@ -19,7 +19,7 @@ pub fn all() -> Vec<Vector> {
 /// The small hall's bytes with parents.
 fn small_halls() -> Vec<Vector> {
     // "Bank at spot" then has a spot in its first place too.
-    let spots: [&[usize]; 4] = [&[1, 24], &[5, 6, 9, 10], &[2, 20], &[1, 24]];
+    let spots: [&[usize]; 4] = [&[1, 24], &[2, 5, 6, 9, 10, 20], &[2, 20], &[1, 24]];
     vec![
         learn("learned: parents of 0", &hall(&[0, 0]), m1_sheet()),
         learn("learned: a spot below a bank", &hall(&[0, 1]), sheet(&[spots])),
@@ -83,21 +83,19 @@ fn chain(kind: u8) -> Vector {
 }
 
 /// M2 with the small hall's parents. With a spot below a bank "spot at spot" is a
-/// right fact, and the roll may remove it.
+/// right fact, and the roll needs it not to hold.
 fn plans() -> Vec<Vector> {
     let hall = |parents: &[u8]| hall(parents).bytes();
-    let ended = [[1, 1, 4], [2, 2, 0], [2, 3, 0]];
-    let end = end_sheet(&ended);
+    let end = end_sheet(&[[1, 1, 4], [2, 2, 0], [2, 3, 0]]);
     let spot_at_spot =
         OrderDraft { starts: vec![vec![[1, 1, 2], [1, 3, 3], [2, 3, 0], [2, 4, 0]]], ..m2() };
     let m2 = || m2().bytes();
     vec![
         check("M2 with parents of 0", hall(&[0, 0]), m2(), Answer::success(2)).after(end.clone()),
         check("M2 with a spot below a bank", hall(&[0, 1]), m2(), Answer::success(2)).after(end),
-        check("passes: a spot at a spot, below a bank", hall(&[0, 1]), spot_at_spot.bytes(), {
-            Answer::success(2)
-        })
-        .after(end_sheet_with(&ended, &[[1, 3, 3]])),
+        check("19: a spot at a spot, below a bank", hall(&[0, 1]), spot_at_spot.bytes(), {
+            unmet(1)
+        }),
         check("16: a spot at a spot, with parents of 0", hall(&[0, 0]), spot_at_spot.bytes(), {
             Refusal::Start.at(22 + 3)
         }),

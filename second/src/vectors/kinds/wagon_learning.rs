@@ -24,7 +24,7 @@ type Sets<'a> = [&'a [usize]; 4];
 
 /// 1 and 2 are "bank at spot", 20 and 24 "spot clear"; a bank's parameter makes
 /// none of relations 3 and 4.
-const ROLL: Sets<'static> = [&[1, 24], &[], &[2, 20], &[1, 24]];
+const ROLL: Sets<'static> = [&[1, 24], &[2, 20], &[2, 20], &[1, 24]];
 /// 32 is "wagon loaded", 48 "coupled" to itself: the wagon's kind suits both.
 const LOAD_UNRECORDED: Sets<'static> = [&[32, 48], &[32, 48], &[], &[]];
 /// Of the wagon, parameter 2, "loaded" is 36, "bank coupled to it" 49 and "it
@@ -76,10 +76,10 @@ fn learned_by_wagons() -> Vec<Vector> {
             Refusal::EffectConflict.at(2),
         ),
         learn("learned: a tank wagon is loaded", &with([first_step(&loads)]), {
-            sheet(&[unrecorded, [&[], &[48], &[32], &[]], COUPLE_UNRECORDED])
+            sheet(&[unrecorded, [&[], &[32, 48], &[32], &[]], COUPLE_UNRECORDED])
         }),
         learn("learned: a wagon coupled to a tank wagon", &with([couples]), {
-            sheet(&[unrecorded, LOAD_UNRECORDED, [&[36], &[], &[49, 53], &[]]])
+            sheet(&[unrecorded, LOAD_UNRECORDED, [&[36], &[49, 53], &[49, 53], &[]]])
         }),
     ]
 }

@@ -94,7 +94,7 @@ fn four_parameters() -> Vec<Vector> {
         ..unrecorded.clone()
     };
     let (gone, new) = (16 * 15 + 4 * 2 + 3, 16 * 15 + 4 * 3 + 2);
-    let absent: Vec<usize> = (0..256).filter(|&n| n != gone && n != new).collect();
+    let absent: Vec<usize> = (0..256).filter(|&n| n != gone).collect();
     let plan = OrderDraft {
         objects: vec![1; 16],
         starts: vec![vec![[16, 15, 16]]],

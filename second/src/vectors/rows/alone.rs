@@ -4,7 +4,7 @@
 use crate::answer::{Answer, Refusal};
 use crate::calls::Job::{Add, Check, Learn};
 use crate::gen::{BookDraft, Fact, OrderDraft, RecordDraft};
-use crate::limits::{END_SHEET_HALF, END_SHEET_LENGTH, RULES_LENGTH};
+use crate::limits::{END_SHEET_LENGTH, RULES_LENGTH};
 use crate::vectors::hall::{
     empty_end, end_sheet, filed, one_fact, order, sheet, small_hall, story, unbound, with, AT_2,
     AT_4, DOWN, ROLL_2_3, ROLL_3_4, START, START_2_CLEAR, STAYS, STAYS_OUT, UP,
@@ -75,7 +75,7 @@ fn unbound_in_one_place() -> Vec<Vector> {
         learn(
             "11 not met: one parameter in both places",
             &beside([3, 1, 1]),
-            sheet(&[[&[1, 24], &[], &[2, 20, 32], &[1, 24]]]),
+            sheet(&[[&[1, 24], &[2, 20, 32], &[2, 20, 32], &[1, 24]]]),
         ),
     ]
 }
@@ -138,18 +138,22 @@ fn conflicts() -> Vec<Vector> {
 
 fn learned() -> Vec<Vector> {
     let renumbered = with([filed().renumbered(&[3, 1, 2])]);
-    // Spot 2 is clear before as well.
+    // Spot 2 is clear before as well: clear of the first spot is needed no more.
     let more = with([filed(), four(&START_2_CLEAR[..3], &[[1, 1, 3], [2, 2, 0]])]);
     let both = one_fact(1, [story(&[true, true], &[1]), story(&[false, false], &[1])]);
     let two_moves = one_fact(2, [story(&[false, true, false], &[1, 2])]);
     vec![
         learn("learned: spots renumbered", &renumbered, m1_sheet()),
-        learn("learned: a spot clear before one of two steps", &more, m1_sheet()),
+        learn(
+            "learned: a second record drops a need",
+            &more,
+            sheet(&[[&[1, 24], &[2], &[2, 20], &[1, 24]]]),
+        ),
         learn("learned: held after is no effect", &both, sheet(&[[&[], &[], &[], &[]]])),
         learn(
             "learned: two moves",
             &two_moves,
-            sheet(&[[&[], &[], &[0], &[]], [&[0], &[], &[], &[0]]]),
+            sheet(&[[&[], &[0], &[0], &[]], [&[0], &[], &[], &[0]]]),
         ),
         learn("learned: no moves", &one_fact(0, []), Vec::new()),
         check(
@@ -174,12 +178,11 @@ pub fn outputs() -> Vec<Vector> {
         vectors.push(wrong(format!("13: sheet of {length} bytes"), Learn, hall(), length));
     }
     vectors.push(wrong("13: a sheet for no moves".into(), Learn, one_fact(0, []).bytes(), 1));
-    for length in [0, END_SHEET_HALF, END_SHEET_LENGTH - 1, END_SHEET_LENGTH + 1] {
+    for length in [0, END_SHEET_LENGTH - 1, END_SHEET_LENGTH + 1] {
         let name = format!("13: end sheet of {length} bytes");
         vectors.push(wrong(name, Check, hall(), length).order(plan()));
     }
-    let short = END_SHEET_LENGTH - 1;
-    vectors.push(wrong("13 before 14".into(), Check, hall(), short).order(vec![0; 15]));
+    vectors.push(wrong("13 before 14".into(), Check, hall(), 511).order(vec![0; 15]));
     let add = |name: &str, length| {
         let book = with([]).bytes();
         wrong(name.into(), Add, book, length).record(filed().bytes())
@@ -203,10 +206,7 @@ pub fn plans() -> Vec<Vector> {
     let ended = [AT_4, [2, 2, 0], [2, 3, 0]];
     vec![
         plan("19: a fact needed to hold does not", &no_clear_3, &at_4, &rolls, unmet(1)),
-        plan("passes: a fact that did not hold does", &START_2_CLEAR, &[], &[ROLL_2_3], {
-            Answer::success(1)
-        })
-        .after(end_sheet(&[[1, 1, 3], [2, 2, 0], CLEAR_4])),
+        plan("19: a fact needed not to hold does", &START_2_CLEAR, &at_4, &[ROLL_2_3], unmet(1)),
         plan("19: at step 2", &START, &at_4, &[ROLL_2_3, [1, 1, 2, 4, 0]], unmet(2)),
         plan("19 before 20", &START, &[(1, AT_2)], &[ROLL_2_3, ROLL_2_3], unmet(2)),
         plan("20: an entry of 1", &START, &[(1, AT_2)], &rolls, missed(1)),
@@ -256,8 +256,7 @@ pub fn plans_without_places() -> Vec<Vector> {
         plan("passes: a fact of no places", &both, &[turn, put(3)], Answer::success(2))
             .after(end_sheet(&[fact, [2, 3, 0]])),
         plan("19: a fact of no places is needed", &[], &[put(3)], unmet(1)),
-        plan("passes: a fact of no places is added twice", &[], &[turn, turn], Answer::success(2))
-            .after(end_sheet(&[fact])),
+        plan("19: a fact of no places is needed not to hold", &[], &[turn, turn], unmet(2)),
         plan("20: a fact of no places", &[(0, fact)], &[turn], missed(1)),
     ]
 }

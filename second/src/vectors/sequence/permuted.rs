@@ -127,7 +127,7 @@ pub fn fact(name: &'static str, moves: usize, records: &[(char, &[bool], &[u8])]
 }
 
 /// The filed roll with spot 2 clear before it as well: no step shows here that it is
-/// cleared.
+/// cleared, nor that it must not be clear.
 pub fn stays_clear() -> RecordDraft {
     let mut record = filed();
     record.states[0].insert(1, [2, 2, 0]);
@@ -146,8 +146,8 @@ pub fn stays_taken() -> RecordDraft {
 /// "spot clear" of parameters 2 and 3.
 fn learned() -> Vec<Vector> {
     let (a, b, c) = (('A', filed()), ('B', stays_clear()), ('C', stays_taken()));
-    let clear = m1_sheet();
-    let taken = sheet(&[[&[1], &[], &[2, 20], &[1, 24]]]);
+    let clear = sheet(&[[&[1, 24], &[2], &[2, 20], &[1, 24]]]);
+    let taken = sheet(&[[&[1], &[2, 20], &[2, 20], &[1, 24]]]);
     let mut stays = hall("a spot that stays clear", [a.clone(), b.clone()]);
     let mut vectors = stays.each(|sequence| sequence.learn(&clear));
     // The same with parents that say nothing.

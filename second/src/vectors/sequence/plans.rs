@@ -35,7 +35,7 @@ fn checked(sequence: &Sequence, name: &str, order: &OrderDraft, answer: Answer) 
     check(&name, sequence.book.bytes(), order.bytes(), answer).form(sequence.book.form.number())
 }
 
-/// Spots 2 and 4 are clear. By A alone spot 3 would be needed clear.
+/// Spots 2 and 4 are clear. By A alone spot 2 would be needed taken, and spot 3 clear.
 const LEFT: [Fact; 3] = [AT_2, [2, 2, 0], [2, 4, 0]];
 const ROLLS: [Step; 2] = [ROLL_2_3, ROLL_3_4];
 
@@ -44,13 +44,13 @@ fn goal(cleared: u8) -> [(u8, Fact); 3] {
     [(1, AT_4), (cleared, [2, 3, 0]), (0, [2, 4, 0])]
 }
 
-/// A roll needs the bank where it starts. It clears the one spot, which B does not show,
-/// and takes the other, which C does not show.
+/// A roll needs the bank where it starts and not where it goes. It clears the one spot,
+/// which B does not show, and takes the other, which C does not show.
 fn rolled(sequence: &Sequence) -> [Vector; 2] {
     let ended = end_sheet(&[AT_4, [2, 2, 0], [2, 3, 0]]);
     let passes = order(&LEFT, &goal(1), &ROLLS);
     [
-        sequence.learn(&sheet(&[[&[1], &[], &[2, 20], &[1, 24]]])),
+        sequence.learn(&sheet(&[[&[1], &[2], &[2, 20], &[1, 24]]])),
         checked(sequence, "passes", &passes, Answer::success(2)).after(ended),
     ]
 }
@@ -59,7 +59,7 @@ fn refused(sequence: &Sequence) -> [Vector; 3] {
     let misses = order(&LEFT, &goal(0), &ROLLS);
     let stops = order(&LEFT, &[], &[ROLL_2_3, [1, 1, 2, 4, 0]]);
     let mut two = order(&LEFT, &goal(1), &ROLLS);
-    two.starts.push(vec![[1, 1, 3]]);
+    two.starts.push(vec![AT_2, [1, 1, 3]]);
     [
         checked(sequence, "20", &misses, missed(2)),
         checked(sequence, "19", &stops, unmet(2)),
@@ -78,8 +78,8 @@ fn plan(start: &[Fact], goal: &[(u8, Fact)], moves: &[u8]) -> OrderDraft {
     }
 }
 
-/// Move 1 adds the fact and move 2 removes it, as A alone shows; neither needs it, as A
-/// and C show.
+/// Move 1 adds the fact and move 2 removes it, as A alone shows; neither needs it or
+/// needs it not to hold, as B and C show.
 fn turned(sequence: &Sequence) -> [Vector; 2] {
     let passes = plan(&[], &[(1, FACT)], &[2, 1, 1]);
     [

@@ -17,23 +17,23 @@ pub fn all() -> Vec<Vector> {
         learn(
             "learned: a fact stays after each of two moves",
             &one_fact(3, [in_turn]),
-            sheet(&[[&[], &[], &[], &[]], [&[], &[], &[0], &[]], [&[0], &[], &[], &[0]]]),
+            sheet(&[[&[], &[], &[], &[]], [&[], &[0], &[0], &[]], [&[0], &[], &[], &[0]]]),
         ),
         learn("learned: the first object idle", &idle_first(), m1_sheet()),
         learn(
             "learned: four parameters, the first object idle",
             &idle_of_five(),
-            sheet(&[[&[0], &[8, 12], &[4], &[]]]),
+            sheet(&[[&[0], &[4, 8, 12], &[4], &[]]]),
         ),
         learn(
             "learned: a fact of no places stays",
             &without_places(),
-            sheet(&[[&[0], &[], &[16], &[]]]),
+            sheet(&[[&[0], &[16], &[16], &[]]]),
         ),
         learn(
             "learned: object 16 for parameter 4",
             &last_parameter(),
-            sheet(&[[&[3, 7, 15], &[0, 1, 2, 4, 5, 6, 8, 9, 10, 12, 13, 14], &[11], &[7]]]),
+            sheet(&[[&[3, 7, 15], &[0, 1, 2, 4, 5, 6, 8, 9, 10, 11, 12, 13, 14], &[11], &[7]]]),
         ),
     ]
 }

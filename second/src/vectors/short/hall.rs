@@ -7,8 +7,8 @@ use crate::calls::Job::{self, Add, Check, Learn, LookOver, ToFull, ToShort};
 use crate::gen::{BookDraft, OrderDraft, RecordDraft};
 use crate::limits::{END_SHEET_LENGTH, RULES_LENGTH};
 use crate::vectors::hall::{
-    changed, end_sheet, filed, m2, m3, order, sheet, small_hall, unrecorded, with, AT_2, AT_4,
-    START,
+    changed, end_sheet, filed, m2, order, sheet, small_hall, unrecorded, with, AT_2, AT_4,
+    ROLL_2_3, ROLL_3_4, START, START_2_CLEAR,
 };
 use crate::vectors::paper::{check, m1_sheet, missed, unmet};
 use crate::vectors::Vector;
@@ -61,7 +61,7 @@ fn short_check(name: &str, order: &OrderDraft, answer: Answer) -> Vector {
 /// The marked cases with this book.
 fn marked() -> Vec<Vector> {
     let hall = || short_hall().bytes();
-    let goal = [(1, AT_4)];
+    let (goal, rolls) = ([(1, AT_4)], [ROLL_2_3, ROLL_3_4]);
     let conflict = short_with([turned(), all_turned()]);
     let ended = end_sheet(&[AT_4, [2, 2, 0], [2, 3, 0]]);
     let vectors = vec![
@@ -69,8 +69,8 @@ fn marked() -> Vec<Vector> {
         Vector::new("M1 learned", &[Learn], hall(), Answer::success(1))
             .output(RULES_LENGTH)
             .after(m1_sheet()),
-        short_check("M2", &m2(), Answer::success(2)).after(ended.clone()),
-        short_check("M3", &m3(), Answer::success(2)).after(ended),
+        short_check("M2", &m2(), Answer::success(2)).after(ended),
+        short_check("M3", &order(&START_2_CLEAR, &goal, &rolls), unmet(1)),
         short_check("M4", &order(&START, &[(1, AT_2)], &[]), Answer::success(0))
             .after(end_sheet(&START)),
         short_check("M5", &order(&START, &goal, &[]), missed(1)),
@@ -111,9 +111,8 @@ fn told() -> Vec<Vector> {
 }
 
 /// Each form of the book read as the other: spot 3 is still clear and the bank still
-/// at spot 2, so that nothing was removed, and the plan leaves all that held.
+/// at spot 2, so that nothing was removed, and a second roll does not go.
 fn read_otherwise() -> Vec<Vector> {
-    let left = [&START[..], &[[1, 1, 3], AT_4, [2, 2, 0]]].concat();
     let mut vectors = Vec::new();
     for (name, book, form) in [("full", small_hall(), 1), ("short", short_hall(), 0)] {
         let (learned, checked) = (format!("{name}, read otherwise"), format!("{name}, checked so"));
@@ -121,10 +120,9 @@ fn read_otherwise() -> Vec<Vector> {
             Vector::new(learned, &[Learn], book.bytes(), Answer::success(1))
                 .form(form)
                 .output(RULES_LENGTH)
-                .after(sheet(&[[&[1, 24], &[], &[2, 20], &[]]])),
+                .after(sheet(&[[&[1, 24], &[2, 20], &[2, 20], &[]]])),
         );
-        let passes = check(&checked, book.bytes(), m2().bytes(), Answer::success(2));
-        vectors.push(passes.form(form).after(end_sheet(&left)));
+        vectors.push(check(&checked, book.bytes(), m2().bytes(), unmet(2)).form(form));
     }
     vectors
 }

@@ -4,7 +4,7 @@
 use crate::answer::{Answer, Refusal};
 use crate::gen::plan::order::at_the_limits;
 use crate::gen::{Fact, OrderDraft};
-use crate::limits::{END_SHEET_LENGTH, FACT_LIMIT, START_LIMIT};
+use crate::limits::{FACT_LIMIT, START_LIMIT};
 use crate::vectors::hall::{changed, empty_end, filed, m2, small_hall, with, START};
 use crate::vectors::paper::check;
 use crate::vectors::Vector;
@@ -52,7 +52,6 @@ fn beside_other_rows() -> Vec<Vector> {
     let header = Refusal::OrderHeader.at(0);
     let none = || changed(m2().bytes(), &[(3, &[0])]);
     let conflict = with([filed(), empty_end()]).bytes();
-    let short = END_SHEET_LENGTH - 1;
     let mut vectors = vec![
         case("14 before 22: 17 objects", 0, &[(1, &[17])], header),
         case("14 before 22: 65 entries", 17, &[(5, &[65])], header),
@@ -66,7 +65,7 @@ fn beside_other_rows() -> Vec<Vector> {
         case("22 before 16", 0, &[(22, &[3])], count()),
         case("22 before 17", 17, &[(31, &[2])], count()),
         case("22 before 18", 0, &[(35, &[2])], count()),
-        refused("13 before 22", none(), Refusal::Output.at(0)).output(short),
+        refused("13 before 22", none(), Refusal::Output.at(0)).output(511),
         check("12 before 22", conflict, none(), Refusal::EffectConflict.at(1)),
     ];
     // Each offset one off, and the goal's before the start's.

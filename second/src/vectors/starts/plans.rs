@@ -6,7 +6,7 @@
 
 use crate::answer::{Answer, Refusal};
 use crate::gen::{Fact, OrderDraft};
-use crate::limits::{END_SHEET_HALF, END_SHEET_LENGTH, START_LIMIT};
+use crate::limits::START_LIMIT;
 use crate::vectors::hall::{empty_end, end_sheet, filed, small_hall, with, ROLL_2_3, ROLL_3_4};
 use crate::vectors::paper::check;
 use crate::vectors::Vector;
@@ -16,10 +16,8 @@ type Start = &'static [Fact];
 const PASSES: Start = &[[1, 1, 2], [1, 5, 2], [2, 3, 0], [2, 4, 0]];
 /// Bank 5 is at spot 3 too, which nothing asks for.
 const PASSES_TOO: Start = &[[1, 1, 2], [1, 5, 2], [1, 5, 3], [2, 3, 0], [2, 4, 0]];
-/// Spot 2 is clear too, which no roll minds.
-const SPOT_2_CLEAR: Start = &[[1, 1, 2], [1, 5, 2], [2, 2, 0], [2, 3, 0], [2, 4, 0]];
-/// Spot 3 is not clear.
-const STOPS_AT_1: Start = &[[1, 1, 2], [1, 5, 2], [2, 4, 0]];
+/// Spot 2 is clear.
+const STOPS_AT_1: Start = &[[1, 1, 2], [1, 5, 2], [2, 2, 0], [2, 3, 0], [2, 4, 0]];
 /// Spot 4 is not clear.
 const STOPS_AT_2: Start = &[[1, 1, 2], [1, 5, 2], [2, 3, 0]];
 /// Bank 5 is not at spot 2.
@@ -68,7 +66,6 @@ fn passes() -> Vec<Vector> {
         plan("one passes", &[PASSES], pass).after(end_sheet(&end)),
         plan("two pass", &[PASSES, PASSES_TOO], pass),
         plan("two equal ones pass", &[PASSES, PASSES], pass),
-        plan("two pass, M3's second", &[PASSES, SPOT_2_CLEAR], pass),
         plan("three pass, the last as the first", &[PASSES, PASSES_TOO, PASSES], pass),
         plan("15 pass", &[PASSES; START_LIMIT - 1], pass),
         plan("16 equal ones pass", &[PASSES; START_LIMIT], pass),
@@ -124,7 +121,7 @@ fn without_steps() -> Vec<Vector> {
     };
     let (clear_2, at_2) = ([2, 2, 0], [1, 1, 2]);
     let pass = Answer::success(0);
-    let starts = [SPOT_2_CLEAR, STOPS_AT_2];
+    let starts = [STOPS_AT_1, STOPS_AT_2];
     vec![
         plan("starts: of no facts, no goal and no steps", &[EMPTY, EMPTY], &[], pass),
         plan("starts: no steps, both meet the goal", &starts, &[(1, at_2)], pass),
@@ -140,8 +137,7 @@ fn without_steps() -> Vec<Vector> {
 /// not learn is refused before.
 fn outputs() -> Vec<Vector> {
     let two = [PASSES, PASSES_TOO];
-    let (half, right) = (END_SHEET_HALF, END_SHEET_LENGTH);
-    let mut vectors: Vec<Vector> = [0, half, right - 1, right + 1]
+    let mut vectors: Vec<Vector> = [0, 511, 513, 1024]
         .map(|length| {
             let name = format!("two pass, 13 with {length} bytes");
             plan(&name, &two, Refusal::Output.at(0)).output(length)
@@ -149,7 +145,7 @@ fn outputs() -> Vec<Vector> {
         .to_vec();
     let conflict = with([filed(), empty_end()]).bytes();
     vectors.extend([
-        plan("13 before 19", &[PASSES, STOPS_AT_1], Refusal::Output.at(0)).output(right - 1),
+        plan("13 before 19", &[PASSES, STOPS_AT_1], Refusal::Output.at(0)).output(511),
         plan("13 before 20", &[PASSES, MISSES_2], Refusal::Output.at(0)).output(0),
         check("starts: 12 before 19", conflict, order(&[PASSES, STOPS_AT_1]).bytes(), {
             Refusal::EffectConflict.at(1)
