@@ -1,5 +1,7 @@
 // Adding a record to a book of either form, the record being in the book's form. The new book is formed beside the lent output and its record looked over there, so that a refusal
 // leaves the output untouched. Uses answer, input, limits, output, terms, lookover and the definitions of jobs. Each record of the new book is read once.
+#![tactic(auto)]
+
 ghost use Rattle.std.specs.Prelude.{◌≡◌, ◌+◌, ◌-◌, ◌≤◌, length};
 ghost use Rattle.limits.specs.Limits.{header_size, max_length};
 ghost use Rattle.jobs.specs.Add.{added};

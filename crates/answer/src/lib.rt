@@ -1,17 +1,19 @@
 // What every job answers, and what every step of looking over answers: good, with a number, or refused.
 // The code uses no other crate; laws in specs/ use truth. The definitions in specs/Answer.antt give the paper's number and place for each case.
+#![tactic(auto)]
+
 ghost use Rattle.std.specs.Prelude.{◌≡◌, ◌+◌, ◌*◌, ◌<◌};
 ghost use Rattle.answer.specs.Answer.{is_refused, value_of, number, place, unpositioned, packed};
 
 // Good: where the next part starts or, of a whole job, the place of its success. Refused: the number of the refusal and its place.
-#[derive(Drop)]
+#[derive(Clone, Copy)]
 pub enum Answer {
     Good(usize),
     Refused(usize, usize),
 }
 
 // What a check answers: an answer, and which of the order's starts, counted from 1, it is about; 0 where it is about none of them.
-#[derive(Drop)]
+#[derive(Clone, Copy)]
 pub struct Positioned {
     pub answer: Answer,
     pub position: usize,

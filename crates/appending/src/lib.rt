@@ -1,5 +1,7 @@
 // Bytes appended to a book that is formed front to back in lent memory, up to where it would pass the longest book's end.
 // Uses limits, output, terms, and the definitions of jobs.
+#![tactic(auto)]
+
 ghost use Rattle.std.specs.Prelude.{◌≡◌, [], ◌∷◌, ◌≤◌, length};
 ghost use Rattle.limits.specs.Limits.{max_length};
 ghost use Rattle.jobs.specs.Convert.{facts_bytes};

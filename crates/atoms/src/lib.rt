@@ -1,5 +1,7 @@
 // The bound facts (lifted atoms) of a move, as a set of 32 bytes: sixteen bits a relation, made from the parameters that fill its places.
 // Uses tables for the parameters that suit each kind, terms for the kinds in a book, mask and objectset for sets, limits.
+#![tactic(auto)]
+
 ghost use Rattle.std.specs.Prelude.{◌≡◌, ◌+◌, ◌≤◌, ◌<◌, min};
 ghost use Rattle.limits.specs.Limits.{max_params, max_atoms};
 ghost use Rattle.terms.specs.Schema.{schema};

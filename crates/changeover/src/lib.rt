@@ -1,5 +1,7 @@
 // The jobs as calls for C (include/changeover.h): thin over the proved library, with number, position and place packed into one answer.
 // A lent slice is a pointer and a length in C. A call is told the form of its book by a number.
+#![tactic(auto)]
+
 ghost use Rattle.std.specs.Prelude.{◌≡◌};
 ghost use Rattle.changeover.specs.Calls.{form_of, LookedOver, Learned, Checked, Added, Converted};
 ghost use Rattle.format.specs.Form.{full, short};

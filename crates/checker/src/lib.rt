@@ -2,6 +2,8 @@
 // from each start. The book is learned once, whatever the number of starts; its rules are then written over what was observed, which is not
 // needed any more.
 // Uses learner, rulesheet, orders, starts, answer, terms and limits.
+#![tactic(auto)]
+
 ghost use Rattle.checker.specs.Checker.{ReadyForOrder, OrderOutcome, CheckOutcome};
 
 use answer::{Answer, Positioned};

@@ -1,6 +1,8 @@
 // Rows 11 and 12 from what the learner has observed: the answer for a changed fact that is no bound fact of its step, and the first move with a conflict.
 // And row 28 of one step: whether all preconditions of its move that are observed are met.
 // Uses observed for the sets that are observed, mask for sets, answer; each contract names its definition.
+#![tactic(auto)]
+
 ghost use Rattle.std.specs.Prelude.{◌≡◌, not, ◌≤◌, length};
 ghost use Rattle.limits.specs.Limits.{observed_size, max_moves};
 ghost use Rattle.quantify.specs.Quantify.{least};

@@ -1,5 +1,7 @@
 // Converting a book to the other form: the job. The new book is formed beside the lent output, so that a refusal leaves the output untouched.
 // Uses answer, limits, output, lookover, rendering and the definitions of jobs.
+#![tactic(auto)]
+
 ghost use Rattle.std.specs.Prelude.{◌≡◌, length};
 ghost use Rattle.limits.specs.Limits.{max_length};
 ghost use Rattle.converting.specs.Outcome.{ConvertOutcome};

@@ -1,6 +1,8 @@
 // A plan and its goal over a state of facts as a mask of 512 bytes: the start state, the plan by the rules that are lent, and
 // the goal at the end. Uses input, limits, terms, mask and stepping, and the definitions of format and statemask; each contract names its
 // definition.
+#![tactic(auto)]
+
 ghost use Rattle.std.specs.Prelude.{◌≡◌, ◌+◌, ◌*◌, ◌≤◌, ◌<◌, length};
 ghost use Rattle.limits.specs.Limits.{fact_size, entry_size, far_ceiling};
 ghost use Rattle.terms.specs.Schema.{schema};

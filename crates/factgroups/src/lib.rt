@@ -1,6 +1,8 @@
 // A state of facts as a mask of 512 bytes, taken by groups: the facts of a relation with one first object are sixteen bits, one for each second object.
 // A table made once for a step has, for each set of its parameters, the bits of their objects; with it sixteen bound facts of a relation are tested,
 // or put into the state, by four groups; without it their values are gathered. Uses limits, and the definitions of mask; each contract names its definition.
+#![tactic(auto)]
+
 ghost use Rattle.std.specs.Prelude.{◌≡◌, true, ◌+◌, ◌*◌, ◌^◌, ◌≤◌, ◌<◌, length};
 ghost use Rattle.limits.specs.Limits.{max_atoms, max_objects, max_params, state_size, atoms_per_relation};
 ghost use Rattle.mask.specs.Bits.{bit_of, test_bit, Bytes};

@@ -1,6 +1,8 @@
 // The facts of a list one after the other, where they are known to lie within the bytes: a cursor that asks nothing of them. One that looks them
 // over is states' `FactCursor`.
 // Uses input, limits, terms; the contracts cite the definitions of format, and specs/Rest.antt for what is yet to come.
+#![tactic(auto)]
+
 ghost use Rattle.std.specs.Prelude.{◌≤◌, ◌<◌, ◌≡◌, length};
 ghost use Rattle.limits.specs.Limits.{near_ceiling, far_ceiling};
 ghost use Rattle.format.specs.Lists.{list_at, list_end};

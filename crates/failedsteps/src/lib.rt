@@ -2,6 +2,8 @@
 // form are walked once more for it, once all of them have been observed.
 // Uses filed for a step, grounding for its bound facts that hold, conflicts for the preconditions, turning for a state as a mask, states for where a list
 // ends, observed for where the sets stand, mask, answer, terms, limits, and the definitions of jobs and observed.
+#![tactic(auto)]
+
 ghost use Rattle.std.specs.Prelude.{◌≡◌, false, ℕ, length};
 ghost use Rattle.limits.specs.Limits.{state_size};
 ghost use Rattle.answer.specs.declared.Answer.TheVariants.{Good};

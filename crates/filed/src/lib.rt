@@ -1,5 +1,7 @@
 // What a record's bytes say, read under names of their own; an order's steps are read by `Step::read` alone.
 // Uses limits, terms, and the definitions of format.
+#![tactic(auto)]
+
 ghost use Rattle.std.specs.Prelude.{◌≡◌, ◌+◌, ◌≤◌, ◌<◌, length};
 ghost use Rattle.limits.specs.Limits.{step_size, far_ceiling};
 ghost use Rattle.format.specs.Filed.{went_at, filed_step_at};

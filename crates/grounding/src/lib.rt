@@ -1,6 +1,8 @@
 // The bound facts (lifted atoms) of a move in a state of facts as a mask of 512 bytes: where a relation's stand for the objects of a step, and which of
 // a set hold, sixteen of a relation at once.
 // Uses limits, terms, factgroups, the end of the bound facts from atoms, and the definitions of mask; each contract names its definition.
+#![tactic(auto)]
+
 ghost use Rattle.std.specs.Prelude.{◌≡◌, false, ◌&&◌, ℕ, ◌≤◌, length};
 ghost use Rattle.limits.specs.Limits.{set_size, state_size, atoms_per_relation};
 ghost use Rattle.mask.specs.Bits.{test_bit};

@@ -1,4 +1,6 @@
 // Bytes and two-byte numbers of an input. Reading is total: past the end a byte is 0. Uses the ceilings of limits, in a contract alone.
+#![tactic(auto)]
+
 ghost use Rattle.std.specs.Prelude.{◌≡◌, ◌≤◌};
 ghost use Rattle.limits.specs.Limits.{far_ceiling};
 ghost use Rattle.input.specs.Bytes.{byte_at, two};

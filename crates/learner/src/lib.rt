@@ -2,6 +2,8 @@
 // Where some step did not go, the records are walked again for row 28.
 // Uses sections and observerecords for the rows of the form, observestep for what is observed before any record, rulesheet and conflicts for what comes of what is
 // observed, failedsteps for row 28, answer, limits and terms, and the definitions of jobs and observed.
+#![tactic(auto)]
+
 ghost use Rattle.std.specs.Prelude.{◌≡◌, ℕ};
 ghost use Rattle.answer.specs.declared.Answer.TheVariants.{Good};
 ghost use Rattle.format.specs.LookOver.{look_over};

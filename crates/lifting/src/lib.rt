@@ -1,6 +1,8 @@
 // From a fact to the bound fact (lifted atom) that it is under a binding, by a table of what each object adds to its number; and sets of bound facts
 // marked, or turned, at it.
 // Uses terms for facts and bindings, mask for the sets, limits; the contracts cite observed, and specs/Pairs.antt for the parts.
+#![tactic(auto)]
+
 ghost use Rattle.std.specs.Prelude.{◌≡◌, ◌<◌, set};
 ghost use Rattle.lifting.specs.Pairs.{no_digits, given_each, Inverts, places_of, pair_of, marked_as, turned_as};
 

@@ -1,5 +1,6 @@
 // The paper's limits and sizes, each under one name, for code. specs/Limits.antt has them for definitions; every contract that a size
 // enters is proved against those.
+#![tactic(auto)]
 
 // ---- a book
 

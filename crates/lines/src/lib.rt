@@ -1,5 +1,7 @@
 // Lines of text: put together in a buffer that the caller lends, to be written at once. `at` is the length of the text so far.
 // Uses output to copy bytes, io to spell numbers, terms, mask, limits and jobs to read a book's schema and a rule sheet; the lines are those of jobs' Listing.
+#![tactic(auto)]
+
 ghost use Rattle.std.specs.Prelude.{◌≡◌, ◌++◌, ◌+◌, ◌≤◌, ◌<◌, length, take};
 ghost use Rattle.limits.specs.Limits.{max_atoms};
 ghost use Rattle.io.specs.Counts.{IsPrefixLen};

@@ -1,6 +1,8 @@
 // What the program `rules` prints of a book, put into a buffer that the caller lends: the first line and, by move and then number, the
 // line of every bound fact; or the refused line. The whole is proved to be jobs' rules_printed.
 // Uses learner for the sheet, atoms for the bound facts of a move, mask for a set, lines for each line, answer, terms and limits.
+#![tactic(auto)]
+
 ghost use Rattle.std.specs.Prelude.{◌≡◌, ◌++◌, ◌+◌, ◌*◌, ◌≤◌, ◌<◌, length, take};
 ghost use Rattle.format.specs.Form.{full};
 ghost use Rattle.io.specs.Counts.{IsPrefixLen};

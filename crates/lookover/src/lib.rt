@@ -1,6 +1,8 @@
 // Looking over a book of either form: rows 1 to 10 and 27 of the refusal table, for any bytes; a good answer is the count of all steps.
 // Uses answer, terms, sections, records for the book's tail, the reader of one record, and the definitions of format. Nothing is observed; learning has a walk
 // of its own (observerecords), which looks over and observes at once.
+#![tactic(auto)]
+
 ghost use Rattle.std.specs.Prelude.{◌≡◌, ◌≤◌, length};
 ghost use Rattle.terms.specs.Sections.{sections_of};
 ghost use Rattle.limits.specs.Limits.{max_length, max_records, max_relations};

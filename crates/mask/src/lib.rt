@@ -1,6 +1,8 @@
 // Sets of numbers as byte masks: element n is the bit of value 2^(n mod 8) in byte n div 8. Functions on slices of any length, then
 // wrappers at 32 bytes (n < 256) and 512 bytes (n < 4096). All but `count` are total: bytes past an end read as 0, and a store there
 // changes nothing, as specs/Bits.antt and specs/Sets.antt say. Uses no other crate.
+#![tactic(auto)]
+
 ghost use Rattle.std.specs.Prelude.{◌≡◌, ◌*◌, ◌^◌, ◌<◌, ◌≤◌, length, get_or};
 ghost use Rattle.mask.specs.Bits.{test_bit, set_bit, flip_bit};
 ghost use Rattle.mask.specs.Sets.{intersection, union, difference, empty, cardinality};

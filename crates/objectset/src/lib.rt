@@ -1,5 +1,7 @@
 // Sets of objects, each one number whose bit x stands for object x, and bit 0 for an unused place; and tables of such sets. The definitions
 // use the bits of mask.
+#![tactic(auto)]
+
 ghost use Rattle.std.specs.Prelude.{◌≡◌, ◌&&◌, ◌<◌};
 ghost use Rattle.objectset.specs.Sets.{is_in, entry, put, stored};
 

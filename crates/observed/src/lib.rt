@@ -1,5 +1,7 @@
 // What the learner has observed after a record, as definitions: the masks of each move and the first step that row 11 names. The
 // code is the numbers of the sets, where each stands, and a set by value. Uses mask, terms and limits.
+#![tactic(auto)]
+
 ghost use Rattle.std.specs.Prelude.{◌≡◌, ◌+◌, ◌≤◌, ◌<◌};
 ghost use Rattle.limits.specs.Limits.{max_moves, set_size, observed_sets, observed_size};
 ghost use Rattle.mask.specs.Sets.{intersection, difference};

@@ -3,6 +3,8 @@
 // Uses noticed for what the walk over steps notices, records for the parts of a record that are no lists, states for the first state, observestep for a list behind
 // a step, lifting for the table that it is lent, turning for a short book's state, filed, tables, mask, answer, limits, terms, and the definitions of format and
 // observed.
+#![tactic(auto)]
+
 pub mod noticed; // what a walk notices and comes to
 pub mod walk; // the records of a book, one after the other
 

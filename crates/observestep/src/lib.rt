@@ -1,6 +1,8 @@
 // What the learner has observed, before any record and after a step: seven sets of bound facts (lifted atoms) for each move, and the first step
 // that row 11 names. Uses atoms for the bound facts of a move, stepmasks for those of a step, with row 8 of the list behind it, mask for the sets, terms, filed,
 // answer, limits, and where the sets stand from observed; the contracts cite observed, format and states, and specs/Notes.antt for the parts.
+#![tactic(auto)]
+
 ghost use Rattle.std.specs.Prelude.{◌≡◌, ℕ, ◌+◌, ◌≤◌, length};
 ghost use Rattle.limits.specs.Limits.{max_length, max_moves, step_size, set_size, observed_size};
 ghost use Rattle.mask.specs.Sets.{difference, empty, cardinality};

@@ -1,5 +1,7 @@
 // Rows 14 and 22 of the refusal table: the header of an order, its counts, and where its sections start.
 // Uses answer, input, terms, limits and the definitions of format. `o` is the order.
+#![tactic(auto)]
+
 ghost use Rattle.std.specs.Prelude.{◌≡◌, ◌+◌, ◌*◌, ◌≤◌};
 ghost use Rattle.limits.specs.Limits.{header_size, max_objects, max_two, near_ceiling};
 ghost use Rattle.format.specs.Order.{object_count, start_count, goal_count, step_count};

@@ -1,6 +1,8 @@
 // Rows 15 to 18 of the refusal table after rows 14 and 22: the objects, the starts, the goal entries and the plan steps of an order.
 // Uses answer, input, limits, terms, tables, states, orderhead and the definitions of format. `book` has the schema, by its header `h`; `o` is the order.
 // What suits is told by two tables of the order's objects, made once.
+#![tactic(auto)]
+
 ghost use Rattle.std.specs.Prelude.{◌≡◌, ◌+◌, ◌*◌, ◌≤◌, length};
 ghost use Rattle.answer.specs.Walk.{walk};
 ghost use Rattle.terms.specs.Schema.{schema, typed_objects};

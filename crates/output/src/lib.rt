@@ -1,4 +1,6 @@
 // Bytes and two-byte numbers written into lent memory from an offset on; the other bytes stay. Uses input, in its proofs alone.
+#![tactic(auto)]
+
 ghost use Rattle.std.specs.Prelude.{◌≡◌, ◌+◌, ◌≤◌, length};
 ghost use Rattle.output.specs.Written.{written, two_bytes};
 

@@ -1,5 +1,7 @@
 // The program that checks a plan: the files `book` and `order` of the folder that it runs in.
 // Uses checker for the answer, whose position is not printed, lines for the text, which is proved to be jobs' plan_printed of what was read, and streams to write it.
+#![tactic(auto)]
+
 ghost use Rattle.std.specs.Prelude.{◌≡◌, take};
 ghost use Rattle.io.specs.Counts.{IsPrefixLen};
 ghost use Rattle.answer.specs.declared.Answer.TheVariants.{Good};

@@ -17,6 +17,7 @@ module _ {A : Type 0} (p : A → Bool) where
   chosen_skip x xs e = rw (e, chosen)
 
   pub chosen_in : (xs : List A) {x : A} → Mem x xs → p x ≡ true → Mem x (chosen p xs)
+  chosen_in [] {x = x} x4 e = elim x4 [ ]
   chosen_in (x ∷ xs) here e = rw (chosen_take x xs e) here
   chosen_in (y ∷ xs) {x} (there m) e = go (decide (p y)) (chosen_in xs m e)
     where

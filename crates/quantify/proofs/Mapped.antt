@@ -7,10 +7,12 @@ use Rattle.quantify.specs.Quantify.{any, Mem, here, there}
 
 -- a member of a list of values is the value of a member
 pub mem_map_out : {A B : Type 0} (f : A → B) (xs : List A) {y : B} → Mem y (map f xs) → (x : A) × Mem x xs × (f x ≡ y)
+mem_map_out {A = A} {B = B} f [] {y = y} x' = elim x' [ ]
 mem_map_out f (x ∷ xs) here = (x, here, refl)
 mem_map_out f (x ∷ xs) (there m) = let (z, k, e) = mem_map_out f xs m in (z, there k, e)
 
 pub mem_map_in : {A B : Type 0} (f : A → B) (xs : List A) {x : A} → Mem x xs → Mem (f x) (map f xs)
+mem_map_in {A = A} {B = B} f [] x3 = elim x3 [ ]
 mem_map_in f (x ∷ xs) here = here
 mem_map_in f (y ∷ xs) (there m) = there (mem_map_in f xs m)
 

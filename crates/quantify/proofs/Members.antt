@@ -31,11 +31,13 @@ module _ {A : Type 0} where
 module _ {A B : Type 0} (f : A → List B) where
   pub flat_in : {b : B} {x : A} (xs : List A) → Mem x xs → Mem b (f x) → Mem b (flat_map f xs)
   unfolding flat_map
+  flat_in {b = b} [] x3 m = elim x3 [ ]
   flat_in (x ∷ xs) here m = mem_left (flat_map f xs) m
   flat_in (y ∷ xs) (there k) m = mem_right (f y) (flat_in xs k m)
 
   pub flat_out : {b : B} (xs : List A) → Mem b (flat_map f xs) → (x : A) × Mem x xs × Mem b (f x)
   unfolding flat_map
+  flat_out {b = b} [] m = elim m [ ]
   flat_out {b} (x ∷ xs) m = go (mem_out (f x) m) (flat_out xs)
     where
       go : Mem b (f x) ⊎ Mem b (flat_map f xs) → (Mem b (flat_map f xs) → (y : A) × Mem y xs × Mem b (f y)) → (y : A) × Mem y (x ∷ xs) × Mem b (f y)

@@ -16,6 +16,7 @@ use Rattle.quantify.specs.Quantify.{below, any, Mem, here, there, has, later, fi
 module _ {A : Type 0} where
   pub any_in : (p : A → Bool) (xs : List A) {x : A} → Mem x xs → p x ≡ true → any p xs ≡ true
   unfolding any
+  any_in p [] x4 e = elim x4 [ ]
   any_in p (x ∷ xs) here e = or_left (p x) (any p xs) e
   any_in p (y ∷ xs) (there m) e = or_right (p y) (any p xs) (any_in p xs m e)
 

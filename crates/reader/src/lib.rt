@@ -2,6 +2,8 @@
 // Uses answer, limits, terms, records, and the definitions of format. The borrow checker covers no function over a struct that holds a reference, so
 // those here are thin, and each is a proof by hand; the work is `records::record_at`'s. Looking over calls `record_from`; the learner's walk makes a
 // `Reader`, and has a thin function of its own over it.
+#![tactic(auto)]
+
 ghost use Rattle.std.specs.Prelude.{◌≡◌, ◌≤◌, length};
 ghost use Rattle.limits.specs.Limits.{max_length, max_relations};
 ghost use Rattle.format.specs.Records.{record_at};

@@ -1,5 +1,7 @@
 // Rows 6 to 10 and 27 of the refusal table, row 24 among them: one record of a book, to its end. In a short book the state is carried on from step to step.
 // Uses answer, input, limits, mask, terms, filed, tables, states, turning, and the definitions of format.
+#![tactic(auto)]
+
 mod unchanged; // row 27, of a step that did not go
 
 ghost use Rattle.std.specs.Prelude.{◌≡◌, false, ◌+◌, ◌≤◌, length};

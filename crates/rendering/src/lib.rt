@@ -4,6 +4,8 @@
 // The new book is formed front to back; counts and lengths are copied first and renewed when they are known.
 // Uses answer, input, limits, output, terms, appending for what is written, factlist for a list's facts, where a list ends from states, and the
 // definitions of jobs and format.
+#![tactic(auto)]
+
 ghost use Rattle.std.specs.Prelude.{◌≡◌, not, ◌++◌, ◌+◌, ◌≤◌, ◌<◌, length};
 ghost use Rattle.limits.specs.Limits.{max_length, max_facts, step_size};
 ghost use Rattle.format.specs.Lists.{list_at, list_end};

@@ -1,5 +1,7 @@
 // The program that prints the rules learned from a book on standard input.
 // Uses listing for the text, which is proved to be jobs' rules_printed of what was read, and streams to write it to its end.
+#![tactic(auto)]
+
 const STDIN: i32 = 0;
 
 fn print_rules(book: &[u8]) {

@@ -1,6 +1,8 @@
 // The rules of a move from what the learner has observed, and the rule sheet: each move's four sets, by value and as the bytes of its block.
 // Uses observed for the sets that are observed, output for the bytes, terms, limits, and the numbers of a move's rules from jobs;
 // each contract names its definition, of observed or of specs/Sheet.antt.
+#![tactic(auto)]
+
 ghost use Rattle.std.specs.Prelude.{◌≡◌, ◌+◌, ◌*◌, ◌≤◌, ◌<◌, length};
 ghost use Rattle.limits.specs.Limits.{observed_size, max_moves, set_size, rule_size};
 ghost use Rattle.output.specs.Written.{written};

@@ -1,5 +1,7 @@
 // Rows 1 to 5 of the refusal table: the length, the header's counts and offsets, the parents of kinds, the relations and the moves of a book.
 // Uses answer, input, limits, terms and the definitions of format; each contract names its definition.
+#![tactic(auto)]
+
 ghost use Rattle.std.specs.Prelude.{◌≡◌, ◌+◌, ◌≤◌};
 ghost use Rattle.limits.specs.Limits.{header_size, far_ceiling};
 ghost use Rattle.answer.specs.Walk.{walk};

@@ -1,6 +1,8 @@
 // Rows 19 and 20 of an order's plan: from one start, from each start, and with the lent end sheet.
 // Uses execution, orderhead, states, input, output, answer, terms and limits, and the definitions of format, jobs and statemask.
 // The state is a local mask, so that a refusal leaves the lent sheet untouched.
+#![tactic(auto)]
+
 ghost use Rattle.std.specs.Prelude.{◌≡◌, ◌≤◌, length};
 ghost use Rattle.limits.specs.Limits.{max_length, end_sheet_size};
 ghost use Rattle.terms.specs.Schema.{schema};

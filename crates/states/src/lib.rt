@@ -1,6 +1,8 @@
 // Row 8 of the refusal table, and row 16: a list of facts, in order, by a cursor that carries the fact before. What suits is told by a table of
 // the record or order, so that both are looked at by the same functions; goal entries are looked at by the same cursor.
 // Uses answer, input, limits, terms, and the definitions of format and tables.
+#![tactic(auto)]
+
 ghost use Rattle.std.specs.Prelude.{◌≡◌, ◌+◌, ◌-◌, ◌*◌, ◌≤◌, ◌<◌, length};
 ghost use Rattle.limits.specs.Limits.{max_length, count_size, max_turns, fact_size, near_ceiling};
 ghost use Rattle.input.specs.Bytes.{two};

@@ -2,6 +2,8 @@
 // in a short book by the list of the facts that turn. The list after the step is looked over as it is read, row 8.
 // Uses lifting for the bound fact that a fact is, factlist for a list's facts, states for a list that is looked over, turning for a state in which facts turn, terms, answer, input,
 // limits; the contracts cite observed and format, and specs/Marks.antt for the parts.
+#![tactic(auto)]
+
 ghost use Rattle.std.specs.Prelude.{ℕ, ◌+◌, ◌≤◌, ◌<◌, ◌≡◌, true, false, [], length};
 ghost use Rattle.limits.specs.Limits.{fact_size, set_size, state_size, near_ceiling, far_ceiling};
 ghost use Rattle.mask.specs.Sets.{empty, cardinality};

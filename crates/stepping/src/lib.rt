@@ -1,6 +1,8 @@
 // One step over a state of facts as a mask of 512 bytes: whether it is inapplicable, and the state after it, by the rules that are lent, 128 bytes
 // a move as a rule sheet has them. Sets of bound facts are read where they stand, sixteen of a relation at once, and tested or put by groups of the state.
 // Uses limits, terms, factgroups, grounding, the numbers of a move's sets from jobs, and the definitions of mask and statemask; each contract names its definition.
+#![tactic(auto)]
+
 ghost use Rattle.std.specs.Prelude.{◌≡◌, ◌<◌, length};
 ghost use Rattle.limits.specs.Limits.{state_size, atoms_per_relation};
 ghost use Rattle.mask.specs.Bits.{test_bit};

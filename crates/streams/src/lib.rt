@@ -1,5 +1,7 @@
 // What the two programs do with their streams: an input read and a text written to its end, and the usage on standard error.
 // Uses io, libc and os. No contract can say what is read or written; proved is that it stays within the memory given, and that it ends.
+#![tactic(auto)]
+
 ghost use Rattle.std.specs.Prelude.{◌≤◌, ◌+◌, length};
 ghost use Rattle.io.specs.Counts.{IsPrefixLen};
 

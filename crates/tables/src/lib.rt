@@ -1,5 +1,7 @@
 // Tables of what suits, made once for a record or an order: each fact and each step is then tested by a few reads. Uses input, terms,
 // limits, and objectset, whose sets stand in the tables.
+#![tactic(auto)]
+
 ghost use Rattle.std.specs.Prelude.{◌≡◌, ◌≤◌, ◌<◌, length};
 ghost use Rattle.limits.specs.Limits.{max_params, near_ceiling};
 ghost use Rattle.mask.specs.Sets.{empty};

@@ -1,5 +1,7 @@
 // The words of the formats as values: typed numbers, sections, a record's head, facts and steps, each read from bytes, and the tests that need no table.
 // Uses input, limits, and objectset for the tables that tell whether a fact suits; crate `tables` makes these. Every test is one Bool definition of specs/.
+#![tactic(auto)]
+
 ghost use Rattle.std.specs.Prelude.{◌≡◌, ◌+◌, ◌-◌, ◌≤◌, ◌<◌, length};
 ghost use Rattle.limits.specs.Limits.{max_length, max_params, max_atoms, fact_size, step_size, near_ceiling, far_ceiling};
 ghost use Rattle.terms.specs.Sections.{sections_of};
@@ -12,26 +14,26 @@ ghost use Rattle.terms.specs.Steps.{object_of, step_at, same_pair, repeats, atom
 use objectset::Asked;
 
 // Numbers that count from 1. Each has a type of its own, so that a binding is the only way from a parameter to an object.
-#[derive(Drop)]
+#[derive(Clone, Copy)]
 pub struct Param(pub u8);
 
-#[derive(Drop)]
+#[derive(Clone, Copy)]
 pub struct Object(pub u8);
 
-#[derive(Drop)]
+#[derive(Clone, Copy)]
 pub struct Relation(pub u8);
 
-#[derive(Drop)]
+#[derive(Clone, Copy)]
 pub struct Move(pub u8);
 
 // A section of a book: how many entries, from which offset.
-#[derive(Drop)]
+#[derive(Clone, Copy)]
 pub struct Section {
     pub count: u16,
     pub at: u16,
 }
 
-#[derive(Drop)]
+#[derive(Clone, Copy)]
 pub struct Sections {
     pub kinds: u16,
     pub relations: Section,
@@ -41,7 +43,7 @@ pub struct Sections {
 }
 
 // A record's head: how many objects it has, how many steps, and how many bytes.
-#[derive(Drop)]
+#[derive(Clone, Copy)]
 pub struct Head {
     pub objects: u8,
     pub steps: u8,
@@ -49,25 +51,25 @@ pub struct Head {
 }
 
 // The kind bytes of the objects of a record or an order: how many, from which offset.
-#[derive(Drop)]
+#[derive(Clone, Copy)]
 pub struct Objects {
     pub count: u8,
     pub at: usize,
 }
 
-#[derive(Drop)]
+#[derive(Clone, Copy)]
 pub struct Fact {
     pub relation: Relation,
     pub first: Object,
     pub second: Object,
 }
 
-#[derive(Drop)]
+#[derive(Clone, Copy)]
 pub struct Binding {
     pub objects: [Object; 4],
 }
 
-#[derive(Drop)]
+#[derive(Clone, Copy)]
 pub struct Step {
     pub action: Move,
     pub binding: Binding,

@@ -1,1 +1,2 @@
 // Laws of truth values, for every crate. No code.
+#![tactic(auto)]

@@ -1,6 +1,8 @@
 // A state of facts as a mask of 512 bytes in which the facts of a list turn, and how many facts hold. A list of a short book has only the facts that
 // turn, so the state of its record is kept in such a mask from step to step; in a full book nothing is kept.
 // Uses limits, input, terms and mask, and the definitions of format; specs/Turning.antt says what is carried.
+#![tactic(auto)]
+
 ghost use Rattle.std.specs.Prelude.{◌≡◌, true, ◌<◌, length};
 ghost use Rattle.limits.specs.Limits.{max_fact_numbers, state_size};
 ghost use Rattle.mask.specs.Bits.{flip_bit};
