@@ -11,7 +11,7 @@ ghost use Rattle.factlist.specs.Rest.{rest, next, FactsWithin, Comes};
 use terms::Fact;
 
 // The facts of a list that are yet to come: how many, from which offset.
-#[derive(Drop)]
+#[derive(Clone, Copy)]
 pub struct ListCursor {
     pub at: usize,
     pub left: u16,

@@ -130,6 +130,7 @@ Sorted [] = Unit {0}
 Sorted (f ∷ fs) = ((g : Fact) → Mem g fs → Less f g) × Sorted fs
 
 pub behind_all : (last : Fact) (fs : List Fact) → Increasing last fs → (g : Fact) → Mem g fs → Less last g
+behind_all last [] h g x'' = elim x'' [ ]
 behind_all last (f ∷ fs) h g here = precedes_out last f h.0
 behind_all last (f ∷ fs) h g (there m) = less_trans last f g (precedes_out last f h.0) (behind_all f fs h.1 g m)
 

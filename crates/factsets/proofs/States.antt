@@ -40,6 +40,7 @@ module _ (num : ℕ) (sch : Schema) (ob : TypedObjects) (s : List ℕ) (end : �
   pub facts_suit : (n : ℕ) (last : Fact) (at next : ℕ) → facts as_written num sch ob s end n last at ≡ Good next
       → (f : Fact) → Mem f (facts_at s n at) → fact_bad sch ob f ≡ false
   unfolding facts_at
+  facts_suit zero last at next e f x'' = elim x'' [ ]
   facts_suit (suc n) last at next e f here = (facts_parted n last at next e).0
   facts_suit (suc n) last at next e f (there m) = facts_suit n (fact_at s at) (at + fact_size) next (facts_parted n last at next e).2 f m
 

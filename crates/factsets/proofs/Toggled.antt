@@ -29,6 +29,9 @@ pub toggle_same : (f : Fact) (fs : List Fact) → toggle f (f ∷ fs) ≡ fs
 unfolding toggle
 toggle_same f fs = rw (precedes_self f)
 
+pub toggle_equal : (t f : Fact) (fs : List Fact) → t ≡ f → toggle t (f ∷ fs) ≡ fs
+toggle_equal t f fs d = rw d (toggle_same f fs)
+
 -- ---- order
 pub increasing_after : (last f : Fact) (fs : List Fact) → precedes last f ≡ true → Increasing f fs → Increasing last fs
 increasing_after last f [] e h = tt
@@ -41,7 +44,7 @@ toggle_increasing last t (f ∷ fs) e h = go (compare t f) (λ d. toggle_increas
   where
     go : (precedes t f ≡ true) ⊎ ((t ≡ f) ⊎ (precedes f t ≡ true)) → (precedes f t ≡ true → Increasing f (toggle t fs)) → Increasing last (toggle t (f ∷ fs))
     go (inl d) deeper = rw (toggle_before t f fs d) (e, (d, h.1))
-    go (inr (inl d)) deeper = rw (d, toggle_same f fs) (increasing_after last f fs h.0 h.1)
+    go (inr (inl d)) deeper = rw (toggle_equal t f fs d) (increasing_after last f fs h.0 h.1)
     go (inr (inr d)) deeper = rw (toggle_after t f fs d) (h.0, deeper d)
 
 pub toggled_increasing : (last : Fact) (fs ts : List Fact) → Increasing last fs → Increasing last ts → Increasing last (toggled fs ts)
@@ -66,7 +69,7 @@ toggle_from t (g ∷ fs) {f} m = go (compare t g) (λ k. toggle_from t fs k)
 
     go : (precedes t g ≡ true) ⊎ ((t ≡ g) ⊎ (precedes g t ≡ true)) → (Mem f (toggle t fs) → (f ≡ t) ⊎ Mem f fs) → (f ≡ t) ⊎ Mem f (g ∷ fs)
     go (inl d) deeper = mem_cons (rw (toggle_before t g fs d) at m)
-    go (inr (inl d)) deeper = inr (there (rw (d, toggle_same g fs) at m))
+    go (inr (inl d)) deeper = inr (there (rw (toggle_equal t g fs d) at m))
     go (inr (inr d)) deeper = later (mem_cons (rw (toggle_after t g fs d) at m)) deeper
 
 pub toggled_from : (fs ts : List Fact) {f : Fact} → Mem f (toggled fs ts) → Mem f fs ⊎ Mem f ts
@@ -85,6 +88,7 @@ toggled_from fs (t ∷ ts) {f} m = go (toggled_from (toggle t fs) ts m)
 -- a fact that is not the one turned stays
 pub toggle_kept : (t : Fact) (fs : List Fact) {f : Fact} → Mem f fs → (f ≡ t → ⊥) → Mem f (toggle t fs)
 unfolding toggle
+toggle_kept t [] {f = f} m a = elim m [ ]
 toggle_kept t (g ∷ fs) {f} m a = go (compare t g) (λ k. toggle_kept t fs k a)
   where
     later : (f ≡ g) ⊎ Mem f fs → (Mem f fs → Mem f (toggle t fs)) → Mem f (g ∷ toggle t fs)
@@ -93,7 +97,7 @@ toggle_kept t (g ∷ fs) {f} m a = go (compare t g) (λ k. toggle_kept t fs k a)
 
     go : (precedes t g ≡ true) ⊎ ((t ≡ g) ⊎ (precedes g t ≡ true)) → (Mem f fs → Mem f (toggle t fs)) → Mem f (toggle t (g ∷ fs))
     go (inl d) deeper = rw (toggle_before t g fs d) (there m)
-    go (inr (inl d)) deeper = rw (d, toggle_same g fs) (mem_rest m (λ b. a (b ∙ sym d)))
+    go (inr (inl d)) deeper = rw (toggle_equal t g fs d) (mem_rest m (λ b. a (b ∙ sym d)))
     go (inr (inr d)) deeper = rw (toggle_after t g fs d) (later (mem_cons m) deeper)
 
 -- a fact that was not there is there once it has turned
@@ -119,11 +123,12 @@ increasing_once f fs h m = once f fs (behind_all f fs h, sorted f fs h) f m refl
 -- the fact turned is gone if it was there
 pub toggle_gone : (last t : Fact) (fs : List Fact) → Increasing last fs → Mem t fs → Mem t (toggle t fs) → ⊥
 unfolding toggle
+toggle_gone last t [] h m k = elim m [ ]
 toggle_gone last t (g ∷ fs) h m k = go (compare t g) (toggle_gone g t fs h.1)
   where
     go : (precedes t g ≡ true) ⊎ ((t ≡ g) ⊎ (precedes g t ≡ true)) → (Mem t fs → Mem t (toggle t fs) → ⊥) → ⊥
     go (inl d) deeper = increasing_once t (g ∷ fs) (d, h.1) m
-    go (inr (inl d)) deeper = increasing_once g fs h.1 (rw (d, toggle_same g fs) at k)
+    go (inr (inl d)) deeper = increasing_once g fs h.1 (rw d at (rw (toggle_equal t g fs d) at k))
     go (inr (inr d)) deeper =
         let a : t ≡ g → ⊥ = λ e. precedes_apart g t d (sym e) in
         deeper (mem_rest m a) (mem_rest (rw (toggle_after t g fs d) at k) a)
@@ -253,7 +258,7 @@ toggle_length_bound t (f ∷ fs) = go (compare t f) (toggle_length_bound t fs)
   where
     go : (precedes t f ≡ true) ⊎ ((t ≡ f) ⊎ (precedes f t ≡ true)) → length (toggle t fs) ≤ suc (length fs) → length (toggle t (f ∷ fs)) ≤ suc (suc (length fs))
     go (inl d) deeper = rw (toggle_before t f fs d) (omega arith)
-    go (inr (inl d)) deeper = rw (d, toggle_same f fs) (omega arith)
+    go (inr (inl d)) deeper = rw (toggle_equal t f fs d) (omega arith)
     go (inr (inr d)) deeper = rw (toggle_after t f fs d) (omega arith)
 
 pub toggled_length_bound : (fs ts : List Fact) → length (toggled fs ts) ≤ length fs + length ts

@@ -42,6 +42,7 @@ module _ (D : Domain) where
       record { forth = λ t m e. (t, (h t e).0 m, alike_refl t); back = λ t m e. (t, (h t e).1 m, alike_refl t) }
 
   renumbered_forth : {ts us : List Transition} → Renumbered D ts us → {t : Transition} → Mem t ts → (u : Transition) × Mem u us × Alike D t u
+  renumbered_forth none {t = t} x4 = elim x4 [ ]
   renumbered_forth (more {u = u} h rest) here = (u, here, h)
   renumbered_forth (more h rest) (there m) = let (v, k, e) = renumbered_forth rest m in (v, there k, e)
 

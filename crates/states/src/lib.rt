@@ -20,7 +20,7 @@ use terms::Fact;
 
 // Items still to be looked at, each with a fact at its end: the offset of the first, how many there are, the fact before them with its key, and the
 // size of an item. The items of a state, and of a start of an order, are its facts; a goal entry has a byte before its fact.
-#[derive(Drop)]
+#[derive(Clone, Copy)]
 pub struct FactCursor {
     pub at: usize,
     pub left: usize,

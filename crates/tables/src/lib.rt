@@ -115,7 +115,7 @@ pub fn table_of(book: &[u8], h: Sections, kinds: &[u32; 256]) -> [u32; 512]
 }
 
 // A move's entry in a book: how many parameters it has, and the kind of each.
-#[derive(Drop)]
+#[derive(Clone, Copy)]
 struct MoveEntry {
     params: u8,
     first: u8,
