@@ -24,6 +24,8 @@ use Rattle.demand.proofs.Demand3.{proper, demand3}
 -- judges of whom the one says what the other says, of each of some starts
 verdicts_by : (P Q : State → Verdict → Type 0) → ((start : State) (v : Verdict) → P start v → Q start v)
     → (starts : List State) (vs : List Verdict) → Verdicts P starts vs → Verdicts Q starts vs
+verdicts_by P Q to [] (v ∷ vs) x'' = elim x'' [ ]
+verdicts_by P Q to (start ∷ starts) [] x3 = elim x3 [ ]
 verdicts_by P Q to [] [] none = none
 verdicts_by P Q to (start ∷ starts) (v ∷ vs) (more h each) = more (to start v h) (verdicts_by P Q to starts vs each)
 

@@ -156,6 +156,8 @@ module _ (form : Form) (s : List ℕ) (n : ℕ) (good : look_over form s ≡ Goo
 
       run_verdicts : (starts : List State) (vs : List Verdict) → Verdicts (StartVerdict form s o) starts vs
           → map (λ start. judged_run (goal_of o) (order_run form s o start)) starts ≡ vs
+      run_verdicts [] (v ∷ vs) x'' = elim x'' [ ]
+      run_verdicts (start ∷ starts) [] x3 = elim x3 [ ]
       run_verdicts [] [] none = refl
       run_verdicts (start ∷ starts) (v ∷ vs) (more h each) =
           ap₂ (λ (x : Verdict) (xs : List Verdict). x ∷ xs) ((start_verdict start v).0 h) (run_verdicts starts vs each)
@@ -164,6 +166,7 @@ module _ (form : Form) (s : List ℕ) (n : ℕ) (good : look_over form s ≡ Goo
     unfit_first : unfit_in form s ≡ true → (refusal : Answer) (starts : List State) (vs : List Verdict) → 1 ≤ length starts → Verdicts (StartVerdict form s o) starts vs
         → unpositioned refusal ≡ answer_by refusal (step_count o) 1 vs
     unfolding answer_by
+    unfit_first e refusal (start ∷ starts) [] some each = elim each [ ]
     unfit_first e refusal [] vs some each = absurd (omega arith)
     unfit_first e refusal (start ∷ starts) (v ∷ vs) some (more h each) =
         ap (λ (x : Verdict). answer_by refusal (step_count o) 1 (x ∷ vs)) (unfit_verdict start (plan_of (schema_of s) o) (goal_of o) proper e v h)

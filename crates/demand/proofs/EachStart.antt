@@ -70,6 +70,7 @@ module _ (sch : Schema) (o : List ℕ) (m : ℕ) (good : OrderGood sch o m) wher
   each : (P : List ℕ → Type 0) → ((at : ℕ) → StartIn o at → item at ≡ Good (list_end o at) → P (alone_at o at))
       → (n at : ℕ) → GoodFrom n at → (p : List ℕ) → Mem p (alone_from o n at) → P p
   unfolding alone_from
+  each P one zero at good p x'' = elim x'' [ ]
   each P one (suc n) at good p here = let (start, right, rest) = start_parted n at good in one at start right
   each P one (suc n) at good p (there i) = let (start, right, rest) = start_parted n at good in each P one n (list_end o at) rest p i
 
@@ -204,6 +205,7 @@ module _ (form : Form) (s o : List ℕ) (m : ℕ) (ordered : order_form (schema_
     where
       go : (p : List ℕ) → Mem p (alone_from o 1 (start_at o)) → (lent : List ℕ)
           → (check form s o (length lent) ≡ check form s p (length lent)) × (check_bytes form s o lent ≡ check_bytes form s p lent)
+      go p (there x3) lent = elim x3 [ ]
       go p here lent =
           let (start, right, rest) = start_parted (schema_of s) o m good 0 (start_at o) (rw e at (from_first (schema_of s) o m good)) in
           (check_same (start_at o) start right (rw e) (length lent), bytes_same (start_at o) start right (rw e) lent)

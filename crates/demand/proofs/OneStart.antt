@@ -93,6 +93,8 @@ module _ (form : Form) (s : List ℕ) (agrees : JudgeAgrees form s) (o : List �
       each_passes (start_states o) vs 1 each (ap (λ (r : Positioned). number r.answer) (sym (agrees.verdicts o n ordered vs each)) ∙ z)
     where
       each_passes : (starts : List State) (vs : List Verdict) (k : ℕ) → Verdicts (StartVerdict form s o) starts vs → number (by k vs).answer ≡ 0 → AllPass form s o starts
+      each_passes [] vs k _ e other m = elim m [ ]
+      each_passes (start ∷ starts) [] k x7 e other m = elim x7 [ ]
       each_passes (start ∷ starts) (impossible ∷ vs) k (more h each) e other m =
           absurd (not_passed (check form s o end_sheet_size).answer ((agrees.checking o end_sheet_size).1 ((agrees.unfit o start).0 h)) z)
       each_passes (start ∷ starts) (stops j ∷ vs) k (more h each) e other m = absurd (omega arith)

@@ -94,10 +94,14 @@ module _ (F G : Form) (s t : List ℕ) (agree : SameSchema (schema_of s) (schema
 
 -- each step has its renumbered one, and the other way round
 renumbered_forth : (fs gs : List RecordedStep) → RenumberedSteps fs gs → {f : RecordedStep} → Mem f fs → (g : RecordedStep) × Mem g gs × RenumberedStep f g
+renumbered_forth [] gs h {f = f} x'' = elim x'' [ ]
+renumbered_forth (f ∷ fs) [] h _ = elim h [ ]
 renumbered_forth (f ∷ fs) (g ∷ gs) h here = (g, here, h.0)
 renumbered_forth (f ∷ fs) (g ∷ gs) h (there m) = let (x, k, e) = renumbered_forth fs gs h.1 m in (x, there k, e)
 
 renumbered_back : (fs gs : List RecordedStep) → RenumberedSteps fs gs → {g : RecordedStep} → Mem g gs → (f : RecordedStep) × Mem f fs × RenumberedStep f g
+renumbered_back [] [] h {g = g} m = elim m [ ]
+renumbered_back (f ∷ fs) [] h {g = g} m = elim h [ ]
 renumbered_back [] (g ∷ gs) h m = absurd h
 renumbered_back (f ∷ fs) (g ∷ gs) h here = (f, here, h.0)
 renumbered_back (f ∷ fs) (g ∷ gs) h (there m) = let (x, k, e) = renumbered_back fs gs h.1 m in (x, there k, e)

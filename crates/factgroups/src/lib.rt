@@ -31,7 +31,7 @@ pub fn word_at(m: &[u8], at: usize) -> u16
 
 // Where a relation's bound facts stand in a state: the groups of the parameters in the first place, and where a table has the columns of those in the
 // second.
-#[derive(Drop)]
+#[derive(Clone, Copy)]
 pub struct Placement {
     pub groups: [usize; 4],
     pub at: usize,

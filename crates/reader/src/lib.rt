@@ -11,7 +11,7 @@ ghost use Rattle.format.specs.Records.{record_at};
 use answer::Answer;
 use terms::Sections;
 
-#[derive(Drop)]
+#[derive(Clone, Copy)]
 pub struct Reader<'a> {
     pub src: &'a [u8],
     pub at: usize,

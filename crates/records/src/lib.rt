@@ -95,7 +95,7 @@ pub fn step_alone(book: &[u8], h: Sections, kinds: &[u32; 256], end: usize, at: 
 }
 
 // What a trajectory is read within: whether the book is short, its header, the record's objects, its number of steps, and where it ends.
-#[derive(Drop)]
+#[derive(Clone, Copy)]
 pub struct Scope {
     pub short: bool,
     pub h: Sections,

@@ -50,12 +50,14 @@ module _ (sch : Schema) (ob : TypedObjects) (typed : RightObjects sch ob) (o : L
   -- the steps of a good plan are right
   plan_right : (n at last : ℕ) → walk (plan_step sch ob o) n at ≡ Good last → (st : Step) → Mem st (plan_from o n at) → RightStep sch ob st
   unfolding plan_from
+  plan_right zero at last e st x'' = elim x'' [ ]
   plan_right (suc n) at last e st here = (plan_parted n at last e).0
   plan_right (suc n) at last e st (there m) = plan_right n (at + step_size) last (plan_parted n at last e).1 st m
 
   -- good starts are right
   starts_right : (end n at last : ℕ) → walk (state as_written 16 sch ob o end) n at ≡ Good last → (fs : List Fact) → Mem fs (starts_from o n at) → RightState sch ob fs
   unfolding starts_from
+  starts_right end zero at last e fs x'' = elim x'' [ ]
   starts_right end (suc n) at last e fs here =
       let (next, good, rest) = walk_parted (state as_written 16 sch ob o end) n at last e in
       state_right 16 sch ob o end at next good
@@ -68,6 +70,7 @@ module _ (sch : Schema) (ob : TypedObjects) (typed : RightObjects sch ob) (o : L
   goal_right : (n : ℕ) (last : Fact) (at next : ℕ) → entries sch ob o n last at ≡ Good next
       → (e : GoalEntry) → Mem e (goal_from o n at) → fact_bad sch ob e.fact ≡ false
   unfolding goal_from entry_at
+  goal_right zero last at next good e x'' = elim x'' [ ]
   goal_right (suc n) last at next good e here = goal_entry_suits sch ob o last at (chain_parted (goal_chain sch ob o) n last at next good).0
   goal_right (suc n) last at next good e (there m) =
       goal_right n (fact_at o (at + 1)) (at + entry_size) next (chain_parted (goal_chain sch ob o) n last at next good).1 e m

@@ -18,6 +18,7 @@ module _ (form : Form) (h : Sections) (s : List ℕ) where
 
   pub each_record : (n at last : ℕ) → walk (record_at form h s) n at ≡ Good last → {r : List ℕ} → Mem r (records_at s n at) → RecordOf r
   unfolding records_at
+  each_record Prim.Native.Nat.zero at last e {r = r} x'' = elim x'' [ ]
   each_record (suc n) at last e here = let (next, good, rest) = walk_parted (record_at form h s) n at last e in (at, next, good, refl)
   each_record (suc n) at last e (there m) =
       let (next, good, rest) = walk_parted (record_at form h s) n at last e in

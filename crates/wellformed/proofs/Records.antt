@@ -47,6 +47,7 @@ module _ (form : Form) (sch : Schema) (ob : TypedObjects) (typed : RightObjects 
   pub steps_right : (n : ℕ) (before : List Fact) (at last : ℕ) → RightState sch ob before → steps form sch ob s end n before at ≡ Good last
       → (f : RecordedStep) → Mem f (recorded_steps_at form s n before at) → Right sch ob f
   unfolding recorded_steps_at
+  steps_right Prim.Native.Nat.zero before at last right e f x3 = elim x3 [ ]
   steps_right (suc n) before at last right e f here =
       step_right before at _ (steps_parted form sch ob s end n before at last e).0 right
   steps_right (suc n) before at last right e f (there m) =
@@ -73,6 +74,7 @@ module _ (form : Form) (h : Sections) (s : List ℕ) (fall : Falling (schema h s
   records_recorded : (n at last : ℕ) → walk (record_at form h s) n at ≡ Good last → {f : RecordedStep} → Mem f (steps_of_records form s n at)
       → (from next : ℕ) × (record_at form h s from ≡ Good next) × Mem f (steps_of_record form s from)
   unfolding steps_of_records
+  records_recorded Prim.Native.Nat.zero at last e {f = f} m = elim m [ ]
   records_recorded (suc n) at last e {f} m =
       let (next, good, rest) = walk_parted (record_at form h s) n at last e in
       let place = (record_right at next good).0 in
@@ -108,6 +110,7 @@ module _ (form : Form) (s : List ℕ) (n : ℕ) (e : look_over form s ≡ Good n
 pub steps_before : (form : Form) (sch : Schema) (ob : TypedObjects) (s : List ℕ) (end n : ℕ) (before : List Fact) (at last : ℕ) → steps form sch ob s end n before at ≡ Good last
     → {f : RecordedStep} → Mem f (recorded_steps_at form s n before at) → f.place ≤ end
 unfolding recorded_steps_at recorded_step
+steps_before form sch ob s end Prim.Native.Nat.zero before at last e {f = f} x'' = elim x'' [ ]
 steps_before form sch ob s end (suc n) before at last e here =
     let reach = step_reach form sch ob s end before at _ (steps_parted form sch ob s end n before at last e).0 in
     omega arith

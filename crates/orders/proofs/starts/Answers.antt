@@ -16,11 +16,11 @@ loop-left-init c = let end = c.goal_at-end.ensures in
 
 pub returns-in-Refused : goal.returns-in-Refused
 unfolding ForRightByPlace
-returns-in-Refused c sch ob right = turn_refused _ _ _ _ _ _ _ (c.loop-left.invariant.3 sch ob right) c.loop-left-test.true (c.state.ensures sch ob right) c.k-1.given.1
+returns-in-Refused c sch ob right = turn_refused _ _ _ _ _ _ _ (c.loop-left.invariant.3 sch ob right) c.loop-left-test.true (c.state.ensures sch ob right) c.in-Refused.is
 
 pub loop-left-preserved : goal.loop-left-preserved
 unfolding ForRightByPlace RightForSome
-loop-left-preserved c = let e = c.next-1.given.1 in
+loop-left-preserved c = let e = c.in-Good.is in
     let (sch₁, ob₁, right₁) = c.requires.1 in
     let w = list_within _ _ 16 sch₁ ob₁ _ _ _ _ (sym (c.state.ensures sch₁ ob₁ right₁) ∙ e) in (
       c.loop-left.invariant.0,
