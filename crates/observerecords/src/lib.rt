@@ -47,7 +47,7 @@ fn pass_list(
 ) -> Noted
     requires { ObservableBy book.now c table.now × (at + step_size ≤ c.end) × (length state.old ≡ state_size) × (c.short ≡ true → held ≡ cardinality state.old) }
     ensures answer_value { (result.answer ≡ list (filed_fact c.short) 8 (most_listed c.short) (schema_in book.now c) (typed_in book.now c) book.now c.end (at + step_size)) × (result.named ≡ named) }
-    ensures by_index { (k : ℕ) → result.answer ≡ Good k → Carried c.short book.now (at + step_size) state.old state.new result.count }
+    ensures good { (k : ℕ) → result.answer ≡ Good k → Carried c.short book.now (at + step_size) state.old state.new result.count }
 {
     let listed = at + limits::STEP_SIZE;
     let most = records::most_listed(c.short);
@@ -82,7 +82,7 @@ fn observe_list(
 ) -> Noted
     requires { ObservableBy book.now c table.now × Ready book.now c pre state.old held observed.old × Whole book.now c at × (went_at book.now at ≡ true) × (t.old ≡ no_digits) }
     ensures list_looked { ListLooked book.now table.now (at + step_size) result.answer }
-    ensures by_index { (k : ℕ) → result.answer ≡ Good k → (t.new ≡ no_digits) × DoneReady book.now c pre at state.old held observed.old named state.new observed.new result }
+    ensures good { (k : ℕ) → result.answer ≡ Good k → (t.new ≡ no_digits) × DoneReady book.now c pre at state.old held observed.old named state.new observed.new result }
 {
     if c.short {
         return observestep::observe_turned(book, c.h, table, at, t, state, held, observed, named);
@@ -106,7 +106,7 @@ fn observe_step(
 ) -> Noted
     requires { Observable book.now c kinds.now table.now × Ready book.now c pre state.old held observed.old × (at ≤ max_length) × (t.old ≡ no_digits) }
     ensures answer_value { result.answer ≡ step_listed c.short (schema_in book.now c) (typed_in book.now c) book.now c.end at }
-    ensures by_index { (k : ℕ) → result.answer ≡ Good k → (t.new ≡ no_digits) × DoneReady book.now c pre at state.old held observed.old named state.new observed.new result }
+    ensures good { (k : ℕ) → result.answer ≡ Good k → (t.new ≡ no_digits) × DoneReady book.now c pre at state.old held observed.old named state.new observed.new result }
 {
     let alone = records::step_alone(book, c.h, kinds, c.end, at);
     if answer::is_refused(alone) {
@@ -143,7 +143,7 @@ fn observe_steps(
     noticed: Noticed,
 ) -> Walked
     requires observable { Observable s.now c kinds.now table.now × Begun (schema_in s.now c) observed.old }
-    requires first_le_near_ceiling { (first ≤ near_ceiling) × (from ≤ max_length) × (state (filed_fact c.short) 8 (schema_in s.now c) (typed_in s.now c) s.now c.end first ≡ Good from) }
+    requires first_state { (first ≤ near_ceiling) × (from ≤ max_length) × (state (filed_fact c.short) 8 (schema_in s.now c) (typed_in s.now c) s.now c.end first ≡ Good from) }
     ensures { Observes (schema_in s.now c) (steps c.short (schema_in s.now c) (typed_in s.now c) s.now c.end c.steps (list_at s.now first) from) (observe_all (recorded_steps_at c.short s.now c.steps (list_at s.now first) from) (held_with observed.old noticed)) observed.new result }
 {
     let mut t = lifting::no_digits();
@@ -228,8 +228,8 @@ fn observe_body(
     observed: &mut [u8],
     noticed: Noticed,
 ) -> Walked
-    requires count_le_max_relations { (h.relations.count ≤ max_relations) × (h.moves.count ≤ max_moves) × Falling (schema h s.now) × Begun (schema h s.now) observed.old }
-    requires at_le_max_length { (at ≤ max_length) × (end ≤ max_length) × (end ≤ length s.now) × (head ≡ head_of s.now at) × (head.objects ≤ max_objects) }
+    requires header { (h.relations.count ≤ max_relations) × (h.moves.count ≤ max_moves) × Falling (schema h s.now) × Begun (schema h s.now) observed.old }
+    requires head { (at ≤ max_length) × (end ≤ max_length) × (end ≤ length s.now) × (head ≡ head_of s.now at) × (head.objects ≤ max_objects) }
     ensures { Observes (schema h s.now) (body short h s.now at end) (observe_all (steps_of_record short s.now at) (held_with observed.old noticed)) observed.new result }
 {
     let c = records::scope_of(short, h, head, at, end);

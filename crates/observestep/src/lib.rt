@@ -113,11 +113,11 @@ pub fn observe(
     observed: &mut [u8],
     named: usize,
 ) -> Noted
-    requires pre_le_max_length { (pre ≤ max_length) × (at ≤ max_length) × (length observed.old ≡ observed_size) × (t.old ≡ no_digits) }
+    requires masks { (pre ≤ max_length) × (at ≤ max_length) × (length observed.old ≡ observed_size) × (t.old ≡ no_digits) }
     requires bound { (1 ≤ (filed_step_at s.now at).action.0) × ((filed_step_at s.now at).action.0 ≤ max_moves) × Suited table.now (list_at s.now pre) }
-    requires pre_in_bounds { (list_end s.now pre ≤ length s.now) × (list_end s.now (at + step_size) ≤ length s.now) }
+    requires lists_within { (list_end s.now pre ≤ length s.now) × (list_end s.now (at + step_size) ≤ length s.now) }
     ensures list_looked { ListLooked s.now table.now (at + step_size) result.answer × (result.count ≡ 0) }
-    ensures by_index { (k : ℕ) → result.answer ≡ Good k → (t.new ≡ no_digits) × IsObserved (observed_step full s.now (list_at s.now pre) at observed.old named) observed.new result.named }
+    ensures good { (k : ℕ) → result.answer ≡ Good k → (t.new ≡ no_digits) × IsObserved (observed_step full s.now (list_at s.now pre) at observed.old named) observed.new result.named }
 {
     let step = filed::read_step(s, at);
     let post = at + limits::STEP_SIZE;
@@ -160,7 +160,7 @@ pub fn observe_turned(
 ) -> Noted
     requires { StepTurnable h s.now at state.old observed.old × (t.old ≡ no_digits) × (held ≡ cardinality state.old) × RightForFew table.now }
     ensures list_looked { ListLooked s.now table.now (at + step_size) result.answer }
-    ensures by_index { (k : ℕ) → result.answer ≡ Good k → (t.new ≡ no_digits) × TurnObserved (schema h s.now) (filed_step_at s.now at) (list_at s.now (at + step_size)) at observed.old named observed.new result.named state.old state.new × (result.count ≡ cardinality state.new) }
+    ensures good { (k : ℕ) → result.answer ≡ Good k → (t.new ≡ no_digits) × TurnObserved (schema h s.now) (filed_step_at s.now at) (list_at s.now (at + step_size)) at observed.old named observed.new result.named state.old state.new × (result.count ≡ cardinality state.new) }
 {
     let step = filed::read_step(s, at);
     let list = at + limits::STEP_SIZE;

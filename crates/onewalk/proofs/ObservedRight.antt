@@ -25,6 +25,7 @@ use Rattle.onewalk.proofs.UnboundEffects.{unbound_changed_right}
 -- ---- a step stands after a state, so not at 0
 steps_placed : (form : Form) (s : List ℕ) (n : ℕ) (before : List Fact) (at : ℕ) {f : RecordedStep} → 1 ≤ at → Mem f (recorded_steps_at form s n before at) → 1 ≤ f.place
 unfolding recorded_steps_at recorded_step list_end
+steps_placed form s Prim.Native.Nat.zero before at {f = f} l x'' = elim x'' [ ]
 steps_placed form s (suc n) before at l here = l
 steps_placed form s (suc n) before at l (there m) = steps_placed form s n (state_after form s before (at + step_size)) (list_end s (at + step_size)) (omega arith) m
 

@@ -50,6 +50,7 @@ alone_toggled (f ∷ fs) last gs h = alone_longer f fs (alone_toggled fs) last g
 module _ (atoms : List ℕ) (b : Binding) where
   pub unbound_in : (fs : List Fact) {f : Fact} → Mem f fs → fact_bound atoms b f ≡ false → Mem f (unbound atoms b fs)
   unfolding unbound
+  unbound_in [] {f = f} x'' e = elim x'' [ ]
   unbound_in (f ∷ fs) here e = rw e here
   unbound_in (g ∷ fs) {f} (there m) e = go (fact_bound atoms b g) (unbound_in fs m e)
     where
@@ -59,6 +60,7 @@ module _ (atoms : List ℕ) (b : Binding) where
 
   pub unbound_out : (fs : List Fact) {f : Fact} → Mem f (unbound atoms b fs) → Mem f fs × (fact_bound atoms b f ≡ false)
   unfolding unbound
+  unbound_out [] {f = f} m = elim m [ ]
   unbound_out (g ∷ fs) {f} m = go (fact_bound atoms b g) refl (λ k. unbound_out fs k) m
     where
       kept : fact_bound atoms b g ≡ false → (Mem f (unbound atoms b fs) → Mem f fs × (fact_bound atoms b f ≡ false)) → (f ≡ g) ⊎ Mem f (unbound atoms b fs)

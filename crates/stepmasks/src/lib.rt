@@ -49,7 +49,7 @@ fn mark_rest(m: &mut [u8], s: &[u8], t: &[u8], atoms: &[u8], b: Binding, from: L
 }
 
 // A list read once: row 8 of it and, where it is good, whether a fact that is no bound fact of the step changed.
-#[derive(Drop)]
+#[derive(Clone, Copy)]
 pub struct MarkedList {
     pub answer: Answer,
     pub unbound: bool,
@@ -93,7 +93,7 @@ fn look_rest(
 
 // The facts to come of a step's two states, those after it yet to be looked over; whether a fact that is no bound fact was seen to change; and
 // whether the last fact read after the step is wrong or out of order.
-#[derive(Drop)]
+#[derive(Clone, Copy)]
 struct Walk {
     pre: ListCursor,
     post: FactCursor,
@@ -116,7 +116,7 @@ fn wrong(w: Walk) -> Walk
 }
 
 // The walk that goes on from two cursors.
-fn going_on_lem(pre: ListCursor, post: FactCursor, changed: bool) -> Walk
+fn going_on(pre: ListCursor, post: FactCursor, changed: bool) -> Walk
     ensures { result ≡ going_on pre post changed }
 {
     Walk {
@@ -156,21 +156,21 @@ fn mark_next(
         }
         let post = q.next(s);
         lifting::mark(after, f, x);
-        return going_on_lem(pass(p, before, f, x), post, w.changed);
+        return going_on(pass(p, before, f, x), post, w.changed);
     }
     if x < lifting::UNBOUND {
-        return going_on_lem(pass(p, before, f, x), q, w.changed);
+        return going_on(pass(p, before, f, x), q, w.changed);
     }
     if q.bad(s, table) {
         return wrong(w);
     }
     let y = lifting::pair(t, atoms, b, g);
     if (lifting::UNBOUND <= y) & g.follows(f, f.key()) {
-        return going_on_lem(pass(p, before, f, x), q, true);
+        return going_on(pass(p, before, f, x), q, true);
     }
     let post = q.next(s);
     lifting::mark(after, g, y);
-    going_on_lem(p, post, w.changed | (lifting::UNBOUND <= y))
+    going_on(p, post, w.changed | (lifting::UNBOUND <= y))
 }
 
 // The facts of the list at an offset, yet to be looked over.
@@ -198,10 +198,10 @@ pub fn mark_step(
     before: &mut [u8],
     after: &mut [u8],
 ) -> MarkedList
-    requires pre_le_near_ceiling { (pre ≤ near_ceiling) × (post ≤ near_ceiling) × (list_end s.now pre ≤ length s.now) × (list_end s.now post ≤ length s.now) }
-    requires t_value { (t.old ≡ no_digits) × (before.old ≡ empty set_size) × (after.old ≡ empty set_size) × Suited table.now (list_at s.now pre) }
+    requires lists_within { (pre ≤ near_ceiling) × (post ≤ near_ceiling) × (list_end s.now pre ≤ length s.now) × (list_end s.now post ≤ length s.now) }
+    requires fresh { (t.old ≡ no_digits) × (before.old ≡ empty set_size) × (after.old ≡ empty set_size) × Suited table.now (list_at s.now pre) }
     ensures list_looked { ListLooked s.now table.now post result.answer }
-    ensures by_index { (k : ℕ) → result.answer ≡ Good k → (t.new ≡ no_digits) × StepMarked atoms.now b (list_at s.now pre) (list_at s.now post) before.new after.new result.unbound }
+    ensures good { (k : ℕ) → result.answer ≡ Good k → (t.new ≡ no_digits) × StepMarked atoms.now b (list_at s.now pre) (list_at s.now post) before.new after.new result.unbound }
 {
     lifting::invert(t, b);
     let mut w = Walk {
@@ -235,7 +235,7 @@ pub fn mark_step(
 // ---- the facts that turn
 
 // A list of facts that turn, read once: row 8 of it and, where it is good, whether one of them is no bound fact, and how many facts hold after it.
-#[derive(Drop)]
+#[derive(Clone, Copy)]
 pub struct TurnedList {
     pub answer: Answer,
     pub unbound: bool,
@@ -258,7 +258,7 @@ pub fn mark_turned(
 ) -> TurnedList
     requires { (at ≤ near_ceiling) × (list_end s.now at ≤ length s.now) × (t.old ≡ no_digits) × (length state.old ≡ state_size) × (held ≡ cardinality state.old) × RightForFew table.now }
     ensures list_looked { ListLooked s.now table.now at result.answer }
-    ensures by_index { (k : ℕ) → result.answer ≡ Good k → (t.new ≡ no_digits) × StepTurned atoms.now b (list_at s.now at) state.old state.new after.old after.new result.unbound × (result.count ≡ cardinality state.new) }
+    ensures good { (k : ℕ) → result.answer ≡ Good k → (t.new ≡ no_digits) × StepTurned atoms.now b (list_at s.now at) state.old state.new after.old after.new result.unbound × (result.count ≡ cardinality state.new) }
 {
     lifting::invert(t, b);
     let mut c = listed(s, at);
