@@ -8,18 +8,18 @@ ghost use Rattle.answer.specs.declared.Answer.TheVariants.{Good};
 ghost use Rattle.jobs.specs.Listing.{plan_line, plan_printed};
 
 use answer::Answer;
+use std::fs::File;
+use std::rt::Files;
+use std::time::Clock;
 
 // A file that can't be read counts as empty.
-fn load(path: &[u8], bytes: &mut [u8]) -> usize
+fn load<R: Files + Clock>(rt: &R, path: &str, bytes: &mut [u8]) -> usize
     ensures { IsPrefixLen result bytes.new }
 {
-    let file = os::open_read(path);
-    if file < 0 {
-        return 0;
+    match File::open(rt, path) {
+        Ok(mut file) => streams::read(rt, &mut file, bytes),
+        Err(_) => 0,
     }
-    let size = streams::read(file, bytes);
-    libc::close(file);
-    size
 }
 
 fn passes_line(steps: usize, line: &mut [u8; 128]) -> usize
@@ -48,22 +48,25 @@ fn plan_line(book: &[u8], order: &[u8], line: &mut [u8; 128]) -> usize
     answer_line(a, line)
 }
 
-fn print_plan(book: &[u8], order: &[u8]) {
+fn print_plan<R: Clock + Print, E: Print>(rt: &R, errors: &E, book: &[u8], order: &[u8]) {
     let mut line = [0u8; 128];
     let size = plan_line(book, order, &mut line);
-    streams::print(&line[..size], b"plan: standard output");
+    streams::print(rt, errors, &line[..size], b"plan: standard output");
 }
 
 // One byte more than a book may have is read of each file, and no further.
-fn main() {
+fn main(rt: HostRuntime) {
+    let errors = rt.stderr();
     if streams::refuse_arguments(
+        &rt,
+        &errors,
         b"usage: plan\nChecks the plan of the files `book` and `order` in this folder. Takes no arguments.\n",
     ) {
         return;
     }
     let mut book = [0u8; limits::MAX_LENGTH + 1];
     let mut order = [0u8; limits::MAX_LENGTH + 1];
-    let b = load(b"book", &mut book);
-    let o = load(b"order", &mut order);
-    print_plan(&book[..b], &order[..o]);
+    let b = load(&rt, "book", &mut book);
+    let o = load(&rt, "order", &mut order);
+    print_plan(&rt, &errors, &book[..b], &order[..o]);
 }

@@ -2,22 +2,25 @@
 // Uses listing for the text, which is proved to be jobs' rules_printed of what was read, and streams to write it to its end.
 #![tactic(auto)]
 
-const STDIN: i32 = 0;
+use std::time::Clock;
 
-fn print_rules(book: &[u8]) {
+fn print_rules<R: Clock + Print, E: Print>(rt: &R, errors: &E, book: &[u8]) {
     let mut out = [0u8; listing::ROOM];
     let size = listing::rules_listing(book, &mut out);
-    streams::print(&out[..size], b"rules: standard output");
+    streams::print(rt, errors, &out[..size], b"rules: standard output");
 }
 
 // One byte more than a book may have is read, and no further.
-fn main() {
+fn main(rt: HostRuntime) {
+    let errors = rt.stderr();
     if streams::refuse_arguments(
+        &rt,
+        &errors,
         b"usage: rules < BOOK\nPrints the rules that are learned from a book. Takes no arguments.\n",
     ) {
         return;
     }
     let mut input = [0u8; limits::MAX_LENGTH + 1];
-    let size = streams::read(STDIN, &mut input);
-    print_rules(&input[..size]);
+    let size = streams::read(&rt, &mut rt.stdin(), &mut input);
+    print_rules(&rt, &errors, &input[..size]);
 }

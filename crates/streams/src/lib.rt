@@ -1,79 +1,65 @@
 // What the two programs do with their streams: an input read and a text written to its end, and the usage on standard error.
-// Uses io, libc and os. No contract can say what is read or written; proved is that it stays within the memory given, and that it ends.
+// Uses io. No contract can say what is read or written; proved is that it stays within the memory given, and that it ends.
 #![tactic(auto)]
 
-ghost use Rattle.std.specs.Prelude.{◌≤◌, ◌+◌, length};
+ghost use Rattle.std.specs.Prelude.{◌≤◌, ◌+◌, length, IfOk};
 ghost use Rattle.io.specs.Counts.{IsPrefixLen};
 
-use libc::types::timespec;
+mod reason;
+
+use std::env::{Env, FillError};
+use std::io::{Error, ErrorKind, Read};
+use std::thread;
+use std::time::{Clock, Duration};
 
 // How often in turn a stream may give or take nothing: ten minutes of pauses.
 const MOST_PAUSES: usize = 60000;
 
 // ---- a stream that does not block
 
-// Waits a hundredth of a second, or until a signal comes. A reference to a struct is made here, so the proof is a walk by hand.
-fn pause() {
-    let asked = timespec {
-        tv_sec: 0,
-        tv_nsec: 10000000,
-    };
-    let mut left = timespec {
-        tv_sec: 0,
-        tv_nsec: 0,
-    };
-    libc::nanosleep(&asked, &mut left);
+// Waits a hundredth of a second.
+fn pause<C: Clock>(clock: &C) {
+    thread::sleep(clock, Duration::from_millis(10));
 }
 
 // Whether a call that failed may succeed later: the stream has or takes nothing now and does not block, or a signal came.
-fn is_temporary(error: i32) -> bool {
-    (error == libc::EAGAIN) | (error == libc::EINTR)
+fn is_temporary(error: &Error) -> bool {
+    let kind = error.kind();
+    kind == ErrorKind::WouldBlock || kind == ErrorKind::Interrupted
 }
 
 // ---- reading
 
-#[derive(Drop)]
-struct Got {
-    failed: bool,
-    count: usize,
-}
-
 // Reads into the bytes from `done` on.
-fn read_rest(input: i32, bytes: &mut [u8], done: usize) -> Got
+fn read_rest<R: Read>(input: &mut R, bytes: &mut [u8], done: usize) -> std::io::Result<usize>
     requires { done ≤ length bytes.old }
-    ensures { done + result.count ≤ length bytes.old }
+    ensures { IfOk result (λ count. done + count ≤ length bytes.old) }
 {
-    let rest = &mut bytes[done..];
-    let got = libc::read(input, rest);
-    Got {
-        failed: got < 0,
-        count: io::count(got, rest),
-    }
+    input.read(&mut bytes[done..])
 }
 
 // How many bytes were read until the input ended or `bytes` was full; 0 where a read failed, for what can't be read counts as empty.
-pub fn read(input: i32, bytes: &mut [u8]) -> usize
+pub fn read<C: Clock, R: Read>(clock: &C, input: &mut R, bytes: &mut [u8]) -> usize
     ensures { IsPrefixLen result bytes.new }
 {
     let mut done = 0;
     let mut pauses = MOST_PAUSES;
     while done < bytes.len() {
-        let r = read_rest(input, bytes, done);
-        if r.failed {
-            if pauses == 0 {
-                return 0;
+        match read_rest(input, bytes, done) {
+            Ok(count) => {
+                if count == 0 {
+                    return done;
+                }
+                done += count;
+                pauses = MOST_PAUSES;
             }
-            if !is_temporary(os::errno()) {
-                return 0;
+            Err(error) => {
+                if pauses == 0 || !is_temporary(&error) {
+                    return 0;
+                }
+                pause(clock);
+                pauses -= 1;
             }
-            pause();
-            pauses -= 1;
-        } else {
-            if r.count == 0 {
-                return done;
-            }
-            done += r.count;
-            pauses = MOST_PAUSES;
         }
     }
     done
@@ -82,51 +68,67 @@ pub fn read(input: i32, bytes: &mut [u8]) -> usize
 // ---- writing
 
 // Writes the text from `done` on; how many of those bytes were taken.
-fn write_rest(text: &[u8], done: usize) -> usize
+fn write_rest<P: Print>(output: &P, text: &[u8], done: usize) -> std::io::Result<usize>
     requires { done ≤ length text.now }
-    ensures { done + result ≤ length text.now }
+    ensures { IfOk result (λ taken. done + taken ≤ length text.now) }
 {
     let rest = &text[done..];
-    io::count(libc::write(libc::STDOUT_FILENO, rest), rest)
+    output.write_some(rest)
 }
 
-// False where some of the text is not written; errno then says why.
-fn write_to_end(text: &[u8]) -> bool {
+// An error where some of the text is not written.
+fn write_to_end<P: Clock + Print>(output: &P, text: &[u8]) -> std::io::Result<()> {
     let mut done = 0;
     let mut pauses = MOST_PAUSES;
     while done < text.len() {
-        let taken = write_rest(text, done);
-        if 0 < taken {
-            done += taken;
-            pauses = MOST_PAUSES;
-        } else {
-            if pauses == 0 {
-                return false;
+        match write_rest(output, text, done) {
+            Ok(taken) => {
+                if 0 < taken {
+                    done += taken;
+                    pauses = MOST_PAUSES;
+                } else {
+                    return Err(Error::from(ErrorKind::WriteZero));
+                }
             }
-            if !is_temporary(os::errno()) {
-                return false;
+            Err(error) => {
+                if pauses == 0 || !is_temporary(&error) {
+                    return Err(error);
+                }
+                pause(output);
+                pauses -= 1;
             }
-            pause();
-            pauses -= 1;
         }
     }
-    true
+    Ok(())
+}
+
+// A line on standard error: what failed, and the error.
+fn tell<E: Print>(errors: &E, what: &[u8], error: Error) -> std::io::Result<()> {
+    let mut text = [0u8; 256];
+    let size = reason::put(error, &mut text);
+    errors.write_all(what)?;
+    errors.write_all(b": ")?;
+    errors.write_all(&text[..size])?;
+    errors.write_all(b"\n")
 }
 
 // Writes the text to standard output. Where that can't be done to its end, a line on standard error says so: `what`, and the error.
-pub fn print(text: &[u8], what: &[u8]) {
-    if !write_to_end(text) {
-        os::fail(what);
+pub fn print<P: Clock + Print, E: Print>(output: &P, errors: &E, text: &[u8], what: &[u8]) {
+    if let Err(error) = write_to_end(output, text) {
+        // Where standard error takes nothing either, there is nobody left to tell.
+        let _ = tell(errors, what, error);
     }
 }
 
 // ---- arguments
 
 // The programs take no arguments: where there is one, the usage is written to standard error, and the answer is true.
-pub fn refuse_arguments(usage: &[u8]) -> bool {
-    if os::arg_count() < 2 {
+pub fn refuse_arguments<V: Env, E: Print>(arguments: &V, errors: &E, usage: &[u8]) -> bool {
+    // An argument that is longer than these bytes is one all the same.
+    let mut first = [0u8; 1];
+    if let Err(FillError::NotPresent) = arguments.arg(1, &mut first) {
         return false;
     }
-    io::write_all(libc::STDERR_FILENO, usage);
+    let _ = errors.write_all(usage);
     true
 }
