@@ -3,4 +3,3 @@ pub mod Ready
 pub mod Steps
 pub mod Record
 pub mod Records
-pub mod Lent

@@ -7,14 +7,14 @@ ghost use Rattle.format.specs.Filed.{went_at};
 use answer::Answer;
 
 // What is held beside the masks: the offset of the first step that row 11 names, 0 where none is, and whether some step did not go.
-#[derive(Drop)]
+#[derive(Clone, Copy)]
 pub struct Noticed {
     pub named: usize,
     pub failed: bool,
 }
 
 // What a walk over records comes to: its answer, and what it noticed.
-#[derive(Drop)]
+#[derive(Clone, Copy)]
 pub struct Walked {
     pub answer: Answer,
     pub noticed: Noticed,

@@ -95,7 +95,7 @@ fn first_named(named: usize, unbound: bool, at: usize) -> usize
 
 // A step read once: row 8 of the list behind it and, where that is good, the offset of the first step that row 11 names, 0 for none, and in a short
 // book how many facts hold after it.
-#[derive(Drop)]
+#[derive(Clone, Copy)]
 pub struct Noted {
     pub answer: Answer,
     pub named: usize,

@@ -42,7 +42,7 @@ fn append_rest(new: &mut [u8], w: usize, s: &[u8], c: ListCursor) -> usize
 // ---- the facts of two lists
 
 // The facts to come of the state that holds and of the list of those that turn, and the offset reached in the new book.
-#[derive(Drop)]
+#[derive(Clone, Copy)]
 struct Walk {
     held: ListCursor,
     turns: ListCursor,
