@@ -1,5 +1,5 @@
-// The jobs as calls for C (include/changeover.h): thin over the proved library, with number, position and place packed into one answer.
-// A lent slice is a pointer and a length in C. A call is told the form of its book by a number.
+// The jobs as the calls that C gets (changeover_c exports them): thin over the proved library, with number, position and place packed into one answer.
+// A call is told the form of its book by a number.
 #![tactic(auto)]
 
 ghost use Rattle.std.specs.Prelude.{◌≡◌};
@@ -12,22 +12,19 @@ fn is_short(form: u32) -> bool
     form != 0
 }
 
-#[unsafe(no_mangle)]
-pub extern "C" fn changeover_look_over(book: &[u8], form: u32) -> u64
+pub fn changeover_look_over(book: &[u8], form: u32) -> u64
     ensures { LookedOver (form_of form) book.now result }
 {
     answer::pack(lookover::look_over(book, is_short(form)), 0)
 }
 
-#[unsafe(no_mangle)]
-pub extern "C" fn changeover_learn(book: &[u8], form: u32, sheet: &mut [u8]) -> u64
+pub fn changeover_learn(book: &[u8], form: u32, sheet: &mut [u8]) -> u64
     ensures { Learned (form_of form) book.now sheet.old sheet.new result }
 {
     answer::pack(learner::learn(book, is_short(form), sheet), 0)
 }
 
-#[unsafe(no_mangle)]
-pub extern "C" fn changeover_check(book: &[u8], form: u32, order: &[u8], end: &mut [u8]) -> u64
+pub fn changeover_check(book: &[u8], form: u32, order: &[u8], end: &mut [u8]) -> u64
     ensures { Checked (form_of form) book.now order.now end.old end.new result }
 {
     let r = checker::check(book, is_short(form), order, end);
@@ -35,22 +32,19 @@ pub extern "C" fn changeover_check(book: &[u8], form: u32, order: &[u8], end: &m
     answer::pack(a, r.position)
 }
 
-#[unsafe(no_mangle)]
-pub extern "C" fn changeover_add(book: &[u8], form: u32, bytes: &[u8], out: &mut [u8]) -> u64
+pub fn changeover_add(book: &[u8], form: u32, bytes: &[u8], out: &mut [u8]) -> u64
     ensures { Added (form_of form) book.now bytes.now out.old out.new result }
 {
     answer::pack(adding::add(book, is_short(form), bytes, out), 0)
 }
 
-#[unsafe(no_mangle)]
-pub extern "C" fn changeover_to_short(book: &[u8], out: &mut [u8]) -> u64
+pub fn changeover_to_short(book: &[u8], out: &mut [u8]) -> u64
     ensures { Converted short book.now out.old out.new result }
 {
     answer::pack(converting::convert(book, false, out), 0)
 }
 
-#[unsafe(no_mangle)]
-pub extern "C" fn changeover_to_full(book: &[u8], out: &mut [u8]) -> u64
+pub fn changeover_to_full(book: &[u8], out: &mut [u8]) -> u64
     ensures { Converted full book.now out.old out.new result }
 {
     answer::pack(converting::convert(book, true, out), 0)
