@@ -39,7 +39,7 @@ returns-then-out-size c = no_room _ _ _ _ _ _ c.look_over-old.ensures c.is_refus
     _ c.read-h.ensures (omega arith) c.if-h-ge-MAX_RECORDS.false _ _ c.form.ensures _ _ c.last_record-looked.ensures c.is_refused-2.ensures c.if-is_refused-2.false c.if-out-size.true
 
 pub slice_bounds-write_bytes-end : goal.slice_bounds-write_bytes-end
-slice_bounds-write_bytes-end c = omega (arith, c.form.auto.0, c.requires, c.room_behind.ensures, c.if-room_behind-bytes.false)
+slice_bounds-write_bytes-end c = omega (arith, c.form.auto.new, c.requires, c.room_behind.ensures, c.if-room_behind-bytes.false)
 
 pub slice_bounds-write_bytes-end-2 : goal.slice_bounds-write_bytes-end-2
 slice_bounds-write_bytes-end-2 c = simp length-take (omega (arith, c.room_behind.ensures, c.if-room_behind-bytes.false))
