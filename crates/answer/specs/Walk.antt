@@ -1,5 +1,5 @@
 -- A walk over a number of items from an offset, each of which answers where the next one starts: its definition.
-use Rattle.std.specs.Prelude.{ℕ, zero, suc, ◌-◌}
+use Rattle.std.specs.Prelude.{ℕ, zero, suc}
 use Rattle.answer.specs.declared.Answer.{Answer}
 use Rattle.answer.specs.declared.Answer.TheVariants.{Good}
 use Rattle.answer.specs.Answer.{◌>>=◌}

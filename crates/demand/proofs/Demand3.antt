@@ -20,7 +20,7 @@ use Rattle.mask.proofs.Whole.{length_mask_of, test_mask_of}
 use Rattle.format.specs.Form.{Form}
 use Rattle.format.specs.LookOver.{look_over}
 use Rattle.format.specs.Order.{step_count, order_form}
-use Rattle.quantify.specs.Quantify.{Mem, here, first}
+use Rattle.quantify.specs.Quantify.{Mem, here}
 use Rattle.model.specs.Domain.{State, GroundAction, GoalLiteral}
 use Rattle.model.specs.Judge.{Verdict, impossible, passes}
 use Rattle.model.specs.Check.{judged_run, checked}

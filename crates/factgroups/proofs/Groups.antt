@@ -1,5 +1,5 @@
 -- Groups and columns of four parameters: what the table has for a set of them, and an unused place.
-use Prim.Native.Nat.{ℕ, zero, suc, ◌+◌, ◌-◌, ◌%◌, ◌^◌, ◌≤◌, ◌<◌}
+use Prim.Native.Nat.{ℕ, zero, suc, ◌+◌, ◌%◌, ◌^◌, ◌≤◌, ◌<◌}
 use native.Mathlib.Nat.{zero-add, add-zero}
 use native.Mathlib.Decide.{dec_lt}
 use native.Mathlib.Omega.{arith}
@@ -13,7 +13,6 @@ use lib.Pow.{pow-lt}
 use borrow.Author.Tests.{le-leb, lt-leb, eq-eqb, eqb-true}
 use Rattle.truth.specs.Bools.{clash, is_false, bool_eq, and_in, and_out}
 use Rattle.mask.specs.Bits.{bit_of}
-use Rattle.mask.specs.Sets.{number}
 use Rattle.mask.proofs.Numbers.{bit_or_lem, bit_power, bit_none, bits_ext, number_lt}
 use Rattle.quantify.specs.Quantify.{below}
 use Rattle.quantify.proofs.Quantify.{below_in, below_out, below_same}

@@ -6,7 +6,7 @@ ghost use Rattle.std.specs.Prelude.{◌≡◌, ◌&&◌, ◌<◌};
 ghost use Rattle.objectset.specs.Sets.{is_in, entry, put, stored};
 
 // A question: whether the object is in the set.
-#[derive(Drop)]
+#[derive(Clone, Copy)]
 pub struct Asked {
     pub set: u32,
     pub object: u8,

@@ -29,7 +29,7 @@ use Rattle.jobs.proofs.FirstRefused.{first_refused_here, first_refused_later, fi
 use Rattle.jobs.proofs.Parted.{failed_out, failed_take, failed_skip, failed_append, failed_none}
 use Rattle.atoms.specs.Atoms.{atom_set}
 use Rattle.observed.specs.Inverse.{atoms_in}
-use Rattle.observed.specs.Observed.{always_before, ever_before, bound}
+use Rattle.observed.specs.Observed.{always_before, ever_before}
 use Rattle.observed.specs.Rules.{rule_set, in_use, unmet_set, met_before, refuted_observed}
 use Rattle.observed.specs.Faithful.{Faithful}
 use Rattle.observed.specs.Seen.{in_set, Seen}

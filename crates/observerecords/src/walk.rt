@@ -10,8 +10,7 @@ use answer::Answer;
 use reader::Reader;
 use terms::{Head, Sections};
 
-// The record at which a reader stands, as `observe_record`. The borrow checker covers no function over a struct that holds a reference: this one is thin,
-// and its proof and that of `observe_from` are by hand.
+// The record at which a reader stands, as `observe_record`.
 pub fn observe<'a, 'b>(
     r: Reader<'a>,
     short: bool,

@@ -1,7 +1,6 @@
 // A book as the records' walk holds it: its bytes, and the offset of the record that comes next.
-// Uses answer, limits, terms, records, and the definitions of format. The borrow checker covers no function over a struct that holds a reference, so
-// those here are thin, and each is a proof by hand; the work is `records::record_at`'s. Looking over calls `record_from`; the learner's walk makes a
-// `Reader`, and has a thin function of its own over it.
+// Uses answer, limits, terms, records, and the definitions of format. The functions here are thin; the work is `records::record_at`'s. Looking over calls
+// `record_from`; the learner's walk makes a `Reader`, and has a thin function of its own over it.
 #![tactic(auto)]
 
 ghost use Rattle.std.specs.Prelude.{◌≡◌, ◌≤◌, length};

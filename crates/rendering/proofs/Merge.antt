@@ -1,5 +1,5 @@
 -- Two lists of facts walked together: each way on of `merge_next`, and what its loop leaves.
-use Prim.Native.Nat.{ℕ, zero, suc, ◌+◌, ◌-◌, ◌≤◌}
+use Prim.Native.Nat.{ℕ, zero, suc, ◌≤◌}
 use native.Mathlib.Omega.{arith}
 use mathlib.Core.Path.{◌≡◌, refl, sym, ap, ap₂, ◌∙◌}
 use mathlib.Core.Logic.{◌⊎◌, inl, inr}
@@ -22,7 +22,7 @@ use Rattle.factlist.specs.Rest.{rest, FactsWithin, next, Comes}
 use Rattle.factlist.proofs.Rest.{rest_none}
 use Rattle.rendering.specs.declared.Walk.{Walk}
 use Rattle.appending.specs.Appended.{past_end, Appended, AllBut}
-use Rattle.rendering.specs.Merge.{to_come, left, Merging, NextMerged}
+use Rattle.rendering.specs.Merge.{to_come, Merging, NextMerged}
 use Rattle.rendering.specs.Good.{GoodList}
 use Rattle.appending.proofs.Appended.{append_none, append_then, part_none, part_one, part_then, part_all}
 

@@ -1,5 +1,5 @@
 -- Two lists of facts walked together, those of a state and those that turn in it: the facts of each that are left, and what is to be written of them.
-use Rattle.std.specs.Prelude.{ℕ, ◌+◌, ◌-◌, ◌<◌, List}
+use Rattle.std.specs.Prelude.{ℕ, ◌+◌, ◌<◌, List}
 use Rattle.terms.specs.declared.Fact.{Fact}
 use Rattle.format.specs.Toggled.{toggled}
 use Rattle.jobs.specs.Convert.{facts_bytes}

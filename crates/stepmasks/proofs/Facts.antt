@@ -1,6 +1,6 @@
 -- The facts of a list marked in a set, one after the other. For `pass` and `mark_rest` of src/lib.rt.
 -- Uses the definitions of format and observed, Unbound for row 11.
-use Prim.Native.Nat.{ℕ, ◌-◌, ◌<◌}
+use Prim.Native.Nat.{ℕ, ◌<◌}
 use mathlib.Core.Path.{◌≡◌, refl, sym, ap, ◌∙◌}
 use mathlib.Core.Bool.{Bool, false, ◌||◌, or_assoc, or-false}
 use mathlib.Core.List.{List, [], ◌∷◌}

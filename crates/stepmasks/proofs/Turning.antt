@@ -1,5 +1,5 @@
 -- The facts of a list that turn in a state and in a set of bound facts, one by one. For `mark_turned` of src/lib.rt.
-use Prim.Native.Nat.{ℕ, ◌-◌}
+use Prim.Native.Nat.{ℕ}
 use mathlib.Core.Path.{◌≡◌, refl, sym, ap, ◌∙◌}
 use mathlib.Core.Bool.{Bool, false, ◌||◌, or-false, or_assoc}
 use mathlib.Core.List.{List}

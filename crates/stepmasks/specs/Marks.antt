@@ -1,7 +1,7 @@
 -- A step's bound facts and row 11, in the parts that the functions compute: the facts of a list that are left, and two states walked together, the
 -- second looked over on the way. `StepMarked`, `StepTurned`, `Suited` and `RightForFew` are for callers.
 -- Uses the definitions of observed, format and states.
-use Rattle.std.specs.Prelude.{ℕ, ◌+◌, ◌-◌, ◌<◌, ◌≤◌, ◌≡◌, Bool, true, false, ◌||◌, List, []}
+use Rattle.std.specs.Prelude.{ℕ, ◌+◌, ◌<◌, ◌≤◌, ◌≡◌, Bool, true, false, ◌||◌, List, []}
 use Rattle.terms.specs.declared.Binding.{Binding}
 use Rattle.terms.specs.declared.Fact.{Fact}
 use Rattle.terms.specs.Schema.{Schema, TypedObjects}

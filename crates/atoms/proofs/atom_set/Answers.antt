@@ -1,5 +1,4 @@
 -- `atoms::atom_set` meets its contract: the relations below the end, one after the other.
-use Prim.Native.Nat.{◌-◌}
 use native.Mathlib.Omega.{arith}
 use mathlib.Core.Path.{refl, sym, ◌∙◌}
 use Rattle.terms.specs.Schema.{schema}

@@ -1,5 +1,4 @@
 -- `conflicts::first_conflict` meets its contract: no move up to i has a conflict.
-use Prim.Native.Nat.{◌-◌}
 use native.Mathlib.Omega.{arith}
 use Rattle.quantify.proofs.Quantify.{least_first, least_next, least_found, least_unfound}
 use Rattle.conflicts.proofs.first_conflict.Goals as goal

@@ -1,5 +1,4 @@
 -- `conflicts::in_use` meets its contract: what is left of the set decides for the whole.
-use Prim.Native.Nat.{◌-◌}
 use native.Mathlib.Omega.{arith}
 use mathlib.Core.Path.{refl, sym, ◌∙◌}
 use Rattle.conflicts.proofs.Refusals.{in_use_here, in_use_later, in_use_none}

@@ -1,7 +1,6 @@
 -- `execution::execute` meets its contract: what the rest of the plan comes to from here is what the whole plan comes to.
 use Prim.Native.Nat.{◌+◌, ◌≤◌}
 use mathlib.Core.Path.{◌≡◌}
-use borrow.Author.Rules.{rules}
 use Rattle.limits.specs.Limits.{far_ceiling}
 use Rattle.terms.specs.Schema.{schema}
 use Rattle.format.specs.Order.{plan_from}

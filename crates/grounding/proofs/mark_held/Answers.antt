@@ -1,5 +1,4 @@
 -- `grounding::mark_held` meets its contract: the relations below the end, one after the other.
-use Prim.Native.Nat.{◌-◌}
 use native.Mathlib.Omega.{arith}
 use mathlib.Core.Path.{refl}
 use Rattle.factgroups.proofs.Groups.{starts}

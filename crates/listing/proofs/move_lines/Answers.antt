@@ -1,5 +1,4 @@
 -- `listing::move_lines` meets its contract: what is written and the lines of the moves left are the whole.
-use Prim.Native.Nat.{◌-◌}
 use native.Mathlib.Omega.{arith}
 use mathlib.Core.Path.{refl}
 use Rattle.lines.proofs.Text.{counts}

@@ -1,5 +1,4 @@
 -- `mask::count` meets its contract. The invariant: what is counted and the size of the rest make the whole size; each byte has at most 8 ones.
-use Prim.Native.Nat.{◌-◌}
 use native.Mathlib.Omega.{arith}
 use lib.Count.{ones-le}
 use Rattle.mask.proofs.Turns.{cardinality_turn, cardinality_all}

@@ -1,5 +1,4 @@
 -- `mask::unite` meets its contract: a loop of `Turn`s of `|`.
-use Prim.Native.Nat.{◌-◌}
 use native.Mathlib.Omega.{arith}
 use lib.Bits.{bit_or}
 use Rattle.mask.specs.Sets.{union}

@@ -1,5 +1,4 @@
 -- `mask::unite_difference` meets its contract: a loop of `Turn`s of `|` with the bytes of the difference.
-use Prim.Native.Nat.{◌-◌}
 use native.Mathlib.Omega.{arith}
 use lib.Bits.{bit_or}
 use Rattle.mask.specs.Sets.{union}

@@ -1,5 +1,4 @@
 -- `observestep::nothing_seen` meets its contract: the moves up to i have their first sets.
-use Prim.Native.Nat.{◌-◌}
 use native.Mathlib.Omega.{arith}
 use mathlib.Core.Path.{sym, ◌∙◌}
 use Rattle.terms.specs.Schema.{schema}

@@ -3,7 +3,7 @@ use Prim.Native.Nat.{◌+◌}
 use mathlib.Core.Path.{◌≡◌, ◌∙◌}
 use native.Mathlib.Omega.{arith}
 use Rattle.limits.specs.Limits.{entry_size}
-use Rattle.format.specs.Order.{goal_count, goal_at, steps_at}
+use Rattle.format.specs.Order.{steps_at}
 use Rattle.tables.specs.Tables.{ForRightByPlace}
 use Rattle.format.proofs.Chains.{chain_same, chain_none, chain_refused, chain_good}
 use Rattle.format.proofs.Orders.{goal_chain}

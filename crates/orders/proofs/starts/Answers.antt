@@ -2,7 +2,6 @@
 use mathlib.Core.Path.{sym, ◌∙◌}
 use native.Mathlib.Omega.{arith}
 use Rattle.answer.proofs.Turns.{turn_none, turn_refused, turn_good}
-use Rattle.format.specs.States.{state}
 use Rattle.format.proofs.States.{list_within}
 use Rattle.tables.specs.Tables.{ForRightByPlace, RightForSome}
 use Rattle.orders.proofs.Tests.{walk_same}

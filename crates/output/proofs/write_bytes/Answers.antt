@@ -1,5 +1,4 @@
 -- `output::write_bytes` meets its contract: the first i bytes are copied.
-use Prim.Native.Nat.{◌-◌}
 use native.Mathlib.Omega.{arith}
 use mathlib.Core.Path.{refl, ◌∙◌}
 use lib.ListN.{length-set}

@@ -1,5 +1,5 @@
 -- `rulesheet::write_over` meets its contract: the first i blocks are written, and the sets of the moves behind them are as they were.
-use Prim.Native.Nat.{◌-◌, ◌*◌}
+use Prim.Native.Nat.{◌*◌}
 use native.Mathlib.Omega.{arith}
 use mathlib.Core.Path.{refl, ◌∙◌}
 use Rattle.output.proofs.Written.{part_room}

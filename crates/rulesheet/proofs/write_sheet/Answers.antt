@@ -1,5 +1,5 @@
 -- `rulesheet::write_sheet` meets its contract: the first i blocks are written.
-use Prim.Native.Nat.{◌-◌, ◌*◌}
+use Prim.Native.Nat.{◌*◌}
 use native.Mathlib.Omega.{arith}
 use mathlib.Core.Path.{refl}
 use Rattle.output.proofs.Written.{part_room}

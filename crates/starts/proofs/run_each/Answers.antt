@@ -1,7 +1,6 @@
 -- `starts::run_each` meets its contract: the starts still left answer as all of them do.
 use native.Mathlib.Omega.{arith}
 use Rattle.format.specs.Lists.{list_end}
-use Rattle.format.specs.Order.{step_count}
 use Rattle.starts.proofs.Starts.{next_start, each_begins, each_ends, each_fails, each_goes}
 use Rattle.starts.proofs.run_each.Goals as goal
 

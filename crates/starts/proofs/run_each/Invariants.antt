@@ -7,7 +7,6 @@ use Rattle.format.specs.Order.{step_count, starts_from}
 use Rattle.jobs.specs.Check.{first_failing}
 use Rattle.statemask.specs.Statemask.{rules_in}
 use Rattle.starts.specs.Starts.{answer_from, StartsGood, answer_each}
-use borrow.Author.Rules.{rules}
 use Rattle.starts.proofs.run_each.Given as goal
 
 abbrev pub invariant-loop-left : goal.invariant-loop-left

@@ -1,5 +1,5 @@
 -- `facts` meets its contract: facts still left at the cursor, and those that are cut behind them, answer as all of them do.
-use Prim.Native.Nat.{◌+◌, ◌-◌}
+use Prim.Native.Nat.{◌+◌}
 use mathlib.Core.Path.{◌≡◌, refl, ◌∙◌}
 use native.Mathlib.Omega.{arith}
 use Rattle.limits.specs.Limits.{fact_size}

@@ -1,8 +1,6 @@
 -- `stepping::is_inapplicable` meets its contract: no need of the relations so far is unmet.
-use Prim.Native.Nat.{◌-◌}
 use native.Mathlib.Omega.{arith}
 use mathlib.Core.Path.{sym, ◌∙◌}
-use mathlib.Core.Bool.{false}
 use Rattle.factgroups.proofs.Groups.{starts}
 use Rattle.stepping.proofs.Needs.{unmet_first, unmet_more, unmet_here, unmet_last}
 use Rattle.stepping.proofs.is_inapplicable.Goals as goal

@@ -1,5 +1,4 @@
 -- `stepping::put_effects` meets its contract: the state has the effects of the relations so far.
-use Prim.Native.Nat.{◌-◌}
 use native.Mathlib.Omega.{arith}
 use mathlib.Core.Path.{sym, ◌∙◌}
 use Rattle.factgroups.proofs.Groups.{starts}

@@ -1,8 +1,6 @@
 -- `put_objects` meets its contract: the objects below x are in the table.
-use Prim.Native.Nat.{◌-◌}
 use mathlib.Core.Path.{refl}
 use native.Mathlib.Omega.{arith}
-use Rattle.input.specs.Bytes.{byte_at}
 use Rattle.terms.specs.Schema.{typed_objects}
 use Rattle.tables.proofs.Turns.{RightByKindTo, kinds_none, kinds_turn}
 use Rattle.tables.proofs.Laws.{kinds_right}

@@ -1,5 +1,4 @@
 -- `store_places` meets its contract: the relations below r are in the table.
-use Prim.Native.Nat.{◌-◌}
 use mathlib.Core.Path.{refl}
 use native.Mathlib.Omega.{arith}
 use Rattle.terms.specs.Schema.{schema}
