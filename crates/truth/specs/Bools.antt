@@ -1,5 +1,5 @@
 -- Truth values: what a computed test that holds or fails says. Stands at the bottom, for every crate.
--- The library's own are cited from there: and-true, and-false, or-false, Bool·not-not (Core.Bool), not-true, not-false (Author.Tests).
+-- The library's own are cited from there: and-true, and-false, or-false, not-not (Core.Bool), not-true, not-false (Author.Tests).
 use Rattle.std.specs.Prelude.{◌≡◌, refl, ◌⊎◌, Bool, true, false, ◌&&◌, ◌||◌, not}
 use Rattle.std.proofs.Common.{sym, ◌∙◌, inl, inr, true≢false}
 
