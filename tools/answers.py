@@ -6,7 +6,7 @@ usage: rt check --generated FOLDER --old-names                     in the crate,
 
 Each answer gets today's name of its goal, and each way to a fact (`c.before.before.if1.true`) today's short one (`c.if-x-lt-y.true`). Answers that only say
 `search` go, since the check tries that by itself. What the old file names and names.json doesn't know is printed, and stays to be done by hand.
-It was used once, for the port; docs/request-11.patch still has such walks.
+It was used once, for the port; docs/request-11/crates.patch still has such walks.
 """
 import glob
 import json
