@@ -7,8 +7,7 @@ use native.Mathlib.Omega.{arith}
 use borrow.Author.Tests.{ltb-false}
 use lib.ListN.{length, drop, length-append, length-drop}
 use lib.Seq.{take_at, drop_at}
-use Rattle.answer.specs.Answer.{kept}
-use Rattle.answer.specs.declared.Answer.TheVariants.{Good}
+use Rattle.answer.specs.Answer.{kept, Good}
 use Rattle.answer.proofs.Laws.{passed, parted}
 use Rattle.terms.specs.Sections.{sections_of}
 use Rattle.limits.specs.Limits.{header_size, max_length}

@@ -7,7 +7,7 @@ use native.Mathlib.Nat.{zero-add}
 use native.Mathlib.Omega.{arith}
 use borrow.Author.Tests.{le-ltb, eq-eqb}
 use lib.ListN.{length}
-use Rattle.answer.specs.declared.Answer.TheVariants.{Refused}
+use Rattle.answer.specs.Answer.{Refused}
 use Rattle.answer.proofs.Laws.{refuse_met, refuse_unmet, bind_good, bind_refused}
 use Rattle.terms.specs.Sections.{sections_of}
 use Rattle.limits.specs.Limits.{max_length, max_records}

@@ -1,6 +1,6 @@
 -- What adding does to a book, where it succeeds: the record is read back as it was filed, and the rest of the book stays.
 use Rattle.std.specs.Prelude.{ℕ, ◌+◌, ◌<◌, ◌≡◌, false, List, ◌++◌, length, take, drop}
-use Rattle.answer.specs.declared.Answer.TheVariants.{Good, Refused}
+use Rattle.answer.specs.Answer.{Good, Refused}
 use Rattle.input.specs.Bytes.{byte_at}
 use Rattle.terms.specs.Sections.{sections_of}
 use Rattle.terms.specs.Agree.{SameSchema}

@@ -1,6 +1,6 @@
 -- A record without steps is refused with 24 at the offset where it would stand in the new book, whatever is wrong behind its head.
 use Rattle.std.specs.Prelude.{ℕ, ◌+◌, ◌≤◌, ◌<◌, ◌≡◌, false, List, length}
-use Rattle.answer.specs.declared.Answer.TheVariants.{Good, Refused}
+use Rattle.answer.specs.Answer.{Good, Refused}
 use Rattle.terms.specs.Sections.{sections_of}
 use Rattle.limits.specs.Limits.{max_length, max_records}
 use Rattle.format.specs.Form.{Form}

@@ -5,8 +5,7 @@ use mathlib.Core.List.{List}
 use native.Mathlib.Omega.{arith}
 use lib.Dec.{ltb}
 use lib.ListN.{length}
-use Rattle.answer.specs.declared.Answer.TheVariants.{Good}
-use Rattle.answer.specs.Answer.{◌>>=◌, refuse}
+use Rattle.answer.specs.Answer.{Good, ◌>>=◌, refuse}
 use Rattle.terms.specs.Sections.{sections_of}
 use Rattle.limits.specs.Limits.{max_length, max_records, move_size}
 use Rattle.format.specs.Form.{Form}

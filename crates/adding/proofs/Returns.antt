@@ -1,15 +1,13 @@
 -- Each return of `add`, with the lent output, put together from what the calls before it return.
 use Prim.Native.Nat.{ℕ, ◌+◌, ◌≤◌, ◌<◌}
 use mathlib.Core.Path.{◌≡◌, refl, sym, ◌∙◌}
-use mathlib.Core.Bool.{Bool, true, false}
+use mathlib.Core.Bool.{true, false}
 use mathlib.Core.List.{List}
 use borrow.Author.Tests.{lt-ltb, le-ltb}
 use lib.Dec.{ltb}
 use lib.ListN.{length, take}
 use lib.Seq.{take_at}
-use Rattle.answer.specs.declared.Answer.{Answer}
-use Rattle.answer.specs.declared.Answer.TheVariants.{Good, Refused}
-use Rattle.answer.specs.Answer.{◌>>=◌, refuse, is_refused, value_of, kept}
+use Rattle.answer.specs.Answer.{Answer, Good, Refused, ◌>>=◌, refuse, is_refused, kept}
 use Rattle.answer.proofs.Laws.{stays, follows, bind_assoc, refuse_met, refuse_unmet, refused_kept}
 use Rattle.terms.specs.declared.Sections.{Sections}
 use Rattle.terms.specs.Sections.{sections_of}
@@ -17,7 +15,7 @@ use Rattle.limits.specs.Limits.{header_size, max_length, max_records, max_relati
 use Rattle.format.specs.Form.{Form}
 use Rattle.format.specs.LookOver.{look_over, all_records}
 use Rattle.jobs.specs.Add.{added, add, add_bytes}
-use Rattle.answer.proofs.Turns.{is_good, part_stays}
+use Rattle.answer.proofs.Turns.{part_stays}
 use Rattle.format.proofs.LookOver.{look_over_good}
 use Rattle.output.specs.Written.{written}
 use Rattle.adding.specs.Outcome.{AddOutcome}
@@ -27,29 +25,29 @@ use Rattle.adding.specs.NewHeader.{one_more}
 use Rattle.adding.proofs.Kept.{header}
 use Rattle.adding.proofs.OneRecord.{book_full, record_alone}
 
--- a book that was looked over has a whole header
-pub long_enough : (form : Form) (s : List ℕ) (a : Answer) (b : Bool) → a ≡ look_over form s → b ≡ is_refused a → b ≡ false → header_size ≤ length s
-long_enough form s a b e f g = (look_over_good form s _ (sym e ∙ is_good a (sym f ∙ g))).sections.size.least
+-- a book that was looked over has a whole header, and is no longer than a book may be
+module _ (form : Form) (s : List ℕ) (n : ℕ) (e : Good n ≡ look_over form s) where
+  pub long_enough : header_size ≤ length s
+  long_enough = (look_over_good form s n (sym e)).sections.size.least
 
--- .. and is no longer than a book may be
-pub short_enough : (form : Form) (s : List ℕ) (a : Answer) (b : Bool) → a ≡ look_over form s → b ≡ is_refused a → b ≡ false → length s ≤ max_length
-short_enough form s a b e f g = (look_over_good form s _ (sym e ∙ is_good a (sym f ∙ g))).sections.size.most
+  pub short_enough : length s ≤ max_length
+  short_enough = (look_over_good form s n (sym e)).sections.size.most
 
 module _ (form : Form) (s r old : List ℕ) where
   kept_old : (a : Answer) → a ≡ add form s r (length old) → is_refused a ≡ true → AddOutcome form s r old old a
   unfolding add_bytes
   kept_old a e f = record { says = e; bytes = refused_kept _ a _ old e f }
 
-  pub first_refused_lem : (a : Answer) (b : Bool) → a ≡ look_over form s → b ≡ is_refused a → b ≡ true → AddOutcome form s r old old a
+  pub first_refused_lem : (a : Answer) → a ≡ look_over form s → is_refused a ≡ true → AddOutcome form s r old old a
   unfolding add
-  first_refused_lem a b e f g = kept_old a (part_stays _ _ a b e f g) (sym f ∙ g)
+  first_refused_lem a e g = kept_old a (part_stays _ _ a _ e refl g) g
 
-  module _ (a : Answer) (b : Bool) (e : a ≡ look_over form s) (f : b ≡ is_refused a) (g : b ≡ false) where
-    first_good : look_over form s ≡ Good (value_of a)
-    first_good = sym e ∙ is_good a (sym f ∙ g)
+  module _ (n : ℕ) (e : Good n ≡ look_over form s) where
+    first_good : look_over form s ≡ Good n
+    first_good = sym e
 
     long : header_size ≤ length s
-    long = long_enough form s a b e f g
+    long = long_enough form s n e
 
     pub too_long : max_length < length s + length r → AddOutcome form s r old old (Refused 1 0)
     unfolding add ◌>>=◌ refuse is_refused
@@ -72,20 +70,20 @@ module _ (form : Form) (s r old : List ℕ) where
             let was = look_over_good form s _ first_good in
             rw (formed, header form s r _ was m) was.sections.counts.relations
 
-        module _ (a₂ : Answer) (b₂ : Bool) (e₂ : a₂ ≡ all_records form (sections_of (take (length s + length r) new)) (take (length s + length r) new) 1 (length s)) (f₂ : b₂ ≡ is_refused a₂) where
-          is₂ : look_over form (added s r) ≡ (a₂ >>= λ n. Good (value_of a + n))
+        module _ (a : Answer) (e₂ : a ≡ all_records form (sections_of (take (length s + length r) new)) (take (length s + length r) new) 1 (length s)) where
+          is₂ : look_over form (added s r) ≡ (a >>= λ k. Good (n + k))
           is₂ = rw (e₂, formed) (record_alone form s r _ first_good m (rw is at i))
 
-          behind : (a₂ >>= λ _. refuse (ltb (length old) (length s + length r)) 13 0 >>= λ _. Good (length s + length r)) ≡ add form s r (length old)
+          behind : (a >>= λ _. refuse (ltb (length old) (length s + length r)) 13 0 >>= λ _. Good (length s + length r)) ≡ add form s r (length old)
           unfolding add ◌>>=◌ refuse
-          behind = rw (first_good, le-ltb max_length (length s + length r) m, is₂) (sym (bind_assoc a₂ _ _))
+          behind = rw (first_good, le-ltb max_length (length s + length r) m, is₂) (sym (bind_assoc a _ _))
 
-          pub new_refused : b₂ ≡ true → AddOutcome form s r old old a₂
-          new_refused g₂ = kept_old a₂ (stays a₂ _ (sym f₂ ∙ g₂) ∙ behind) (sym f₂ ∙ g₂)
+          pub new_refused : is_refused a ≡ true → AddOutcome form s r old old a
+          new_refused g = kept_old a (stays a _ g ∙ behind) g
 
-          module _ (g₂ : b₂ ≡ false) where
+          module _ (g : is_refused a ≡ false) where
             room : (refuse (ltb (length old) (length s + length r)) 13 0 >>= λ _. Good (length s + length r)) ≡ add form s r (length old)
-            room = follows a₂ (λ _. refuse (ltb (length old) (length s + length r)) 13 0 >>= λ _. Good (length s + length r)) (sym f₂ ∙ g₂) ∙ behind
+            room = follows a (λ _. refuse (ltb (length old) (length s + length r)) 13 0 >>= λ _. Good (length s + length r)) g ∙ behind
 
             pub no_room : length old < length s + length r → AddOutcome form s r old old (Refused 13 0)
             unfolding is_refused

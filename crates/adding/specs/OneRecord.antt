@@ -1,9 +1,7 @@
 -- Looking over the new book, where the old one is of good form: it can be refused only for its record count (row 2), by the rows of the record that
 -- was added, and for bytes left behind that record.
 use Rattle.std.specs.Prelude.{ℕ, ◌+◌, ◌≤◌, ◌≡◌, List, length, ltb}
-use Rattle.answer.specs.declared.Answer.{Answer}
-use Rattle.answer.specs.declared.Answer.TheVariants.{Good}
-use Rattle.answer.specs.Answer.{◌>>=◌, refuse}
+use Rattle.answer.specs.Answer.{Answer, Good, ◌>>=◌, refuse}
 use Rattle.terms.specs.Sections.{sections_of}
 use Rattle.limits.specs.Limits.{max_length, max_records}
 use Rattle.format.specs.Form.{Form}

@@ -1,6 +1,6 @@
 -- What a call of `add` promises, for all inputs: `s` the old book, `r` the record's bytes, `old` and `new` the lent output before and after it.
 use Rattle.std.specs.Prelude.{◌≡◌, List, ℕ, length}
-use Rattle.answer.specs.declared.Answer.{Answer}
+use Rattle.answer.specs.Answer.{Answer}
 use Rattle.jobs.specs.Add.{add, add_bytes}
 use Rattle.format.specs.Form.{Form}
 

@@ -2,13 +2,14 @@
 // leaves the output untouched. Uses answer, input, limits, output, terms, lookover and the definitions of jobs. Each record of the new book is read once.
 #![tactic(auto)]
 
+ghost use Rattle.answer.specs.Refusal.{answer_of};
 ghost use Rattle.std.specs.Prelude.{◌≡◌, ◌+◌, ◌-◌, ◌≤◌, length};
 ghost use Rattle.limits.specs.Limits.{header_size, max_length};
 ghost use Rattle.jobs.specs.Add.{added};
 ghost use Rattle.output.specs.Written.{written};
 ghost use Rattle.adding.specs.Outcome.{AddOutcome};
 
-use answer::Answer;
+use answer::{Reason, Refusal};
 use terms::Sections;
 
 const COUNT_AT: usize = 6;
@@ -42,43 +43,41 @@ fn room_behind(book: &[u8]) -> usize
 
 // The job, by way of memory in which the new book is formed. The memory is long enough for the new book or, if that would be too long, for the longest:
 // a - (a - b) is the smaller of a and b. Behind a good old book only the record count and the record itself can be refused.
-fn add_by(new: &mut [u8], book: &[u8], short: bool, bytes: &[u8], out: &mut [u8]) -> Answer
+fn add_by(
+    new: &mut [u8],
+    book: &[u8],
+    short: bool,
+    bytes: &[u8],
+    out: &mut [u8],
+) -> Result<usize, Refusal>
     requires { (length book.now + length bytes.now) - ((length book.now + length bytes.now) - max_length) ≤ length new.old }
-    ensures { AddOutcome short book.now bytes.now out.old out.new result }
+    ensures { AddOutcome short book.now bytes.now out.old out.new (answer_of result) }
 {
-    let old = lookover::look_over(book, short);
-    if answer::is_refused(old) {
-        return old;
-    }
+    lookover::look_over(book, short)?;
     if room_behind(book) < bytes.len() {
-        return Answer::Refused(1, 0);
+        return Err(Reason::BookLength.at(0));
     }
     let size = book.len() + bytes.len();
     let h = Sections::read(book);
     if limits::MAX_RECORDS <= h.records.count {
-        return Answer::Refused(2, 0);
+        return Err(Reason::BookCounts.at(0));
     }
     form(new, book, bytes);
-    let looked = lookover::last_record(&new[..size], short, book.len());
-    if answer::is_refused(looked) {
-        return looked;
-    }
+    lookover::last_record(&new[..size], short, book.len())?;
     if out.len() < size {
-        return Answer::Refused(13, 0);
+        return Err(Reason::Room.at(0));
     }
     output::write_bytes(out, 0, &new[..size]);
-    Answer::Good(size)
+    Ok(size)
 }
 
 // The old book is looked over, then the new length, the new book and the room in `out`; each may refuse.
-pub fn add(book: &[u8], short: bool, bytes: &[u8], out: &mut [u8]) -> Answer
-    ensures { AddOutcome short book.now bytes.now out.old out.new result }
+pub fn add(book: &[u8], short: bool, bytes: &[u8], out: &mut [u8]) -> Result<usize, Refusal>
+    ensures { AddOutcome short book.now bytes.now out.old out.new (answer_of result) }
 {
-    if book.len() <= SMALL {
-        if bytes.len() <= SMALL {
-            let mut new = [0u8; 2 * SMALL];
-            return add_by(&mut new, book, short, bytes, out);
-        }
+    if book.len() <= SMALL && bytes.len() <= SMALL {
+        let mut new = [0u8; 2 * SMALL];
+        return add_by(&mut new, book, short, bytes, out);
     }
     let mut new = [0u8; limits::MAX_LENGTH];
     add_by(&mut new, book, short, bytes, out)

@@ -3,9 +3,7 @@ use Prim.Native.Nat.{ℕ, zero, suc, ◌≤◌}
 use mathlib.Core.Path.{◌≡◌, refl}
 use mathlib.Core.Bool.{Bool, true, false}
 use native.Mathlib.Omega.{arith}
-use Rattle.answer.specs.declared.Answer.{Answer}
-use Rattle.answer.specs.declared.Answer.TheVariants.{Good, Refused}
-use Rattle.answer.specs.Answer.{◌>>=◌, refuse, number, place, max_number}
+use Rattle.answer.specs.Answer.{Answer, Good, Refused, ◌>>=◌, refuse, number, place, max_number}
 use Rattle.answer.specs.Walk.{walk}
 
 -- the number of a refusal can be packed, and its place is at most `size`; the number of a good answer is a place too

@@ -3,10 +3,9 @@ use Prim.Native.Nat.{ℕ, zero, suc, ◌+◌, ◌-◌, ◌*◌, ◌≤◌, ◌<�
 use mathlib.Core.Path.{◌≡◌, sym, ap, ◌∙◌}
 use mathlib.Core.Bool.{Bool, true, false}
 use native.Mathlib.Nat.{add-zero, mul-zero, mul-suc}
+use native.Mathlib.Numerals.{sub-one}
 use native.Mathlib.Omega.{arith}
-use Rattle.answer.specs.declared.Answer.{Answer}
-use Rattle.answer.specs.declared.Answer.TheVariants.{Good, Refused}
-use Rattle.answer.specs.Answer.{◌>>=◌, refuse}
+use Rattle.answer.specs.Answer.{Answer, Good, Refused, ◌>>=◌, refuse}
 use Rattle.answer.proofs.Laws.{good_refused, bind_good, refuse_met, refuse_unmet, passed}
 use Rattle.answer.proofs.Refusals.{row_cases}
 use Rattle.answer.proofs.Items.{items_place}
@@ -61,6 +60,18 @@ module _ (item : ℕ → Answer) (bad : ℕ → Bool) (num size : ℕ) (is : Ent
       bind_good _ _ _ (is at ∙ refuse_unmet _ _ _ _ b)
       ∙ entries_all n (at + size) (λ i l. rw (next i) (f (suc i) (omega arith)))
       ∙ ap Good (next n)
+
+  -- the first bad entry is refused
+  pub entries_first : (n at i : ℕ) → i < n → ((j : ℕ) → j < i → bad (at + size * j) ≡ false) → bad (at + size * i) ≡ true → walk item n at ≡ Refused num (at + size * i)
+  entries_first zero at i h f t = absurd (omega arith)
+  entries_first (suc n) at zero h f t =
+      let w : at + size * zero ≡ at = rw mul-zero (omega arith) in
+      rw w (walk_refused item (suc n) at num at (omega arith) (is at ∙ refuse_met _ _ _ _ (rw w at t)))
+  entries_first (suc n) at (suc i) h f t =
+      let b : bad at ≡ false = rw (mul-zero, add-zero) at (f 0 (omega arith)) in
+      let next : (j : ℕ) → at + size + size * j ≡ at + size * suc j = λ j. rw mul-suc (omega arith) in
+      walk_good item (suc n) at (at + size) (omega arith) (is at ∙ refuse_unmet _ _ _ _ b)
+      ∙ rw sub-one (rw (← next i) (entries_first n (at + size) i (omega arith) (λ j l. rw (next j) (f (suc j) (omega arith))) (rw (next i) t)))
 
   -- a refusal has the entries' number, and stands among them
   pub entries_place : (n at k p : ℕ) → walk item n at ≡ Refused k p → (k ≡ num) × (p ≤ at + size * n)

@@ -4,8 +4,7 @@ use Prim.Native.Nat.{ℕ, zero, suc, ◌+◌, ◌*◌, ◌≤◌}
 use mathlib.Core.Path.{◌≡◌}
 use native.Mathlib.Nat.{mul-zero, mul-suc}
 use native.Mathlib.Omega.{arith}
-use Rattle.answer.specs.declared.Answer.{Answer}
-use Rattle.answer.specs.declared.Answer.TheVariants.{Good, Refused}
+use Rattle.answer.specs.Answer.{Answer, Good, Refused}
 use Rattle.answer.proofs.Laws.{good_refused}
 use Rattle.answer.proofs.Refusals.{refused_cases}
 use Rattle.answer.specs.Walk.{walk}

@@ -6,9 +6,7 @@ use mathlib.Core.List.{List}
 use native.Mathlib.Omega.{arith}
 use borrow.Author.Tests.{ltb-false}
 use lib.Dec.{ltb}
-use Rattle.answer.specs.declared.Answer.{Answer}
-use Rattle.answer.specs.declared.Answer.TheVariants.{Good, Refused}
-use Rattle.answer.specs.Answer.{◌>>=◌, refuse, is_refused, value_of, kept}
+use Rattle.answer.specs.Answer.{Answer, Good, Refused, ◌>>=◌, refuse, is_refused, value_of, kept}
 use Rattle.truth.specs.Bools.{clash, neither}
 
 -- an answer is not both good and refused

@@ -7,3 +7,4 @@ pub mod Entries
 pub mod Items
 pub mod Positions
 pub mod Walks
+pub mod Results

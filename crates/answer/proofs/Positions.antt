@@ -2,10 +2,7 @@
 use Prim.Native.Nat.{ℕ}
 use mathlib.Core.Path.{◌≡◌, refl}
 use mathlib.Core.Bool.{true, false}
-use Rattle.answer.specs.declared.Answer.{Answer}
-use Rattle.answer.specs.declared.Answer.TheVariants.{Good, Refused}
-use Rattle.answer.specs.declared.Positioned.{Positioned}
-use Rattle.answer.specs.Answer.{◌>>=◌, is_refused, unpositioned, then_at}
+use Rattle.answer.specs.Answer.{Answer, Good, Refused, Positioned, ◌>>=◌, is_refused, unpositioned, then_at}
 use Rattle.truth.specs.Bools.{clash}
 
 -- a refusal is the answer, and has no position

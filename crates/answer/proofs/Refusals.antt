@@ -7,9 +7,7 @@ use mathlib.Core.List.{List, [], ◌∷◌}
 use native.Mathlib.Omega.{arith}
 use borrow.Author.Tests.{eqb-true, leb-true, le-leb}
 use lib.Dec.{eqb}
-use Rattle.answer.specs.declared.Answer.{Answer}
-use Rattle.answer.specs.declared.Answer.TheVariants.{Good, Refused}
-use Rattle.answer.specs.Answer.{◌>>=◌, refuse}
+use Rattle.answer.specs.Answer.{Answer, Good, Refused, ◌>>=◌, refuse}
 use Rattle.answer.proofs.Laws.{good_refused}
 use Rattle.answer.specs.Table.{table, row_from, row, up_to, Between, MetFrom, among, impossible_rows, is_impossible}
 use Rattle.truth.specs.Bools.{clash, and_out, or_out}

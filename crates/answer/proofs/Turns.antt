@@ -2,9 +2,7 @@
 use Prim.Native.Nat.{ℕ, ◌-◌, ◌≤◌, ◌<◌}
 use mathlib.Core.Path.{◌≡◌, refl, sym, ◌∙◌}
 use mathlib.Core.Bool.{Bool, true, false}
-use Rattle.answer.specs.declared.Answer.{Answer}
-use Rattle.answer.specs.declared.Answer.TheVariants.{Good, Refused}
-use Rattle.answer.specs.Answer.{◌>>=◌, is_refused, value_of}
+use Rattle.answer.specs.Answer.{Answer, Good, Refused, ◌>>=◌, is_refused, value_of}
 use Rattle.truth.specs.Bools.{clash}
 use Rattle.answer.proofs.Laws.{stays, follows}
 use Rattle.answer.specs.Walk.{walk}

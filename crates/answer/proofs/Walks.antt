@@ -3,9 +3,7 @@ use Prim.Native.Nat.{ℕ, zero, suc, ◌-◌, ◌≤◌, ◌<◌}
 use mathlib.Core.Path.{◌≡◌, refl, ◌∙◌, subst}
 use native.Mathlib.Numerals.{sub-one}
 use native.Mathlib.Omega.{arith}
-use Rattle.answer.specs.declared.Answer.{Answer}
-use Rattle.answer.specs.declared.Answer.TheVariants.{Good, Refused}
-use Rattle.answer.specs.Answer.{◌>>=◌}
+use Rattle.answer.specs.Answer.{Answer, Good, Refused, ◌>>=◌}
 use Rattle.answer.proofs.Laws.{bind_good, bind_unit, parted}
 use Rattle.answer.specs.Walk.{walk}
 

@@ -1,8 +1,15 @@
 -- An answer's number and place as the paper has them, the order of rows (the first refusal met is the answer), and what a call leaves behind.
 use Rattle.std.specs.Prelude.{ℕ, ◌+◌, ◌*◌, Bool, true, false, List, [], ◌∷◌}
-use Rattle.answer.specs.declared.Answer.{Answer}
-use Rattle.answer.specs.declared.Answer.TheVariants.{Good, Refused}
-use Rattle.answer.specs.declared.Positioned.{Positioned}
+
+-- good, with a number: where the next part starts or, of a whole job, the place of its success; or refused, with the number of the refusal and its place
+pub data Answer : Type 0 where
+  Good : ℕ → Answer
+  Refused : ℕ → ℕ → Answer
+
+-- what a check answers: an answer, and which of the order's starts, counted from 1, it is about; 0 where it is about none of them
+pub record Positioned : Type 0 where
+  pub answer : Answer
+  pub position : ℕ
 
 infixl 20 ◌>>=◌
 -- an answer and what follows it: a refusal is the answer of both; else the answer is what follows, asked with the number that is good

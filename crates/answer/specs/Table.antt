@@ -1,8 +1,7 @@
 -- The refusal table as data: its numbers in the paper's order, where in it an answer is met, and which of its rows are alike in what they say or in
 -- what their place is. Nothing may assume that numbers grow along it.
 use Rattle.std.specs.Prelude.{ℕ, suc, ◌≡◌, Bool, true, false, ◌||◌, List, [], ◌∷◌, leb, eqb}
-use Rattle.answer.specs.declared.Answer.{Answer}
-use Rattle.answer.specs.declared.Answer.TheVariants.{Refused}
+use Rattle.answer.specs.Answer.{Answer, Refused}
 
 -- 6 is met at three rows: record head, record's tail (after 27) and book's tail; 14 at two: length and counts of an order, and its offsets
 -- (after 22). Each stands at the first of them

@@ -1,103 +1,64 @@
--- Bytes appended: written, one run after another, renewed within, and up to where the end is passed.
+-- Bytes appended: how a draft's memory has them, and one run after another, up to where the end is passed.
 use Prim.Native.Nat.{ℕ, suc, ◌+◌, ◌≤◌, ◌<◌}
-use native.Mathlib.Decide.{dec_lt}
 use native.Mathlib.Numerals.{add-one}
 use native.Mathlib.Omega.{arith}
 use mathlib.Core.Path.{◌≡◌, refl, sym, ap, ◌∙◌}
 use mathlib.Core.List.{List, [], ◌∷◌, ◌++◌, append_assoc, append-nil}
-use lib.ListN.{length, take, drop, set, length-append, take-append-drop}
+use lib.ListN.{length, set, take, drop, length-append, take-append-drop}
 use lib.Seq.{sets-eq, length-take-le, take_at, drop_at}
+use Rattle.std.specs.Prelude.{Result, Ok, Err}
 use Rattle.limits.specs.Limits.{max_length}
 use Rattle.output.specs.Written.{written}
-use Rattle.appending.specs.Appended.{past_end, Appended, AllBut}
+use Rattle.output.proofs.Written.{part_written, length_written}
+use Rattle.appending.specs.Appended.{Appended, AllBut}
 
--- ---- one run
+-- ---- the memory, of which the first `w` bytes are formed
 
--- bytes for which there is no room
-pub append_over : (bytes : List ℕ) (w : ℕ) (old new : List ℕ) → max_length < w + length bytes → Appended bytes w old new past_end
-append_over bytes w old new h =
-    record { most = omega arith; fits = λ l. absurd (omega arith); over = λ l. (refl, h) }
+module _ (d v d' : List ℕ) (at w : ℕ) (h : w ≤ length d) (e : d' ≡ written d at v) where
+  -- bytes written behind what is formed
+  pub append_written : at ≡ w → w + length v ≤ length d → take (w + length v) d' ≡ take w d ++ v
+  unfolding written
+  append_written is k =
+      let n : length (take w d ++ v) ≡ w + length v = simp (length-append, length-take-le w d h) (omega arith) in
+      rw (e, is) (take_at (take w d ++ v) (drop (w + length v) d) (w + length v) n)
 
--- bytes written
-pub append_written : (bytes : List ℕ) (w : ℕ) (old new : List ℕ) (r : ℕ) → w ≤ length old → r ≤ max_length → r ≡ w + length bytes
-    → new ≡ written old w bytes → Appended bytes w old new r
-unfolding written
-append_written bytes w old new r h k e f =
-    let n : length (take w old ++ bytes) ≡ r = simp (length-append, length-take-le w old h) (sym e) in
-    record {
-      most = omega arith;
-      fits = λ l. (e, rw f (take_at (take w old ++ bytes) (drop (w + length bytes) old) r n));
-      over = λ l. absurd (omega arith);
-    }
+  -- and within it
+  pub renew_written : at + length v ≤ w → take w d' ≡ written (take w d) at v
+  renew_written k =
+      let n = length-take-le w d h in
+      let m : at + length v ≤ length (take w d) = omega arith in
+      let is : written d at v ≡ written (take w d) at v ++ drop w d =
+      ap (λ (l : List ℕ). written l at v) (sym (take-append-drop w d)) ∙ part_written (take w d) (drop w d) at v m in
+      rw (e, is) (take_at (written (take w d) at v) (drop w d) w (length_written (take w d) at v m ∙ n))
 
 -- three bytes stored one by one
-pub append_three : (x y z w : ℕ) (old : List ℕ) → length old ≡ max_length → w + 3 ≤ max_length
-    → Appended (x ∷ y ∷ z ∷ []) w old (set (set (set old w x) (w + 1) y) (w + 2) z) (w + 3)
+pub three_written : (x y z w : ℕ) (d : List ℕ) → w + 3 ≤ length d → set (set (set d w x) (w + 1) y) (w + 2) z ≡ written d w (x ∷ y ∷ z ∷ [])
 unfolding written
-append_three x y z w old e h =
-    append_written (x ∷ y ∷ z ∷ []) w old _ (w + 3) (omega arith) h refl (rw (two_more w, add-one) (sets-eq (x ∷ y ∷ z ∷ []) old w (omega arith)))
+three_written x y z w d h = rw (two_more w, add-one) (sets-eq (x ∷ y ∷ z ∷ []) d w (omega arith))
   where
     two_more : (k : ℕ) → k + 2 ≡ suc (suc k)
     two_more k = omega arith
 
--- no bytes
-pub append_none : (w : ℕ) (old : List ℕ) → w ≤ past_end → Appended [] w old old w
-append_none w old h =
-    record { most = h; fits = λ l. (omega arith, sym (append-nil (take w old))); over = λ l. (omega arith, omega arith) }
-
 -- ---- runs in a row
 
--- two runs are one run
-pub append_then : (a b : List ℕ) {w v r : ℕ} {old mid new : List ℕ} → Appended a w old mid v → Appended b v mid new r → Appended (a ++ b) w old new r
-append_then a b {w} {v} {r} {old} {mid} {new} p q =
-    record {
-      most = q.most;
-      fits = λ l.
-          let (e, x) = q.fits l in
-          let (d, y) = p.fits (omega arith) in
-          (simp length-append (omega arith), x ∙ ap (λ (t : List ℕ). t ++ b) y ∙ append_assoc (take w old) a b);
-      over = λ l. ((q.over l).0, simp length-append (far (q.over l).1 (dec_lt max_length v)));
-    }
-  where
-    far : max_length < v + length b → Dec (max_length < v) → max_length < w + (length a + length b)
-    far h (yes k) = let t = p.over k in omega arith
-    far h (no k) = let t = (p.fits (omega arith)).0 in omega arith
+module _ (a b old mid : List ℕ) where
+  -- two runs are one run
+  pub append_then : {new : List ℕ} → mid ≡ old ++ a → new ≡ mid ++ b → new ≡ old ++ (a ++ b)
+  append_then e f = f ∙ ap (λ (l : List ℕ). l ++ b) e ∙ append_assoc old a b
 
--- what follows does not matter where the end is passed
-pub append_stays : (a b : List ℕ) {w r : ℕ} {old new : List ℕ} → Appended a w old new r → max_length < r → Appended (a ++ b) w old new r
-append_stays a b p h =
-    let t = p.over h in
-    record { most = p.most; fits = λ l. absurd (omega arith); over = λ l. (t.0, simp length-append (omega arith)) }
+  -- the end is passed by the first one, or by the second
+  pub over_first : max_length < length old + length a → max_length < length old + length (a ++ b)
+  over_first h = simp length-append (omega arith)
 
--- only the number of bytes does
-pub append_same : (a b : List ℕ) {w r : ℕ} {old new : List ℕ} → length a ≡ length b → Appended a w old new r → max_length < r → Appended b w old new r
-append_same a b e p h =
-    let t = p.over h in
-    record { most = p.most; fits = λ l. absurd (omega arith); over = λ l. (t.0, omega arith) }
+  pub over_then : mid ≡ old ++ a → max_length < length mid + length b → max_length < length old + length (a ++ b)
+  over_then e h =
+      let n : length mid ≡ length old + length a = ap length e ∙ length-append old a in
+      simp length-append (omega arith)
 
--- ---- a run in part
-
-pub part_none : (whole : List ℕ) (w : ℕ) (old : List ℕ) → w ≤ past_end → AllBut whole whole w old old w
-part_none whole w old h = record { front = []; split = refl; appended = append_none w old h }
-
-pub part_one : (a : List ℕ) {rest whole : List ℕ} {w r : ℕ} {old new : List ℕ} → a ++ rest ≡ whole → Appended a w old new r → AllBut rest whole w old new r
-part_one a e p = record { front = a; split = e; appended = p }
-
-pub part_then : {rest more whole : List ℕ} {w v r : ℕ} {old mid new : List ℕ} → AllBut more whole w old mid v → AllBut rest more v mid new r → AllBut rest whole w old new r
-part_then {rest} p q =
-    record {
-      front = p.front ++ q.front;
-      split = append_assoc p.front q.front rest ∙ ap (λ (t : List ℕ). p.front ++ t) q.split ∙ p.split;
-      appended = append_then p.front q.front p.appended q.appended;
-    }
-
-pub part_all : {rest whole : List ℕ} {w r : ℕ} {old new : List ℕ} → AllBut rest whole w old new r → rest ≡ [] → Appended whole w old new r
-part_all {rest} {whole} p e =
-    let z : p.front ≡ whole = sym (append-nil p.front) ∙ ap (λ (t : List ℕ). p.front ++ t) (sym e) ∙ p.split in
-    rw z at p.appended
-
-pub part_over : {rest whole : List ℕ} {w r : ℕ} {old new : List ℕ} → AllBut rest whole w old new r → max_length < r → Appended whole w old new r
-part_over {rest} p h = rw p.split at (append_stays p.front rest p.appended h)
+-- by the result of the second one
+pub appended_then : {A E : Type 0} (a b old mid new : List ℕ) (r : Result A E) → mid ≡ old ++ a → Appended b mid new r → Appended (a ++ b) old new r
+appended_then a b old mid new (Ok _) e p = append_then a b old mid e p
+appended_then a b old mid new (Err _) e p = over_then a b old mid e p
 
 -- ---- bytes renewed
 
@@ -108,19 +69,38 @@ replaced p u q v at e f =
     rw (drop_at (p ++ u) q (at + length v) n, append_assoc p u q, take_at p (u ++ q) at e)
 
 -- within a run, when what they are is known
-pub append_renewed : (a u b v : List ℕ) {w r : ℕ} {old mid new : List ℕ} (at : ℕ) → Appended (a ++ u ++ b) w old mid r → r ≤ max_length → w ≤ length old
-    → at ≡ w + length a → length v ≡ length u → new ≡ written mid at v → Appended (a ++ v ++ b) w old new r
-append_renewed a u b v {w} {r} {old} {mid} {new} at p h k e f g =
-    let (size, bytes) = p.fits h in
-    let behind = drop r mid in
-    let front = take w old ++ a in
-    let n : length front ≡ at = simp (length-append, length-take-le w old k) (sym e) in
-    let was : mid ≡ front ++ u ++ (b ++ behind) = sym (take-append-drop r mid) ∙ ap (λ (t : List ℕ). t ++ behind) bytes ∙ simp append_assoc in
-    let is : new ≡ front ++ v ++ b ++ behind = g ∙ ap (λ (t : List ℕ). written t at v) was ∙ replaced front u (b ++ behind) v at n f ∙ simp append_assoc in
-    let size' : r ≡ w + length (a ++ v ++ b) = size ∙ simp length-append (omega arith) in
-    let m : length (front ++ v ++ b) ≡ r = simp (length-append, length-take-le w old k) (omega (arith, simp length-append at size')) in
-    record {
-      most = p.most;
-      fits = λ l. (size', ap (λ (t : List ℕ). take r t) is ∙ take_at (front ++ v ++ b) behind r m ∙ simp append_assoc);
-      over = λ l. absurd (omega arith);
-    }
+pub append_renewed : (a u b v old : List ℕ) {mid new : List ℕ} (at : ℕ) → mid ≡ old ++ (a ++ u ++ b) → at ≡ length old + length a → length v ≡ length u
+    → new ≡ written mid at v → new ≡ old ++ (a ++ v ++ b)
+append_renewed a u b v old at p e f g =
+    let n : length (old ++ a) ≡ at = simp length-append (sym e) in
+    let is : written (old ++ (a ++ u ++ b)) at v ≡ old ++ a ++ v ++ b = ap (λ (t : List ℕ). written t at v) (simp append_assoc) ∙ replaced (old ++ a) u b v at n f in
+    g ∙ ap (λ (t : List ℕ). written t at v) p ∙ is ∙ simp append_assoc
+
+-- ---- a run in part
+
+pub part_none : (whole old : List ℕ) → AllBut whole whole old old
+part_none whole old = record { same = refl }
+
+module _ {rest whole old mid : List ℕ} (p : AllBut rest whole old mid) where
+  whole_length : length mid + length rest ≡ length old + length whole
+  whole_length = sym (length-append mid rest) ∙ ap length p.same ∙ length-append old whole
+
+  pub part_next : (a : List ℕ) {more new : List ℕ} → a ++ more ≡ rest → new ≡ mid ++ a → AllBut more whole old new
+  part_next a {more} e f = record { same = ap (λ (l : List ℕ). l ++ more) f ∙ append_assoc mid a more ∙ ap (λ (l : List ℕ). mid ++ l) e ∙ p.same }
+
+  pub part_then : {more new : List ℕ} → AllBut more rest mid new → AllBut more whole old new
+  part_then q = record { same = q.same ∙ p.same }
+
+  pub part_over : (a more : List ℕ) → a ++ more ≡ rest → max_length < length mid + length a → max_length < length old + length whole
+  part_over a more e h =
+      let n : length a + length more ≡ length rest = sym (length-append a more) ∙ ap length e in
+      let m = whole_length in
+      omega arith
+
+  pub part_all : rest ≡ [] → mid ≡ old ++ whole
+  part_all e = sym (append-nil mid) ∙ ap (λ (l : List ℕ). mid ++ l) (sym e) ∙ p.same
+
+  -- by the result of the last append
+  pub part_last : {A E : Type 0} (new : List ℕ) (r : Result A E) → Appended rest mid new r → Appended whole old new r
+  part_last new (Ok _) q = q ∙ p.same
+  part_last new (Err _) q = let m = whole_length in omega arith

@@ -1,38 +1,103 @@
-// Bytes appended to a book that is formed front to back in lent memory, up to where it would pass the longest book's end.
-// Uses limits, output, terms, and the definitions of jobs.
+// A book that is formed front to back, up to where it would pass the longest book's end.
+// Uses answer, limits, output, terms, and the definitions of jobs.
 #![tactic(auto)]
 
-ghost use Rattle.std.specs.Prelude.{◌≡◌, [], ◌∷◌, ◌≤◌, length};
+ghost use Rattle.std.specs.Prelude.{◌≡◌, [], ◌∷◌, ◌+◌, ◌≤◌, length};
+ghost use Rattle.answer.specs.declared.Reason.TheVariants.{TooLong};
 ghost use Rattle.limits.specs.Limits.{max_length};
+ghost use Rattle.output.specs.Written.{written, two_bytes};
 ghost use Rattle.jobs.specs.Convert.{facts_bytes};
-ghost use Rattle.appending.specs.Appended.{past_end, Appended};
+ghost use Rattle.appending.specs.Appended.{Appended};
 
+use answer::{Reason, Refusal};
+use std::marker::Model;
 use terms::Fact;
 
-// The offset that stands for a book that would be longer than the longest, by however much: nothing more is written.
-const PAST_END: usize = limits::MAX_LENGTH + 1;
+// The error of an append: the book would be longer than the longest, by however much.
+#[derive(Clone, Copy, Debug, PartialEq, Eq)]
+pub struct PastEnd;
 
-// Appends the bytes at the offset `w`, which the new book has reached, and returns the offset behind them.
-pub fn append(new: &mut [u8], w: usize, bytes: &[u8]) -> usize
-    requires { (length new.old ≡ max_length) × (w ≤ past_end) }
-    ensures { Appended bytes.now w new.old new.new result }
-{
-    if PAST_END - w <= bytes.len() {
-        return PAST_END;
+impl From<PastEnd> for Refusal {
+    ghost from_gives = { λ _ r. r ≡ record { reason = TooLong; place = 0 } };
+
+    fn from(_e: PastEnd) -> Refusal {
+        Reason::TooLong.at(0)
     }
-    output::write_bytes(new, w, bytes);
-    w + bytes.len()
 }
 
-pub fn append_fact(new: &mut [u8], w: usize, f: Fact) -> usize
-    requires { (length new.old ≡ max_length) × (w ≤ past_end) }
-    ensures { Appended (facts_bytes (f ∷ [])) w new.old new.new result }
-{
-    if limits::MAX_LENGTH < w + limits::FACT_SIZE {
-        return PAST_END;
+// A book as far as it is formed, in memory for the longest one.
+#[derive(Drop)]
+pub struct Draft {
+    bytes: [u8; limits::MAX_LENGTH],
+    len: usize,
+}
+
+// Clauses see the bytes that are formed.
+impl Model for Draft {
+    ghost use Rattle.std.specs.Prelude.{ℕ, ◌≤◌, List, take};
+    ghost use Rattle.limits.specs.Limits.{max_length};
+
+    ghost Value = { List ℕ };
+
+    ghost view = { λ d. take d.len d.bytes };
+
+    ghost invariant = { λ d. d.len ≤ max_length };
+}
+
+impl Draft {
+    pub fn new() -> Draft
+        ensures { result ≡ [] }
+    {
+        Draft {
+            bytes: [0; limits::MAX_LENGTH],
+            len: 0,
+        }
     }
-    new[w] = f.relation.0;
-    new[w + 1] = f.first.0;
-    new[w + 2] = f.second.0;
-    w + limits::FACT_SIZE
+
+    pub fn len(&self) -> usize
+        ensures { (result ≡ length self.now) × (result ≤ max_length) }
+    {
+        self.len
+    }
+
+    pub fn bytes(&self) -> &[u8]
+        ensures { (result.now ≡ self.now) × (length self.now ≤ max_length) }
+    {
+        &self.bytes[..self.len]
+    }
+
+    pub fn append(&mut self, bytes: &[u8]) -> Result<(), PastEnd>
+        ensures { Appended bytes.now self.old self.new result }
+    {
+        if limits::MAX_LENGTH - self.len < bytes.len() {
+            return Err(PastEnd);
+        }
+        output::write_bytes(&mut self.bytes, self.len, bytes);
+        self.len += bytes.len();
+        Ok(())
+    }
+
+    #[inline(always)]
+    pub fn append_fact(&mut self, f: Fact) -> Result<(), PastEnd>
+        ensures { Appended (facts_bytes (f ∷ [])) self.old self.new result }
+    {
+        let at = self.len;
+        if limits::MAX_LENGTH < at + limits::FACT_SIZE {
+            return Err(PastEnd);
+        }
+        // Three stores: `append` of an array takes longer, here once per fact.
+        self.bytes[at] = f.relation.0;
+        self.bytes[at + 1] = f.first.0;
+        self.bytes[at + 2] = f.second.0;
+        self.len = at + limits::FACT_SIZE;
+        Ok(())
+    }
+
+    // A two-byte number in place of the one at an offset.
+    pub fn renew_two(&mut self, at: usize, n: usize)
+        requires { at + 2 ≤ length self.old }
+        ensures { self.new ≡ written self.old at (two_bytes n) }
+    {
+        output::write_two(&mut self.bytes, at, n);
+    }
 }

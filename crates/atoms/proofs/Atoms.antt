@@ -1,13 +1,14 @@
 -- The set of the bound facts (lifted atoms) of a move, one relation after the other.
 -- Uses Words for sixteen bits stored, Places for the parameters that fill places, and mask's laws of the numbers below an end.
-use Prim.Native.Nat.{ℕ, ◌+◌, ◌/◌, ◌%◌, ◌≤◌, ◌<◌}
+use Prim.Native.Nat.{ℕ, ◌+◌, ◌*◌, ◌/◌, ◌%◌, ◌≤◌, ◌<◌, min}
 use native.Mathlib.Nat.{zero-add}
 use native.Mathlib.Omega.{arith}
-use mathlib.Core.Path.{◌≡◌, sym, ap₂, ◌∙◌}
+use mathlib.Core.Path.{◌≡◌, sym, ap, ap₂, ◌∙◌}
 use mathlib.Core.Bool.{Bool, true, false, ◌&&◌, and-false}
 use mathlib.Core.List.{List}
 use borrow.Author.Tests.{le-leb, lt-leb}
 use Rattle.truth.specs.Bools.{clash, is_false}
+use Rattle.limits.specs.Limits.{max_relations}
 use Rattle.mask.specs.Bits.{bit_of}
 use Rattle.mask.specs.Sets.{empty, number}
 use Rattle.mask.proofs.Whole.{empty_mask_of, mask_of_same, below_none, below_end}
@@ -63,27 +64,21 @@ module _ (sch : Schema) where
     unfolding AtomsTo ForMoves mask_below
     atoms_first set e m right there = e ∙ below_none 32 (is_atom sch m.0)
 
-    pub atoms_next : (n end bits : ℕ) (r : Relation) (set new : List ℕ)
-        → AtomsTo n set
-        → n % 16 ≡ 0
-        → n < end
-        → (end ≡ atoms_end sch.relations) × (end ≤ 256)
-        → r ≡ atom_relation n
-        → ForMoves sch ks (λ m. bits ≡ relation_atoms sch m r)
-        → new ≡ stored_word set n bits
-        → AtomsTo (n + 16) new
-    unfolding AtomsTo ForMoves atoms_end
-    atoms_next n end bits r set new i at l (e, h) f b g m right there =
-        let are : bits ≡ number (is_atom sch m.0) n 16 = b m right ∙ rw f (word_atoms m.0 n there at (omega arith)) in
-        g ∙ rw (i m right there) (word_next 32 (is_atom sch m.0) n _ (omega arith) (omega arith) are)
+    -- a relation more, number i from 0 among the first `end`, which are those that have bound facts
+    module _ (end i : ℕ) (set : List ℕ) (to : AtomsTo (16 * i) set) (is : end ≡ min sch.relations max_relations) where
+      pub atoms_next : (bits : ℕ) (r : Relation) (new : List ℕ)
+          → i < end
+          → r ≡ atom_relation (16 * i)
+          → ForMoves sch ks (λ m. bits ≡ relation_atoms sch m r)
+          → new ≡ stored_word set (16 * i) bits
+          → AtomsTo (16 * (i + 1)) new
+      unfolding AtomsTo ForMoves
+      atoms_next bits r new l f b g m right there =
+          let are : bits ≡ number (is_atom sch m.0) (16 * i) 16 = b m right ∙ rw f (word_atoms m.0 (16 * i) there (omega arith) (omega arith)) in
+          let next : 16 * i + 16 ≡ 16 * (i + 1) = omega arith in
+          g ∙ rw (to m right there) (word_next 32 (is_atom sch m.0) (16 * i) _ (omega arith) (omega arith) are) ∙ ap (mask_below 32 (is_atom sch m.0)) next
 
-    pub atoms_last : (n end : ℕ) (set : List ℕ) (m : Move)
-        → AtomsTo n set
-        → end ≡ atoms_end sch.relations
-        → end ≤ n
-        → ParamsByKind sch m ks
-        → out_of_range sch.moves m.0 ≡ false
-        → set ≡ atom_set sch m.0
-    unfolding AtomsTo ForMoves mask_below atom_set
-    atoms_last n end set m i e l right there =
-        i m right there ∙ below_end 32 (is_atom sch m.0) n (λ j h k. past m.0 j k (omega arith))
+      pub atoms_last : (m : Move) → end ≤ i → ParamsByKind sch m ks → out_of_range sch.moves m.0 ≡ false → set ≡ atom_set sch m.0
+      unfolding AtomsTo ForMoves mask_below atom_set atoms_end
+      atoms_last m l right there =
+          to m right there ∙ below_end 32 (is_atom sch m.0) (16 * i) (λ j h k. past m.0 j k (omega arith))

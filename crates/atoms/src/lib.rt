@@ -2,38 +2,21 @@
 // Uses tables for the parameters that suit each kind, terms for the kinds in a book, mask and objectset for sets, limits.
 #![tactic(auto)]
 
-ghost use Rattle.std.specs.Prelude.{◌≡◌, ◌+◌, ◌≤◌, ◌<◌, min};
-ghost use Rattle.limits.specs.Limits.{max_params, max_atoms};
+ghost use Rattle.std.specs.Prelude.{◌≡◌, ◌+◌, ◌≤◌, ◌<◌};
+ghost use Rattle.limits.specs.Limits.{max_atoms};
 ghost use Rattle.terms.specs.Schema.{schema};
 ghost use Rattle.atoms.specs.Atoms.{atom_set, atoms_end, ParamsByKind, ForMoves, fillers, pairs, relation_atoms, stored_word};
 
 use terms::{Move, Objects, Relation, Sections};
 
-// A bound fact has no parameter over 4, however many a book says that a move has.
-fn clamped(params: u8) -> u8
-    ensures { result ≡ min params max_params }
-{
-    if limits::MAX_PARAMS < params {
-        return limits::MAX_PARAMS;
-    }
-    params
-}
-
-// The table by kind of a move's parameters, taken as the objects that they stand for.
+// The table by kind of a move's parameters, taken as the objects that they stand for. A bound fact has no parameter over 4, however many a book
+// says that a move has.
 fn params_by_kind(book: &[u8], h: Sections, m: Move) -> [u32; 256]
     ensures { ParamsByKind (schema h book.now) m result }
 {
-    let count = clamped(h.params(book, m));
+    let count = h.params(book, m).min(limits::MAX_PARAMS);
     let at = h.move_at(m) + 1;
-    tables::kinds_of(
-        book,
-        h,
-        book,
-        Objects {
-            count: count,
-            at: at,
-        },
-    )
+    tables::kinds_of(book, h, book, Objects { count, at })
 }
 
 // The parameters that fill a place, as four bits.
@@ -55,6 +38,7 @@ fn pairs(first: u32, second: u32) -> u32
 }
 
 // The sixteen bits of a relation.
+#[tactic(auto, unfolding(crate::specs::Atoms::ForMoves, crate::specs::Atoms::relation_atoms))]
 fn relation_atoms(book: &[u8], h: Sections, kinds: &[u32; 256], r: Relation) -> u32
     ensures { ForMoves (schema h book.now) kinds.now (λ m. result ≡ relation_atoms (schema h book.now) m r) }
 {
@@ -62,39 +46,37 @@ fn relation_atoms(book: &[u8], h: Sections, kinds: &[u32; 256], r: Relation) -> 
 }
 
 // Sixteen bits from bound fact n on, the first of a relation.
+#[tactic(auto, unfolding(crate::specs::Atoms::stored_word))]
 pub fn store_word(set: &mut [u8; 32], n: usize, bits: u32)
     requires { n + 16 ≤ max_atoms }
     ensures { set.new ≡ stored_word set.old n bits }
 {
     let k = n / 8;
-    set[k] = (bits % 256) as u8;
-    set[k + 1] = (bits / 256 % 256) as u8;
+    let [low, high, _, _] = bits.to_le_bytes();
+    set[k] = low;
+    set[k + 1] = high;
 }
 
 // From here on there are no bound facts.
+#[tactic(auto, unfolding(crate::specs::Atoms::atoms_end))]
 pub fn atoms_end(relations: u16) -> usize
     ensures { (result ≡ atoms_end relations) × (result ≤ max_atoms) }
 {
-    if limits::MAX_RELATIONS < relations {
-        return limits::MAX_ATOMS;
-    }
-    limits::ATOMS_PER_RELATION * relations as usize
+    limits::ATOMS_PER_RELATION * relations.min(limits::MAX_RELATIONS) as usize
 }
 
 pub fn atom_set(book: &[u8], h: Sections, m: Move) -> [u8; 32]
     ensures { result ≡ atom_set (schema h book.now) m.0 }
 {
-    let mut set = mask::empty32();
+    let mut set = mask::empty();
     if terms::out_of_range(h.moves.count, m.0 as u16) {
         return set;
     }
     let kinds = params_by_kind(book, h, m);
-    let end = atoms_end(h.relations.count);
-    let mut n = 0;
-    while n < end {
+    for i in 0..h.relations.count.min(limits::MAX_RELATIONS) as usize {
+        let n = limits::ATOMS_PER_RELATION * i;
         let bits = relation_atoms(book, h, &kinds, terms::atom_relation(n));
         store_word(&mut set, n, bits);
-        n += limits::ATOMS_PER_RELATION;
     }
     set
 }

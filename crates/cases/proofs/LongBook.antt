@@ -9,8 +9,7 @@ use native.Mathlib.Omega.{arith}
 use borrow.Author.Tests.{le-ltb, lt-ltb}
 use lib.ListN.{length, length-append}
 use Rattle.limits.specs.Limits.{header_size, max_length}
-use Rattle.answer.specs.declared.Answer.TheVariants.{Good, Refused}
-use Rattle.answer.specs.Answer.{◌>>=◌, refuse, number, place}
+use Rattle.answer.specs.Answer.{Good, Refused, ◌>>=◌, refuse, number, place}
 use Rattle.answer.proofs.Laws.{bind_good}
 use Rattle.answer.specs.Walk.{walk}
 use Rattle.input.specs.Bytes.{byte_at, two}

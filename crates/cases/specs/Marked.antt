@@ -1,9 +1,7 @@
 -- The marked cases M1 to M10 of the paper and its limits: the bytes of their books and orders, what the definitions give, and what the paper says.
 use Rattle.std.specs.Prelude.{ℕ, zero, suc, ◌+◌, ◌/◌, ◌%◌, cond, List, [], ◌∷◌, ◌++◌, map, length, take, replicate}
 use Rattle.limits.specs.Limits.{rule_size, end_sheet_size}
-use Rattle.answer.specs.declared.Answer.{Answer}
-use Rattle.answer.specs.declared.Positioned.{Positioned}
-use Rattle.answer.specs.Answer.{number, place}
+use Rattle.answer.specs.Answer.{Answer, Positioned, number, place}
 use Rattle.format.specs.Form.{full}
 use Rattle.format.specs.LookOver.{look_over}
 use Rattle.jobs.specs.Planning.{start_states}

@@ -8,10 +8,7 @@ use native.Mathlib.Omega.{arith}
 use lib.ListN.{length, length-map}
 use borrow.Author.Tests.{ltb-false}
 use Rattle.truth.specs.Bools.{clash}
-use Rattle.answer.specs.declared.Answer.{Answer}
-use Rattle.answer.specs.declared.Answer.TheVariants.{Good, Refused}
-use Rattle.answer.specs.declared.Positioned.{Positioned}
-use Rattle.answer.specs.Answer.{is_refused, number, unpositioned, then_at}
+use Rattle.answer.specs.Answer.{Answer, Good, Refused, Positioned, is_refused, number, unpositioned, then_at}
 use Rattle.answer.proofs.Laws.{passed, parted, bind_assoc}
 use Rattle.answer.proofs.Positions.{then_answer}
 use Rattle.terms.specs.Schema.{Schema}

@@ -2,9 +2,7 @@
 use Prim.Native.Nat.{ℕ, ◌+◌, ◌*◌, ◌/◌, ◌%◌, ◌<◌}
 use mathlib.Core.Path.{◌≡◌, refl, ap, ◌∙◌}
 use native.Mathlib.Omega.{arith}
-use Rattle.answer.specs.declared.Answer.{Answer}
-use Rattle.answer.specs.declared.Positioned.{Positioned}
-use Rattle.answer.specs.Answer.{number, place, packed}
+use Rattle.answer.specs.Answer.{Answer, Positioned, number, place, packed}
 use Rattle.answer.proofs.Bounds.{Bounded, bounded_number, bounded_place}
 use Rattle.changeover.specs.Calls.{Says}
 

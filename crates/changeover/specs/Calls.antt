@@ -1,8 +1,7 @@
 -- The promises of the calls for C, each for all inputs. `r` is what the call returns: `packed` of an answer and a position is number times
 -- 2^48, plus position times 2^32, plus place, and each of the three is read back from it.
 use Rattle.std.specs.Prelude.{ℕ, ◌/◌, ◌%◌, ◌<◌, ◌≡◌, not, List, eqb, length}
-use Rattle.answer.specs.declared.Answer.{Answer}
-use Rattle.answer.specs.Answer.{number, place, packed}
+use Rattle.answer.specs.Answer.{Answer, number, place, packed}
 use Rattle.format.specs.Form.{Form}
 use Rattle.format.specs.LookOver.{look_over}
 use Rattle.jobs.specs.Learn.{learn, learn_bytes}

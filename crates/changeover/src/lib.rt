@@ -15,37 +15,35 @@ fn is_short(form: u32) -> bool
 pub fn changeover_look_over(book: &[u8], form: u32) -> u64
     ensures { LookedOver (form_of form) book.now result }
 {
-    answer::pack(lookover::look_over(book, is_short(form)), 0)
+    answer::pack(lookover::look_over(book, is_short(form)))
 }
 
 pub fn changeover_learn(book: &[u8], form: u32, sheet: &mut [u8]) -> u64
     ensures { Learned (form_of form) book.now sheet.old sheet.new result }
 {
-    answer::pack(learner::learn(book, is_short(form), sheet), 0)
+    answer::pack(learner::learn(book, is_short(form), sheet))
 }
 
 pub fn changeover_check(book: &[u8], form: u32, order: &[u8], end: &mut [u8]) -> u64
     ensures { Checked (form_of form) book.now order.now end.old end.new result }
 {
-    let r = checker::check(book, is_short(form), order, end);
-    let a = r.answer;
-    answer::pack(a, r.position)
+    answer::pack_checked(checker::check(book, is_short(form), order, end))
 }
 
 pub fn changeover_add(book: &[u8], form: u32, bytes: &[u8], out: &mut [u8]) -> u64
     ensures { Added (form_of form) book.now bytes.now out.old out.new result }
 {
-    answer::pack(adding::add(book, is_short(form), bytes, out), 0)
+    answer::pack(adding::add(book, is_short(form), bytes, out))
 }
 
 pub fn changeover_to_short(book: &[u8], out: &mut [u8]) -> u64
     ensures { Converted short book.now out.old out.new result }
 {
-    answer::pack(converting::convert(book, false, out), 0)
+    answer::pack(converting::convert(book, false, out))
 }
 
 pub fn changeover_to_full(book: &[u8], out: &mut [u8]) -> u64
     ensures { Converted full book.now out.old out.new result }
 {
-    answer::pack(converting::convert(book, true, out), 0)
+    answer::pack(converting::convert(book, true, out))
 }

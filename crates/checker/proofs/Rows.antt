@@ -2,18 +2,16 @@
 use Prim.Native.Nat.{ℕ, ◌*◌, ◌≤◌}
 use native.Mathlib.Omega.{arith}
 use mathlib.Core.Path.{◌≡◌, refl, sym, ap, ◌∙◌}
-use mathlib.Core.Bool.{Bool, true, false, not}
+use mathlib.Core.Bool.{not}
 use mathlib.Core.List.{List, [], ◌∷◌}
 use lib.ListN.{length, take, drop}
 use lib.Seq.{take_at}
 use borrow.Author.Tests.{eq-eqb, ne_eqb}
-use Rattle.answer.specs.declared.Answer.{Answer}
-use Rattle.answer.specs.declared.Answer.TheVariants.{Good, Refused}
-use Rattle.answer.specs.declared.Positioned.{Positioned}
-use Rattle.answer.specs.Answer.{◌>>=◌, refuse, is_refused, value_of, unpositioned, then_at, kept}
-use Rattle.answer.proofs.Laws.{stays, bind_good, refuse_unmet, refused_kept}
-use Rattle.answer.proofs.Turns.{is_good}
-use Rattle.answer.proofs.Positions.{then_refused, then_by}
+use Rattle.answer.specs.Answer.{Answer, Good, Refused, Positioned, ◌>>=◌, refuse, value_of, unpositioned, then_at, kept}
+use Rattle.answer.specs.declared.Refusal.{Refusal}
+use Rattle.answer.specs.Refusal.{refused_by}
+use Rattle.answer.proofs.Laws.{bind_good, refuse_unmet}
+use Rattle.answer.proofs.Positions.{then_by}
 use Rattle.limits.specs.Limits.{end_sheet_size, observed_size, rule_size, max_moves}
 use Rattle.terms.specs.declared.Sections.{Sections}
 use Rattle.terms.specs.declared.Fact.{Fact}
@@ -44,23 +42,20 @@ use Rattle.checker.proofs.Executed.{executable, starts_good, start_executed, sta
 use Rattle.factsets.specs.Holding.{holding}
 
 -- ---- rows 14 to 20
-module _ (form : Form) (s o old : List ℕ) (h : Sections) (observed : List ℕ) (ready : ReadyForOrder form s h observed old) (a : Answer) (b : Bool) (ordered : a ≡ order_form (schema h s) o) (told : b ≡ is_refused a) where
-  form_own : a ≡ order_form (schema_of s) o
-  form_own = rw (schema_own s h ready.own) at ordered
-
+module _ (form : Form) (s o old : List ℕ) (h : Sections) (observed : List ℕ) (ready : ReadyForOrder form s h observed old) where
   -- rows 14 to 18
-  pub at_order : b ≡ true → (p : Positioned) → p ≡ unpositioned a → OrderOutcome form s o old old p
-  unfolding from_order unpositioned
-  at_order r p q =
-      let says : p ≡ from_order form s o = q ∙ ap unpositioned form_own ∙ then_refused (order_form (schema_of s) o) _ (sym (ap is_refused form_own) ∙ sym told ∙ r) in
-      record { says = says; bytes = refused_kept _ a _ old (sym (ap (λ (x : Positioned). x.answer) q) ∙ ap (λ (x : Positioned). x.answer) says) (sym told ∙ r) }
+  pub at_order : (e : Refusal) → refused_by e ≡ order_form (schema h s) o → OrderOutcome form s o old old (record { answer = refused_by e; position = 0 })
+  unfolding from_order then_at unpositioned kept
+  at_order e ordered =
+      let refused : order_form (schema_of s) o ≡ refused_by e = sym (rw (schema_own s h ready.own) at ordered) in
+      record { says = rw (from_order, refused) refl; bytes = rw (from_order, refused) refl }
 
-  module _ (passed : b ≡ false) where
+  module _ (n : ℕ) (ordered : Good n ≡ order_form (schema h s) o) where
     formed : (n : ℕ) × (look_over form s ≡ Good n)
     formed = form_good form s _ ready.learns
 
-    order : order_form (schema_of s) o ≡ Good (value_of a)
-    order = sym form_own ∙ is_good a (sym told ∙ passed)
+    order : order_form (schema_of s) o ≡ Good n
+    order = sym (rw (schema_own s h ready.own) at ordered)
 
     pub order_starts : StartsGood o (start_count o) (start_at o)
     order_starts = starts_good form s formed.0 _ formed.1 ready.learns o _ order
@@ -128,34 +123,30 @@ module _ (form : Form) (s o old : List ℕ) (h : Sections) (observed : List ℕ)
     at_run over rules w lent new r out = ran_out new r (ran over rules w lent new r out)
 
 -- ---- the whole check
-module _ (form : Form) (s observed : List ℕ) (a : Answer) (b : Bool) (noted : BookObserved form s observed a) (told : b ≡ is_refused a) where
-  learns : b ≡ false → learnable form s ≡ Good (value_of (learnable form s))
-  learns passed = is_good _ (sym (ap is_refused noted.says) ∙ sym told ∙ passed)
+module _ (form : Form) (s observed o old : List ℕ) where
+  -- rows 1 to 12
+  pub at_book : (e : Refusal) → BookObserved form s observed (refused_by e) → CheckOutcome form s o old old (record { answer = refused_by e; position = 0 })
+  unfolding check check_bytes before_plan then_at unpositioned ◌>>=◌ kept
+  at_book e noted = record { says = rw (← noted.says) refl; bytes = rw (check, ← noted.says) refl }
 
-  pub ready_by : b ≡ false → (old : List ℕ) → length old ≡ end_sheet_size → (h : Sections) → h ≡ sections_of s → length observed ≡ observed_size → ReadyForOrder form s h observed old
-  ready_by passed old size h own room =
-      record { own = own; learns = learns passed; observes = noted.observes _ (is_good a (sym told ∙ passed)); room = room; size = size }
+  module _ (n : ℕ) (noted : BookObserved form s observed (Good n)) where
+    learns : learnable form s ≡ Good n
+    learns = sym noted.says
 
-  module _ (o old : List ℕ) where
-    -- rows 1 to 12
-    pub at_book : b ≡ true → (p : Positioned) → p ≡ unpositioned a → CheckOutcome form s o old old p
-    unfolding check check_bytes before_plan unpositioned
-    at_book r p q =
-        let before : a ≡ before_plan form s o (length old) = noted.says ∙ stays (learnable form s) _ (sym (ap is_refused noted.says) ∙ sym told ∙ r) in
-        let says : p ≡ check form s o (length old) = q ∙ ap unpositioned before ∙ then_refused (before_plan form s o (length old)) _ (sym (ap is_refused before) ∙ sym told ∙ r) in
-        record { says = says; bytes = refused_kept _ a _ old (sym (ap (λ (x : Positioned). x.answer) q) ∙ ap (λ (x : Positioned). x.answer) says) (sym told ∙ r) }
+    pub ready_by : length old ≡ end_sheet_size → (h : Sections) → h ≡ sections_of s → length observed ≡ observed_size → ReadyForOrder form s h observed old
+    unfolding value_of
+    ready_by size h own room =
+        record { own = own; learns = rw learns refl; observes = noted.observes n refl; room = room; size = size }
 
     -- row 13
-    pub at_size : b ≡ false → (length old ≡ end_sheet_size → ⊥) → (p : Positioned) → p ≡ unpositioned (Refused 13 0) → CheckOutcome form s o old old p
-    unfolding check check_bytes before_plan refuse ◌>>=◌ then_at is_refused unpositioned
-    at_size passed h p q =
-        let says : p ≡ check form s o (length old) = rw (q, learns passed, ne_eqb (length old) end_sheet_size h) in
-        record { says = says; bytes = refused_kept _ (Refused 13 0) _ old (sym (ap (λ (x : Positioned). x.answer) q) ∙ ap (λ (x : Positioned). x.answer) says) refl }
+    pub at_size : (length old ≡ end_sheet_size → ⊥) → CheckOutcome form s o old old (record { answer = Refused 13 0; position = 0 })
+    unfolding check check_bytes before_plan refuse ◌>>=◌ then_at unpositioned kept
+    at_size h = record { says = rw (learns, ne_eqb (length old) end_sheet_size h) refl; bytes = rw (check, learns, ne_eqb (length old) end_sheet_size h) refl }
 
     -- rows 14 to 20
-    pub at_rest : b ≡ false → length old ≡ end_sheet_size → (new : List ℕ) (r : Positioned) → OrderOutcome form s o old new r → CheckOutcome form s o old new r
+    pub at_rest : length old ≡ end_sheet_size → (new : List ℕ) (r : Positioned) → OrderOutcome form s o old new r → CheckOutcome form s o old new r
     unfolding check before_plan from_order check_bytes
-    at_rest passed size new r out =
+    at_rest size new r out =
         let rest : check form s o (length old) ≡ from_order form s o =
-        ap (λ (x : Answer). then_at x (starts_answer form s o)) (bind_good _ _ _ (learns passed) ∙ refuse_unmet _ 13 0 _ (ap not (eq-eqb (length old) end_sheet_size size))) in
+        ap (λ (x : Answer). then_at x (starts_answer form s o)) (bind_good _ _ _ learns ∙ refuse_unmet _ 13 0 _ (ap not (eq-eqb (length old) end_sheet_size size))) in
         record { says = out.says ∙ sym rest; bytes = rw rest out.bytes }

@@ -1,8 +1,6 @@
 -- What the functions of the checker say: rows 14 to 20 and the whole check with the lent end sheet.
 use Rattle.std.specs.Prelude.{ℕ, ◌≡◌, List, length}
-use Rattle.answer.specs.declared.Answer.TheVariants.{Good}
-use Rattle.answer.specs.declared.Positioned.{Positioned}
-use Rattle.answer.specs.Answer.{value_of, then_at, kept}
+use Rattle.answer.specs.Answer.{Good, Positioned, value_of, then_at, kept}
 use Rattle.limits.specs.Limits.{end_sheet_size, observed_size}
 use Rattle.terms.specs.declared.Sections.{Sections}
 use Rattle.terms.specs.Sections.{sections_of}

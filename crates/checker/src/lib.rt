@@ -4,9 +4,10 @@
 // Uses learner, rulesheet, orders, starts, answer, terms and limits.
 #![tactic(auto)]
 
+ghost use Rattle.answer.specs.Refusal.{positioned_of};
 ghost use Rattle.checker.specs.Checker.{ReadyForOrder, OrderOutcome, CheckOutcome};
 
-use answer::{Answer, Positioned};
+use answer::{CheckRefusal, Reason};
 use terms::Sections;
 
 // Rows 14 to 20 for a book that learning does not refuse, with an end sheet of 512 bytes.
@@ -17,30 +18,24 @@ fn check_order(
     observed: &mut [u8],
     o: &[u8],
     end: &mut [u8],
-) -> Positioned
+) -> Result<usize, CheckRefusal>
     requires { ReadyForOrder short s.now h observed.old end.old }
-    ensures { OrderOutcome short s.now o.now end.old end.new result }
+    ensures { OrderOutcome short s.now o.now end.old end.new (positioned_of result) }
 {
-    let a = orders::order_form(s, h, o);
-    if answer::is_refused(a) {
-        return answer::unpositioned(a);
-    }
+    orders::order_form(s, h, o)?;
     rulesheet::write_over(h.moves.count, observed);
     let size = limits::RULE_SIZE * h.moves.count as usize;
     starts::run_order(s, h, &observed[..size], o, end)
 }
 
-pub fn check(s: &[u8], short: bool, o: &[u8], end: &mut [u8]) -> Positioned
-    ensures { CheckOutcome short s.now o.now end.old end.new result }
+pub fn check(s: &[u8], short: bool, o: &[u8], end: &mut [u8]) -> Result<usize, CheckRefusal>
+    ensures { CheckOutcome short s.now o.now end.old end.new (positioned_of result) }
 {
     let h = Sections::read(s);
     let mut observed = [0u8; limits::OBSERVED_SIZE];
-    let a = learner::observe_book(s, short, h, &mut observed);
-    if answer::is_refused(a) {
-        return answer::unpositioned(a);
-    }
+    learner::observe_book(s, short, h, &mut observed)?;
     if end.len() != limits::END_SHEET_SIZE {
-        return answer::unpositioned(Answer::Refused(13, 0));
+        return Err(CheckRefusal::BeforeStarts(Reason::Room.at(0)));
     }
     check_order(s, short, h, &mut observed, o, end)
 }

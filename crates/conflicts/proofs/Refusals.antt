@@ -1,62 +1,27 @@
--- Rows 11, 12 and 28: whether something is in a set, found byte by byte, the sets put together, and the answers. Uses the definitions of observed, and `any` of model.
+-- Rows 11, 12 and 28: whether something is in a set, and the answers. Uses the definitions of observed, and `any` and `least` of quantify.
 use Prim.Native.Nat.{ℕ, zero, suc, ◌+◌, ◌≤◌, ◌<◌}
 use native.Mathlib.Numerals.{add-one}
-use mathlib.Core.Path.{◌≡◌, refl}
-use mathlib.Core.Bool.{Bool, true, false, not}
-use mathlib.Core.List.{List}
-use lib.ListN.{length, get_or, drop, drop_of_length-le}
-use lib.Seq.{drop-cons}
-use borrow.Author.Tests.{ne_eqb}
-use Rattle.answer.specs.declared.Answer.TheVariants.{Refused}
-use Rattle.mask.specs.Sets.{intersection, union, difference}
-use Rattle.quantify.specs.Quantify.{any}
+use native.Mathlib.Omega.{arith}
+use mathlib.Core.Path.{◌≡◌, refl, ap, ◌∙◌}
+use mathlib.Core.Bool.{Bool, true, ◌||◌, not}
+use mathlib.Core.List.{List, [], ◌∷◌}
+use lib.Dec.{eqb}
+use Rattle.std.specs.List.{list_any}
+use Rattle.answer.specs.Answer.{Good, Refused}
+use Rattle.quantify.specs.Quantify.{any, least}
+use Rattle.quantify.proofs.Quantify.{least_found, least_unfound}
 use Rattle.jobs.specs.Learn.{conflict_answer}
-use Rattle.observed.specs.Observed.{always_before, ever_before, always_after, ever_after, added, deleted, bound, observed_set}
-use Rattle.observed.specs.Rules.{rule_set, unbound_answer, conflict_observed, in_use, conflict_set, unmet_set}
+use Rattle.observed.specs.Rules.{unbound_answer, conflict_observed, conflict_among, in_use}
 
--- ---- something is in a set
-pub in_use_here : (m : List ℕ) (i : ℕ) → i < length m → (get_or m i 0 ≡ 0 → ⊥) → in_use (drop i m) ≡ true
-unfolding in_use any
-in_use_here m i h d = rw (drop-cons m i 0 h, ne_eqb (get_or m i 0) 0 d)
+-- ---- something is in a set, as the library finds it
+listed_any : {A : Type 0} (p : A → Bool) (xs : List A) → list_any p xs ≡ any p xs
+unfolding any
+listed_any p [] = refl
+listed_any p (x ∷ xs) = ap (λ (b : Bool). p x || b) (listed_any p xs)
 
-pub in_use_later : (m : List ℕ) (i : ℕ) → i < length m → get_or m i 0 ≡ 0 → in_use (drop i m) ≡ in_use (drop (i + 1) m)
-unfolding in_use any
-in_use_later m i h e = rw (drop-cons m i 0 h, e, add-one)
-
-pub in_use_none : (m : List ℕ) (i : ℕ) → length m ≤ i → in_use (drop i m) ≡ false
-unfolding in_use any
-in_use_none m i h = rw (drop_of_length-le m h)
-
--- ---- row 12 of one move, put together from what the calls in the code return
-module _ (l : List ℕ) (a : ℕ) where
-  pub conflict_set_by : {x unkept y kept r : List ℕ}
-      → x ≡ observed_set l a added
-      → unkept ≡ difference x (observed_set l a always_after)
-      → y ≡ observed_set l a deleted
-      → kept ≡ intersection y (observed_set l a ever_after)
-      → r ≡ union unkept kept
-      → r ≡ conflict_set l a
-  unfolding conflict_set
-  conflict_set_by e f g h u = rw (u, f, h, e, g)
-
-  pub conflicting_by : {either : List ℕ} {r : Bool} → either ≡ conflict_set l a → r ≡ in_use either → r ≡ conflict_observed l a
-  unfolding conflict_observed
-  conflicting_by e f = rw (f, e)
-
-  -- ---- row 28 of one step
-
-  pub unmet_set_by : (held : List ℕ) {x all needed_not_lem lacking r : List ℕ}
-      → x ≡ observed_set l a always_before
-      → all ≡ observed_set l a bound
-      → needed_not_lem ≡ difference all (observed_set l a ever_before)
-      → lacking ≡ intersection needed_not_lem held
-      → r ≡ union lacking (difference x held)
-      → r ≡ unmet_set l a held
-  unfolding unmet_set rule_set
-  unmet_set_by held e f g h u = rw (u, h, g, f, e)
-
-  pub needs_met_by : (held : List ℕ) {set : List ℕ} {used r : Bool} → set ≡ unmet_set l a held → used ≡ in_use set → r ≡ not used → r ≡ not (in_use (unmet_set l a held))
-  needs_met_by held e f g = rw (g, f, e)
+pub in_use_by : (m : List ℕ) (r : Bool) → r ≡ list_any (λ x. not (eqb x 0)) m → r ≡ in_use m
+unfolding in_use
+in_use_by m r e = e ∙ listed_any _ m
 
 -- ---- the answers
 pub unbound_named : (p : ℕ) → (p ≡ 0 → ⊥) → Refused 11 p ≡ unbound_answer p
@@ -64,7 +29,14 @@ unfolding unbound_answer
 unbound_named zero d = absurd (d refl)
 unbound_named (suc p) d = refl
 
-pub conflicting_named : (p : ℕ) → (p ≡ 0 → ⊥) → Refused 12 p ≡ conflict_answer p
-unfolding conflict_answer
-conflicting_named zero d = absurd (d refl)
-conflicting_named (suc p) d = refl
+-- row 12, going up over the moves: none up to number i has a conflict
+module _ (l : List ℕ) (i n : ℕ) (none : least i (conflict_observed l) ≡ 0) where
+  pub among_here : (b : Bool) → b ≡ conflict_observed l (i + 1) → b ≡ true → i < n → Refused 12 (i + 1) ≡ conflict_among l n
+  unfolding conflict_among conflict_answer
+  among_here b e f h =
+      let at : suc i ≡ least n (conflict_observed l) = rw add-one at (least_found _ i n b none e f (omega arith)) in
+      rw add-one (ap conflict_answer at)
+
+  pub among_none : i ≤ n → n ≤ i → Good 0 ≡ conflict_among l n
+  unfolding conflict_among conflict_answer
+  among_none h k = ap conflict_answer (least_unfound _ i n none h k)

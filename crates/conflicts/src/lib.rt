@@ -4,49 +4,46 @@
 #![tactic(auto)]
 
 ghost use Rattle.std.specs.Prelude.{◌≡◌, not, ◌≤◌, length};
+ghost use Rattle.answer.specs.Refusal.{row_of};
 ghost use Rattle.limits.specs.Limits.{observed_size, max_moves};
-ghost use Rattle.quantify.specs.Quantify.{least};
 ghost use Rattle.observed.specs.Rules.{unbound_answer, conflict_observed, conflict_among, in_use, conflict_set, unmet_set};
 ghost use Rattle.observed.specs.Observed.{MoveObserved};
 
-use answer::Answer;
+use answer::{Reason, Refusal};
+use observed::SeenSet;
 use terms::Move;
 
-pub fn unbound_answer(named: usize) -> Answer
-    ensures { result ≡ unbound_answer named }
+// Row 11, `named` being the offset of the first step that it names, 0 where it names none, as in what is observed.
+pub fn unbound_answer(named: usize) -> Result<(), Refusal>
+    ensures { row_of result ≡ unbound_answer named }
 {
     if named == 0 {
-        return Answer::Good(0);
+        return Ok(());
     }
-    Answer::Refused(11, named)
+    Err(Reason::Unbound.at(named))
 }
 
 // Whether something is in the set.
 fn in_use(set: &[u8]) -> bool
     ensures { result ≡ in_use set.now }
 {
-    let mut i = 0;
-    while i < set.len() {
-        if set[i] != 0 {
-            return true;
-        }
-        i += 1;
-    }
-    false
+    set.iter().any(|x| *x != 0)
 }
 
 // What was added and did not hold after every step, or was removed and held after some.
+#[tactic(auto, unfolding(observed::specs::Rules::conflict_set))]
 fn conflict_set(observed: &[u8], m: Move) -> [u8; 32]
     requires { MoveObserved observed.now m.0 }
     ensures { result ≡ conflict_set observed.now m.0 }
 {
-    let added = observed::observed_set(observed, m, observed::ADDED);
-    let deleted = observed::observed_set(observed, m, observed::DELETED);
-    let unkept = observed::outside_observed(added, observed, m, observed::ALWAYS_AFTER);
-    let kept = observed::within_observed(deleted, observed, m, observed::EVER_AFTER);
-    mask::union32(unkept, kept)
+    let added = observed::observed_set(observed, m, SeenSet::Added);
+    let deleted = observed::observed_set(observed, m, SeenSet::Deleted);
+    let unkept = observed::outside_observed(added, observed, m, SeenSet::AlwaysAfter);
+    let kept = observed::within_observed(deleted, observed, m, SeenSet::EverAfter);
+    mask::union(unkept, kept)
 }
 
+#[tactic(auto, unfolding(observed::specs::Rules::conflict_observed))]
 fn conflicting(observed: &[u8], m: Move) -> bool
     requires { MoveObserved observed.now m.0 }
     ensures { result ≡ conflict_observed observed.now m.0 }
@@ -54,42 +51,30 @@ fn conflicting(observed: &[u8], m: Move) -> bool
     in_use(&conflict_set(observed, m))
 }
 
-// The first move with a conflict, 0 where none is.
-fn first_conflict(moves: u16, observed: &[u8]) -> usize
+// Row 12: the first move with a conflict.
+pub fn conflict_among(moves: u16, observed: &[u8]) -> Result<(), Refusal>
     requires { (length observed.now ≡ observed_size) × (moves ≤ max_moves) }
-    ensures { result ≡ least moves (conflict_observed observed.now) }
+    ensures { row_of result ≡ conflict_among observed.now moves }
 {
-    let count = moves as usize;
-    let mut i = 0;
-    while i < count {
-        i += 1;
-        if conflicting(observed, Move(i as u8)) {
-            return i;
+    for i in 0..moves as usize {
+        let m = i + 1;
+        if conflicting(observed, Move(m as u8)) {
+            return Err(Reason::Conflict.at(m));
         }
     }
-    0
-}
-
-pub fn conflict_among(moves: u16, observed: &[u8]) -> Answer
-    requires { (length observed.now ≡ observed_size) × (moves ≤ max_moves) }
-    ensures { result ≡ conflict_among observed.now moves }
-{
-    let m = first_conflict(moves, observed);
-    if m == 0 {
-        return Answer::Good(0);
-    }
-    Answer::Refused(12, m)
+    Ok(())
 }
 
 // The preconditions of a move that are unmet where `held` are its bound facts that hold: needed not to hold and held, or needed to hold and not held.
+#[tactic(auto, unfolding(observed::specs::Rules::unmet_set, observed::specs::Rules::rule_set))]
 fn unmet_set(observed: &[u8], m: Move, held: [u8; 32]) -> [u8; 32]
     requires { MoveObserved observed.now m.0 }
     ensures { result ≡ unmet_set observed.now m.0 held }
 {
-    let needed = observed::observed_set(observed, m, observed::ALWAYS_BEFORE);
-    let bound = observed::observed_set(observed, m, observed::BOUND);
-    let needed_not = observed::outside_observed(bound, observed, m, observed::EVER_BEFORE);
-    mask::union_difference32(mask::intersection32(needed_not, held), needed, held)
+    let needed = observed::observed_set(observed, m, SeenSet::AlwaysBefore);
+    let bound = observed::observed_set(observed, m, SeenSet::Bound);
+    let needed_not = observed::outside_observed(bound, observed, m, SeenSet::EverBefore);
+    mask::union_difference(mask::intersection(needed_not, held), needed, held)
 }
 
 // Whether all preconditions of a move are met where `held` are its bound facts that hold.

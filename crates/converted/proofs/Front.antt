@@ -4,7 +4,7 @@ use mathlib.Core.Path.{◌≡◌, refl}
 use mathlib.Core.List.{List}
 use native.Mathlib.Omega.{arith}
 use lib.ListN.{length}
-use Rattle.answer.specs.declared.Answer.TheVariants.{Good}
+use Rattle.answer.specs.Answer.{Good}
 use Rattle.input.specs.Bytes.{byte_at}
 use Rattle.limits.specs.Limits.{header_size, max_length, move_size}
 use Rattle.terms.specs.Sections.{sections_of}

@@ -9,8 +9,7 @@ use native.Mathlib.Omega.{arith}
 use borrow.Author.Tests.{ltb-false, lt-ltb, le-ltb}
 use lib.ListN.{length, drop, length-append, length-drop}
 use lib.Seq.{take_at, drop_at}
-use Rattle.answer.specs.declared.Answer.TheVariants.{Good, Refused}
-use Rattle.answer.specs.Answer.{kept}
+use Rattle.answer.specs.Answer.{Good, Refused, kept}
 use Rattle.answer.proofs.Laws.{good_refused, bind_good, refuse_met, refuse_unmet, passed, parted}
 use Rattle.limits.specs.Limits.{max_length}
 use Rattle.format.specs.Form.{Form}

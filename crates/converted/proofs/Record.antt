@@ -7,7 +7,7 @@ use native.Mathlib.Omega.{arith}
 use borrow.Author.Tests.{le-ltb}
 use lib.ListN.{length, length-append}
 use Rattle.truth.specs.Bools.{neither}
-use Rattle.answer.specs.declared.Answer.TheVariants.{Good}
+use Rattle.answer.specs.Answer.{Good}
 use Rattle.answer.proofs.Laws.{refuse_unmet}
 use Rattle.answer.specs.Walk.{walk}
 use Rattle.answer.proofs.Entries.{entries_right, entries_all}

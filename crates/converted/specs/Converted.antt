@@ -1,7 +1,7 @@
 -- What converting a book promises. `s` is a book of good form, read in `form`, and `converted (not form) s` is the same book in the other form. Each
 -- promise is for both forms, and so for both directions. Where the new book would pass 60,000 bytes the job refuses, and nothing is said of it.
 use Rattle.std.specs.Prelude.{ℕ, ◌≤◌, ◌<◌, ◌≡◌, ◌↔◌, not, List, length, take, drop}
-use Rattle.answer.specs.declared.Answer.TheVariants.{Good, Refused}
+use Rattle.answer.specs.Answer.{Good, Refused}
 use Rattle.input.specs.Bytes.{byte_at}
 use Rattle.mask.specs.Bits.{Bytes}
 use Rattle.limits.specs.Limits.{max_length}

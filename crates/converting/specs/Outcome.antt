@@ -1,6 +1,6 @@
 -- What a call of `convert` promises, for all inputs: `s` the book, of form `form`, `old` and `new` the lent output before and after it.
 use Rattle.std.specs.Prelude.{◌≡◌, not, List, ℕ, length}
-use Rattle.answer.specs.declared.Answer.{Answer}
+use Rattle.answer.specs.Answer.{Answer}
 use Rattle.format.specs.Form.{Form}
 use Rattle.jobs.specs.Convert.{convert, convert_bytes}
 

@@ -9,7 +9,7 @@ use lib.Dec.{leb}
 use lib.ListN.{length}
 use borrow.Author.Tests.{le-ltb}
 use Rattle.truth.specs.Bools.{decide}
-use Rattle.answer.specs.declared.Answer.TheVariants.{Good}
+use Rattle.answer.specs.Answer.{Good}
 use Rattle.answer.proofs.Laws.{refuse_unmet}
 use Rattle.answer.specs.Walk.{walk}
 use Rattle.answer.proofs.Entries.{entries_right, entries_all}

@@ -7,9 +7,8 @@ use mathlib.Core.List.{List}
 use native.Mathlib.Omega.{arith}
 use lib.ListN.{length}
 use borrow.Author.Tests.{eq-eqb}
-use Rattle.answer.specs.Answer.{kept}
+use Rattle.answer.specs.Answer.{kept, Good}
 use Rattle.limits.specs.Limits.{rule_size}
-use Rattle.answer.specs.declared.Answer.TheVariants.{Good}
 use Rattle.truth.specs.Bools.{clash, not_self, is_false}
 use Rattle.answer.proofs.Laws.{bind_good, refuse_unmet}
 use Rattle.terms.specs.Steps.{is_atom}

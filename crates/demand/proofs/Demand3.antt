@@ -8,9 +8,7 @@ use mathlib.Core.List.{List, [], ◌∷◌, map}
 use native.Mathlib.Omega.{arith}
 use lib.ListN.{length}
 use Rattle.limits.specs.Limits.{state_size, end_sheet_size, max_fact_numbers, max_starts}
-use Rattle.answer.specs.declared.Answer.{Answer}
-use Rattle.answer.specs.declared.Answer.TheVariants.{Good, Refused}
-use Rattle.answer.specs.Answer.{◌>>=◌, is_refused, number, unpositioned, kept}
+use Rattle.answer.specs.Answer.{Answer, Good, Refused, ◌>>=◌, is_refused, number, unpositioned, kept}
 use Rattle.truth.specs.Bools.{clash, decide, is_true}
 use Rattle.answer.proofs.Laws.{kept_same, bind_good, bind_refused, bind_assoc, refuse_unmet}
 use Rattle.answer.proofs.Positions.{then_refused, then_by, then_answer}

@@ -9,10 +9,7 @@ use native.Mathlib.Omega.{arith}
 use lib.Dec.{eqb}
 use lib.ListN.{length}
 use Rattle.truth.specs.Bools.{clash, decide}
-use Rattle.answer.specs.declared.Answer.{Answer}
-use Rattle.answer.specs.declared.Answer.TheVariants.{Good, Refused}
-use Rattle.answer.specs.declared.Positioned.{Positioned}
-use Rattle.answer.specs.Answer.{◌>>=◌, refuse, is_refused, unpositioned, then_at}
+use Rattle.answer.specs.Answer.{Answer, Good, Refused, Positioned, ◌>>=◌, refuse, is_refused, unpositioned, then_at}
 use Rattle.answer.proofs.Laws.{bind_good, bind_refused}
 use Rattle.answer.proofs.Positions.{then_by}
 use Rattle.answer.specs.Walk.{walk}

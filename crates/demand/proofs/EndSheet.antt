@@ -9,9 +9,7 @@ use lib.Dec.{eqb}
 use lib.ListN.{length}
 use Rattle.limits.specs.Limits.{state_size, end_sheet_size}
 use Rattle.truth.specs.Bools.{clash, is_false}
-use Rattle.answer.specs.declared.Answer.{Answer}
-use Rattle.answer.specs.declared.Answer.TheVariants.{Good}
-use Rattle.answer.specs.Answer.{◌>>=◌, refuse, number, unpositioned, kept}
+use Rattle.answer.specs.Answer.{Answer, Good, ◌>>=◌, refuse, number, unpositioned, kept}
 use Rattle.answer.proofs.Laws.{bind_good}
 use Rattle.answer.proofs.Positions.{then_answer}
 use Rattle.mask.specs.Bits.{test_bit}

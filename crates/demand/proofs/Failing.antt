@@ -4,10 +4,7 @@ use mathlib.Core.Path.{◌≡◌, refl, sym, ap, ◌∙◌}
 use mathlib.Core.Bool.{true, false}
 use mathlib.Core.List.{List, [], ◌∷◌, map}
 use native.Mathlib.Omega.{arith}
-use Rattle.answer.specs.declared.Answer.{Answer}
-use Rattle.answer.specs.declared.Answer.TheVariants.{Good, Refused}
-use Rattle.answer.specs.declared.Positioned.{Positioned}
-use Rattle.answer.specs.Answer.{is_refused, unpositioned}
+use Rattle.answer.specs.Answer.{Answer, Good, Refused, Positioned, is_refused, unpositioned}
 use Rattle.answer.specs.Table.{table, row_from, row, up_to, MetFrom}
 use Rattle.answer.proofs.Refusals.{from_good, from_refused}
 use Rattle.quantify.specs.Quantify.{first}

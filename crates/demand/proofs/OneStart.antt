@@ -6,10 +6,7 @@ use mathlib.Core.List.{List, [], ◌∷◌, ◌++◌, append-nil}
 use native.Mathlib.Omega.{arith}
 use lib.ListN.{length}
 use Rattle.limits.specs.Limits.{end_sheet_size}
-use Rattle.answer.specs.declared.Answer.{Answer}
-use Rattle.answer.specs.declared.Answer.TheVariants.{Good}
-use Rattle.answer.specs.declared.Positioned.{Positioned}
-use Rattle.answer.specs.Answer.{number, place, unpositioned}
+use Rattle.answer.specs.Answer.{Answer, Good, Positioned, number, place, unpositioned}
 use Rattle.format.specs.Form.{Form}
 use Rattle.format.specs.Order.{step_count, order_form}
 use Rattle.quantify.specs.Quantify.{Mem, here, there}

@@ -16,7 +16,7 @@ use Rattle.terms.specs.Agree.{SameSchema}
 use Rattle.terms.proofs.Atoms.{fact_path, first_range, second_range}
 use Rattle.terms.proofs.Agree.{atoms_same}
 use Rattle.limits.specs.Limits.{max_objects}
-use Rattle.answer.specs.declared.Answer.TheVariants.{Good}
+use Rattle.answer.specs.Answer.{Good}
 use Rattle.format.specs.Form.{Form}
 use Rattle.format.specs.Decode.{RecordedStep}
 use Rattle.format.specs.LookOver.{look_over}

@@ -3,7 +3,7 @@
 -- be left without steps, and be refused (24).
 use Rattle.std.specs.Prelude.{ℕ, ◌≡◌, ◌↔◌, List, [], ◌∷◌, length}
 use Rattle.limits.specs.Limits.{end_sheet_size}
-use Rattle.answer.specs.declared.Answer.TheVariants.{Good}
+use Rattle.answer.specs.Answer.{Good}
 use Rattle.format.specs.Form.{Form}
 use Rattle.format.specs.LookOver.{look_over}
 use Rattle.format.specs.Order.{step_count, order_form}

@@ -3,7 +3,7 @@
 -- The models are those that the judge holds (`FitsBook` of jobs/specs/Judge.antt); `rule_sheet` is what learning writes.
 use Rattle.std.specs.Prelude.{ℕ, ◌*◌, ◌≤◌, ◌<◌, ◌≡◌, ◌↔◌, Bool, true, false, not, List, length}
 use Rattle.limits.specs.Limits.{rule_size, max_atoms}
-use Rattle.answer.specs.declared.Answer.TheVariants.{Good}
+use Rattle.answer.specs.Answer.{Good}
 use Rattle.terms.specs.declared.Fact.{Fact}
 use Rattle.terms.specs.Steps.{is_atom, ground}
 use Rattle.format.specs.Form.{Form}

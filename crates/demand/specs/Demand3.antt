@@ -3,10 +3,7 @@
 -- behind. His verdict is on one start of an order alone; the check's answer is made of his verdicts on all of its starts (`answer_by`).
 use Rattle.std.specs.Prelude.{ℕ, suc, ◌≤◌, ◌<◌, ◌≡◌, ◌↔◌, true, false, List, [], ◌∷◌, length}
 use Rattle.limits.specs.Limits.{end_sheet_size, max_fact_numbers, max_starts}
-use Rattle.answer.specs.declared.Answer.{Answer}
-use Rattle.answer.specs.declared.Answer.TheVariants.{Good, Refused}
-use Rattle.answer.specs.declared.Positioned.{Positioned}
-use Rattle.answer.specs.Answer.{number, unpositioned}
+use Rattle.answer.specs.Answer.{Answer, Good, Refused, Positioned, number, unpositioned}
 use Rattle.answer.specs.Table.{is_impossible}
 use Rattle.mask.specs.Bits.{test_bit}
 use Rattle.format.specs.Form.{Form}

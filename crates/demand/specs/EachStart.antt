@@ -2,7 +2,7 @@
 -- `alone` of jobs/specs/Alone.antt says which bytes those are. Of every book, of good form or not.
 use Rattle.std.specs.Prelude.{ℕ, ◌+◌, ◌<◌, ◌≡◌, List, [], ◌∷◌, map, length}
 use Rattle.limits.specs.Limits.{header_size, end_sheet_size}
-use Rattle.answer.specs.declared.Answer.TheVariants.{Good, Refused}
+use Rattle.answer.specs.Answer.{Good, Refused}
 use Rattle.input.specs.Bytes.{byte_at}
 use Rattle.format.specs.Form.{Form}
 use Rattle.format.specs.Order.{object_count, start_count, step_count, order_form, starts, goal, plan}

@@ -1,8 +1,7 @@
 -- The end sheet of a plan that passes, beside Demand3: the bits of no right fact of the order are 0. A fact is right for an order if its relation is one
 -- of the book's and its places have objects of the order that suit (`fact_bad`).
 use Rattle.std.specs.Prelude.{ℕ, ◌≡◌, true, false, List, length}
-use Rattle.answer.specs.declared.Answer.TheVariants.{Good}
-use Rattle.answer.specs.Answer.{number}
+use Rattle.answer.specs.Answer.{Good, number}
 use Rattle.mask.specs.Bits.{test_bit}
 use Rattle.terms.specs.declared.Fact.{Fact}
 use Rattle.terms.specs.Schema.{typed_objects}

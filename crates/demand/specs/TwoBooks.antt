@@ -1,7 +1,7 @@
 -- Two books side by side, each in its form: when they show the same of a move, and the two sentences that say what follows for the rule sheet. `s` is of
 -- form `F`, `t` of form `G`.
 use Rattle.std.specs.Prelude.{ℕ, ◌+◌, ◌-◌, ◌*◌, ◌≤◌, ◌<◌, ◌≡◌, List, [], ◌∷◌, take, drop}
-use Rattle.answer.specs.declared.Answer.TheVariants.{Good}
+use Rattle.answer.specs.Answer.{Good}
 use Rattle.input.specs.Bytes.{byte_at}
 use Rattle.terms.specs.declared.Fact.{Fact}
 use Rattle.terms.specs.Sections.{sections_of}

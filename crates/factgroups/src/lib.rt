@@ -12,19 +12,12 @@ ghost use Rattle.factgroups.specs.Groups.{in_columns, Clear, group_unmet, word_u
 
 // ---- words
 
-// The low byte stands first.
-fn word(low: u8, high: u8) -> u16
-    ensures { result ≡ low + 256 * high }
-{
-    low as u16 + 256 * high as u16
-}
-
 // The sixteen bits of a mask from the byte at an index on.
 pub fn word_at(m: &[u8], at: usize) -> u16
     requires { at + 2 ≤ length m.now }
     ensures { (result ≡ number (test_bit m.now) (8 * at) atoms_per_relation) × Bytes m.now }
 {
-    word(m[at], m[at + 1])
+    u16::from_le_bytes([m[at], m[at + 1]])
 }
 
 // ---- groups and columns
@@ -37,6 +30,7 @@ pub struct Placement {
     pub at: usize,
 }
 
+// Not by `map`: what it asks of the sum for each number did not prove.
 fn groups_from(xs: [usize; 4], n: usize) -> [usize; 4]
     requires { Indices xs × StartsRelation n }
     ensures { result ≡ groups_from n xs }
@@ -84,6 +78,7 @@ fn column(y: usize) -> u16
 }
 
 // For each set of parameters, as four bits, their columns as bits of a group; then the same for an unused second place, where all have column 0.
+// Each entry is written out, as the union that it is: a loop over sets of four bits says it in no fewer words.
 pub fn column_table(ys: [usize; 4]) -> [u16; 32]
     requires { Indices ys }
     ensures { Tables result ys }
@@ -120,11 +115,12 @@ fn columns(t: &[u16; 32], p: Placement, k: u16) -> u16
     requires { Within p × (k < 16) }
     ensures { ForColumns t.now p (λ ys. result ≡ column_set ys k) }
 {
-    let i = p.at + k as usize;
-    t[i]
+    t[p.at + k as usize]
 }
 
 // ---- values
+
+// Below, the four groups stand one by one, each with the weight of its four bits in a word: a loop over them would need the shifts in their place.
 
 // The facts of a state in the group of a parameter.
 fn group_word(p: Placement, q: usize, state: &[u8]) -> u16
@@ -251,8 +247,9 @@ fn put_group(p: Placement, q: usize, columns: u16, value: bool, state: &mut [u8]
 {
     let at = 2 * group(p, q);
     let bits = changed(word_at(state, at), columns, value);
-    state[at] = (bits % 256) as u8;
-    state[at + 1] = (bits / 256) as u8;
+    let [low, high] = bits.to_le_bytes();
+    state[at] = low;
+    state[at + 1] = high;
 }
 
 // The same of a relation's bound facts in a word: four groups, one for each parameter in the first place.

@@ -36,6 +36,7 @@ impl ListCursor {
     }
 
     // Past the next fact.
+    #[tactic(auto, unfolding(crate::specs::Rest::next))]
     pub fn on(self) -> ListCursor
         requires { (0 < self.left) × (self.at ≤ far_ceiling) }
         ensures { result ≡ next self }

@@ -1,18 +1,14 @@
 -- A record of good form has what its steps are asked for; and the loop over the records of a book.
-use Prim.Native.Nat.{ℕ, zero, suc, ◌+◌, ◌-◌, ◌≤◌, ◌<◌}
-use native.Mathlib.Numerals.{sub-one}
+use Prim.Native.Nat.{ℕ, suc, ◌+◌, ◌-◌, ◌≤◌, ◌<◌}
 use native.Mathlib.Omega.{arith}
 use mathlib.Core.Path.{◌≡◌, refl, sym, ap, ◌∙◌, subst}
-use mathlib.Core.Bool.{Bool, true, false}
-use mathlib.Core.List.{List, [], ◌++◌}
+use mathlib.Core.List.{List, []}
 use lib.ListN.{length}
 use Rattle.limits.specs.Limits.{max_length, head_size}
-use Rattle.answer.specs.declared.Answer.{Answer}
-use Rattle.answer.specs.declared.Answer.TheVariants.{Good}
-use Rattle.answer.specs.Answer.{◌>>=◌, is_refused}
+use Rattle.answer.specs.Answer.{Answer, Good, Refused, ◌>>=◌}
+use Rattle.answer.proofs.Laws.{bind_good, bind_refused}
 use Rattle.answer.specs.Walk.{walk}
 use Rattle.answer.proofs.Walks.{walk_parted}
-use Rattle.answer.proofs.Turns.{part_stays, part_then}
 use Rattle.terms.specs.declared.Head.{Head}
 use Rattle.terms.specs.declared.Sections.{Sections}
 use Rattle.terms.specs.Sections.{sections_of}
@@ -95,60 +91,57 @@ module _ (form : Form) (h : Sections) (s masks : List ℕ) (is : h ≡ sections_
   abbrev answered : ℕ → ℕ → Answer
   answered n at = refuted_observed masks (steps_of_records form s n at)
 
-  -- the records that are left are of good form, and answer as the whole book does
-  pub record Left (left at : ℕ) : Type 0 where
-    pub good : walk (record_at form h s) left at ≡ Good (length s)
+  -- the records behind those that are done are of good form, and answer as the whole book does
+  pub record Left (done at : ℕ) : Type 0 where
+    pub good : walk (record_at form h s) (h.records.count - done) at ≡ Good (length s)
     pub start : at ≤ length s
-    pub rest : answered left at ≡ refuted_observed masks (steps_of_book form s)
+    pub rest : answered (h.records.count - done) at ≡ refuted_observed masks (steps_of_book form s)
 
-  pub left_first : Left h.records.count h.records.at
+  pub left_first : Left 0 h.records.at
   unfolding steps_of_book recorded_steps
-  left_first = record { good = rw is over.records; start = rw is over.sections.offsets.within; rest = rw is refl }
+  left_first =
+      let all : h.records.count - 0 ≡ h.records.count = omega arith in
+      record { good = rw (all, is) over.records; start = rw is over.sections.offsets.within; rest = rw (all, is) refl }
 
-  module _ (left at : ℕ) (i : Left left at) where
+  module _ (done at : ℕ) (i : Left done at) where
     pub left_near : at ≤ max_length
     left_near = omega (arith, i.start, book_asked.size)
 
-    none : left ≡ 0 → answered left at ≡ Good 0
+    none : (left : ℕ) → left ≡ 0 → answered left at ≡ Good 0
     unfolding steps_of_records any
-    none e = rw e (refuted_none masks [] refl)
+    none left e = rw e (refuted_none masks [] refl)
 
-    pub left_none : left ≡ 0 → Good 0 ≡ refuted_observed masks (steps_of_book form s)
-    left_none e = sym (none e) ∙ i.rest
+    pub left_none : h.records.count ≤ done → Good 0 ≡ refuted_observed masks (steps_of_book form s)
+    left_none l = sym (none (h.records.count - done) (omega arith)) ∙ i.rest
 
-    module _ (some : 0 < left) where
-      parted : (next : ℕ) × (record_at form h s at ≡ Good next) × (walk (record_at form h s) (left - 1) next ≡ Good (length s))
-      parted = go left some i.good
-        where
-          go : (k : ℕ) → 0 < k → walk (record_at form h s) k at ≡ Good (length s) → (next : ℕ) × (record_at form h s at ≡ Good next) × (walk (record_at form h s) (k - 1) next ≡ Good (length s))
-          go zero l e = absurd (omega arith)
-          go (suc k) l e = rw sub-one (walk_parted (record_at form h s) k at (length s) e)
+    module _ (some : done < h.records.count) where
+      -- how many are left behind the next one
+      abbrev k : ℕ
+      k = h.records.count - (done + 1)
+
+      more : h.records.count - done ≡ suc k
+      more = omega arith
+
+      parted : (next : ℕ) × (record_at form h s at ≡ Good next) × (walk (record_at form h s) k next ≡ Good (length s))
+      parted = walk_parted (record_at form h s) k at (length s) (rw more at i.good)
 
       pub left_record : RecordAsked form h s at
       left_record = (parted.0, parted.1)
 
-      more : steps_of_records form s left at ≡ steps_of_record form s at ++ steps_of_records form s (left - 1) (at + length_in s at)
+      joined : (refuted_observed masks (steps_of_record form s at) >>= λ _. answered k (at + length_in s at)) ≡ refuted_observed masks (steps_of_book form s)
       unfolding steps_of_records
-      more = go left some
-        where
-          go : (k : ℕ) → 0 < k → steps_of_records form s k at ≡ steps_of_record form s at ++ steps_of_records form s (k - 1) (at + length_in s at)
-          go zero l = absurd (omega arith)
-          go (suc k) l = rw sub-one
-
-      joined : (refuted_observed masks (steps_of_record form s at) >>= λ _. answered (left - 1) (at + length_in s at)) ≡ refuted_observed masks (steps_of_book form s)
-      joined = sym (refuted_append masks _ _) ∙ sym (ap (refuted_observed masks) more) ∙ i.rest
+      joined = sym (refuted_append masks _ _) ∙ ap (λ (j : ℕ). answered j at) (sym more) ∙ i.rest
 
       -- what the record answered
-      module _ (a : Answer) (b : Bool) (told : a ≡ refuted_observed masks (steps_of_record form s at)) (refused : b ≡ is_refused a) where
-        pub left_refused : b ≡ true → a ≡ refuted_observed masks (steps_of_book form s)
-        left_refused e = part_stays _ _ a b told refused e ∙ joined
+      pub left_refused : {num p : ℕ} → Refused num p ≡ refuted_observed masks (steps_of_record form s at) → Refused num p ≡ refuted_observed masks (steps_of_book form s)
+      left_refused is = sym (bind_refused _ _ _ _ (sym is)) ∙ joined
 
-        pub left_next : b ≡ false → (size : ℕ) → size ≡ length_in s at → Left (left - 1) (at + size)
-        left_next e size d =
-            let (place, within) = record_within form h s at parted.0 parted.1 in
-            rw d
-            (record {
-              good = subst (λ (k : ℕ). walk (record_at form h s) (left - 1) k ≡ Good (length s)) place parted.2;
-              start = omega (arith, place, within);
-              rest = part_then (refuted_observed masks (steps_of_record form s at)) (answered (left - 1) (at + length_in s at)) a b told refused e ∙ joined;
-            })
+      pub left_next : Good 0 ≡ refuted_observed masks (steps_of_record form s at) → (size : ℕ) → size ≡ length_in s at → Left (done + 1) (at + size)
+      left_next is size d =
+          let (place, within) = record_within form h s at parted.0 parted.1 in
+          rw d
+          (record {
+            good = subst (λ (n : ℕ). walk (record_at form h s) k n ≡ Good (length s)) place parted.2;
+            start = omega (arith, place, within);
+            rest = sym (bind_good _ _ _ (sym is)) ∙ joined;
+          })

@@ -1,6 +1,5 @@
 -- The loop over the steps of a record: its invariant, that it holds before the first step, and that each step keeps it.
-use Prim.Native.Nat.{ℕ, zero, suc, ◌+◌, ◌-◌, ◌≤◌, ◌<◌}
-use native.Mathlib.Numerals.{sub-one}
+use Prim.Native.Nat.{ℕ, suc, ◌+◌, ◌-◌, ◌≤◌, ◌<◌}
 use native.Mathlib.Omega.{arith}
 use mathlib.Core.Path.{◌≡◌, refl, sym, ap, ◌∙◌, subst}
 use mathlib.Core.Logic.{◌⊎◌, inl, inr}
@@ -9,8 +8,8 @@ use mathlib.Core.List.{List, [], ◌∷◌}
 use lib.ListN.{length}
 use Rattle.truth.specs.Bools.{decide}
 use Rattle.limits.specs.Limits.{max_length, max_facts, step_size, state_size}
-use Rattle.answer.specs.declared.Answer.{Answer}
-use Rattle.answer.specs.declared.Answer.TheVariants.{Good, Refused}
+use Rattle.answer.specs.Answer.{Answer, Good, Refused, ◌>>=◌, refuse}
+use Rattle.answer.proofs.Laws.{bind_good, bind_refused}
 use Rattle.mask.specs.Sets.{empty, cardinality, mask_of}
 use Rattle.terms.specs.declared.Fact.{Fact}
 use Rattle.terms.specs.declared.Sections.{Sections}
@@ -39,22 +38,19 @@ use Rattle.failedsteps.proofs.State.{book_known, met_facts, mask_short, mask_ful
 
 -- ---- the first of some steps, and the others
 
+refuted_cons : (l : List ℕ) (x : RecordedStep) (xs : List RecordedStep)
+    → refuted_observed l (x ∷ xs) ≡ (refuse (not x.went && met_before l x) 28 x.place >>= λ _. refuted_observed l xs)
+unfolding refuse ◌>>=◌
+refuted_cons l x xs = go (decide (not x.went && met_before l x))
+  where
+    go : ((not x.went && met_before l x) ≡ true) ⊎ ((not x.went && met_before l x) ≡ false) → refuted_observed l (x ∷ xs) ≡ (refuse (not x.went && met_before l x) 28 x.place >>= λ _. refuted_observed l xs)
+    go (inl e) = rw e (refuted_here l x xs e)
+    go (inr e) = rw e (refuted_later l x xs e)
+
 module _ (form : Form) (s : List ℕ) where
   answered_none : (l : List ℕ) (k : ℕ) (before : List Fact) (at : ℕ) → k ≡ 0 → refuted_observed l (recorded_steps_at form s k before at) ≡ Good 0
   unfolding recorded_steps_at any
   answered_none l k before at e = rw e (refuted_none l [] refl)
-
-  recorded_more : (k : ℕ) (before : List Fact) (at : ℕ) → 0 < k
-      → recorded_steps_at form s k before at ≡ recorded_step form s before at ∷ recorded_steps_at form s (k - 1) (state_after form s before (at + step_size)) (list_end s (at + step_size))
-  unfolding recorded_steps_at
-  recorded_more zero before at h = absurd (omega arith)
-  recorded_more (suc k) before at h = rw sub-one
-
-  steps_first : (sch : Schema) (ob : TypedObjects) (end k : ℕ) (before : List Fact) (at last : ℕ) → 0 < k → steps form sch ob s end k before at ≡ Good last
-      → (step form sch ob s end before at ≡ Good (list_end s (at + step_size)))
-      × (steps form sch ob s end (k - 1) (state_after form s before (at + step_size)) (list_end s (at + step_size)) ≡ Good last)
-  steps_first sch ob end zero before at last h e = absurd (omega arith)
-  steps_first sch ob end (suc k) before at last h e = rw sub-one (steps_parted form sch ob s end k before at last e)
 
 -- ---- the loop
 
@@ -72,15 +68,15 @@ module _ (form : Form) (h : Sections) (s masks : List ℕ) (n first : ℕ) (book
   abbrev answered : ℕ → List Fact → ℕ → Answer
   answered k before at = refuted_observed masks (recorded_steps_at form s k before at)
 
-  -- `before` are the facts before the steps that are left: the list at `pre` in a full book, carried in the mask m in a short one. These steps are of
-  -- good form, and answer as all of them do
-  pub record Going (before : List Fact) (m : List ℕ) (count left pre at : ℕ) : Type 0 where
+  -- `before` are the facts behind the steps that are done: the list at `pre` in a full book, carried in the mask m in a short one. The steps that are left
+  -- are of good form, and answer as all of them do
+  pub record Going (before : List Fact) (m : List ℕ) (count done pre at : ℕ) : Type 0 where
     pub long : length m ≡ state_size
     pub right : RightState sch ob before
     pub carries : Carries form before m count
     pub listed : (form ≡ false → list_at s pre ≡ before) × Turnable s pre
-    pub good : steps form sch ob s end left before at ≡ Good ask.last
-    pub rest : answered left before at ≡ answered n (list_at s first) (list_end s first)
+    pub good : steps form sch ob s end (n - done) before at ≡ Good ask.last
+    pub rest : answered (n - done) before at ≡ answered n (list_at s first) (list_end s first)
 
   -- ---- the first state
 
@@ -97,9 +93,10 @@ module _ (form : Form) (h : Sections) (s masks : List ℕ) (n first : ℕ) (book
       list_turnable max_facts 8 sch ob ask.few (book_known h s masks book) s end first _ ask.start ask.within (omega (arith, first_near))
 
   pub going_first : (m m' : List ℕ) (count at : ℕ) → m ≡ empty state_size → length m' ≡ state_size → Carried form s first m m' count → at ≡ list_end s first
-      → Going (list_at s first) m' count n first at
+      → Going (list_at s first) m' count 0 first at
   unfolding filed_fact
   going_first m m' count at e long carried place =
+      let all : n - 0 ≡ n = omega arith in
       let order = list_increasing max_facts 8 sch ob s end first _ ask.start in
       record {
         long = long;
@@ -108,25 +105,32 @@ module _ (form : Form) (h : Sections) (s masks : List ℕ) (n first : ℕ) (book
             (carried_on sch ob ask.few (book_known h s masks book) form [] (empty state_size) 0 (λ f k. absurd (mem_none k)) tt (carries_none form) s first
             (list_suits max_facts 8 sch ob s end first _ ask.start) order m' count (rw e at carried));
         listed = (λ full. refl, first_turnable);
-        good = rw place ask.good;
-        rest = rw place refl;
+        good = rw (place, all) ask.good;
+        rest = rw (place, all) refl;
       }
 
   -- ---- one step on
 
-  module _ (before : List Fact) (m : List ℕ) (count left pre at : ℕ) (going : Going before m count left pre at) where
-    pub going_none : left ≡ 0 → Good 0 ≡ answered n (list_at s first) (list_end s first)
-    going_none e = sym (answered_none form s masks left before at e) ∙ going.rest
+  module _ (before : List Fact) (m : List ℕ) (count done pre at : ℕ) (going : Going before m count done pre at) where
+    pub going_none : n ≤ done → Good 0 ≡ answered n (list_at s first) (list_end s first)
+    going_none h = sym (answered_none form s masks (n - done) before at (omega arith)) ∙ going.rest
 
-    module _ (some : 0 < left) where
+    module _ (some : done < n) where
+      -- how many are left behind the next one
+      abbrev k : ℕ
+      k = n - (done + 1)
+
+      more : n - done ≡ suc k
+      more = omega arith
+
       abbrev x : RecordedStep
       x = recorded_step form s before at
 
       abbrev after : List Fact
       after = state_after form s before (at + step_size)
 
-      parted : (step form sch ob s end before at ≡ Good (list_end s (at + step_size))) × (steps form sch ob s end (left - 1) after (list_end s (at + step_size)) ≡ Good ask.last)
-      parted = steps_first form s sch ob end left before at ask.last some going.good
+      parted : (step form sch ob s end before at ≡ Good (list_end s (at + step_size))) × (steps form sch ob s end k after (list_end s (at + step_size)) ≡ Good ask.last)
+      parted = steps_parted form sch ob s end k before at ask.last (rw more at going.good)
 
       next : next_state form sch ob s end before (at + step_size) ≡ Good (list_end s (at + step_size))
       next = (step_good form sch ob s end before at _ parted.0).2
@@ -181,23 +185,25 @@ module _ (form : Form) (h : Sections) (s masks : List ℕ) (n first : ℕ) (book
       unfolding state_after
       listed_next e = rw e
 
-      module _ (b : Bool) (told : b ≡ refuted_at form sch s pre at m masks) where
-        pub going_refuted : b ≡ true → Refused 28 at ≡ answered n (list_at s first) (list_end s first)
-        unfolding recorded_step
-        going_refuted e =
-            sym (refuted_here masks x _ (sym refuted_is ∙ sym told ∙ e)) ∙ sym (ap (refuted_observed masks) (recorded_more form s left before at some)) ∙ going.rest
+      -- row 28 of the next step, and then of the others, is that of all
+      turn : (refuse (refuted_at form sch s pre at m masks) 28 at >>= λ _. answered k after (list_end s (at + step_size))) ≡ answered n (list_at s first) (list_end s first)
+      unfolding recorded_steps_at recorded_step
+      turn = ap (λ (b : Bool). refuse b 28 at >>= λ _. answered k after (list_end s (at + step_size))) refuted_is ∙ sym (refuted_cons masks x _)
+          ∙ ap (λ (j : ℕ). answered j before at) (sym more) ∙ going.rest
 
-        pub going_on_lem : b ≡ false → (m' : List ℕ) (count' at' : ℕ) → length m' ≡ state_size → Carried form s (at + step_size) m m' count' → at' ≡ list_end s (at + step_size)
-            → Going after m' count' (left - 1) (at + step_size) at'
-        unfolding filed_fact
-        going_on_lem e m' count' at' long carried place =
-            record {
-              long = long;
-              right = next_right form sch ob s end before (at + step_size) _ going.right next;
-              carries = carried_on sch ob ask.few (book_known h s masks book) form before m count going.right.suits going.right.increasing going.carries s (at + step_size)
-                  (list_suits (most_listed form) 8 sch ob s end (at + step_size) _ behind) (list_increasing (most_listed form) 8 sch ob s end (at + step_size) _ behind) m' count' carried;
-              listed = (listed_next, next_turnable);
-              good = rw place parted.1;
-              rest = rw place
-                  (sym (refuted_later masks x _ (sym refuted_is ∙ sym told ∙ e)) ∙ sym (ap (refuted_observed masks) (recorded_more form s left before at some)) ∙ going.rest);
-            }
+      pub going_refuted : {num p : ℕ} → Refused num p ≡ refuse (refuted_at form sch s pre at m masks) 28 at → Refused num p ≡ answered n (list_at s first) (list_end s first)
+      going_refuted is = sym (bind_refused _ _ _ _ (sym is)) ∙ turn
+
+      pub going_on_lem : Good 0 ≡ refuse (refuted_at form sch s pre at m masks) 28 at → (m' : List ℕ) (count' at' : ℕ) → length m' ≡ state_size → Carried form s (at + step_size) m m' count' → at' ≡ list_end s (at + step_size)
+          → Going after m' count' (done + 1) (at + step_size) at'
+      unfolding filed_fact
+      going_on_lem is m' count' at' long carried place =
+          record {
+            long = long;
+            right = next_right form sch ob s end before (at + step_size) _ going.right next;
+            carries = carried_on sch ob ask.few (book_known h s masks book) form before m count going.right.suits going.right.increasing going.carries s (at + step_size)
+                (list_suits (most_listed form) 8 sch ob s end (at + step_size) _ behind) (list_increasing (most_listed form) 8 sch ob s end (at + step_size) _ behind) m' count' carried;
+            listed = (listed_next, next_turnable);
+            good = rw place parted.1;
+            rest = rw place (sym (bind_good _ _ _ (sym is)) ∙ turn);
+          }

@@ -1,7 +1,7 @@
 -- Row 28 of one step, by the state before it as a mask, is that by the facts that hold before it; and what the functions that it calls ask.
 use Prim.Native.Nat.{ℕ, ◌≤◌}
 use mathlib.Core.Path.{◌≡◌, refl, ap, ◌∙◌}
-use mathlib.Core.Bool.{Bool, true, false, not}
+use mathlib.Core.Bool.{true, false, not}
 use mathlib.Core.List.{List, []}
 use Rattle.limits.specs.Limits.{max_relations, max_moves, max_params, max_objects, state_size}
 use Rattle.mask.specs.Bits.{test_bit}
@@ -14,7 +14,7 @@ use Rattle.terms.specs.declared.Sections.{Sections}
 use Rattle.terms.specs.Schema.{Schema, schema}
 use Rattle.terms.specs.Facts.{no_fact}
 use Rattle.terms.specs.Steps.{object_of}
-use Rattle.format.specs.Filed.{went_at, filed_step_at}
+use Rattle.format.specs.Filed.{filed_step_at}
 use Rattle.format.specs.Lists.{list_at}
 use Rattle.format.specs.Form.{Form}
 use Rattle.format.specs.Decode.{recorded_step}
@@ -31,7 +31,7 @@ use Rattle.observed.specs.Observed.{bound, observed_set}
 use Rattle.observed.specs.Rules.{in_use, unmet_set, met_before}
 use Rattle.onewalk.proofs.Turned.{held_found}
 use Rattle.onewalk.proofs.Bound.{step_move, step_bounded, step_ended}
-use Rattle.failedsteps.specs.Met.{met_in, mask_before, refuted_at}
+use Rattle.failedsteps.specs.Met.{met_in, mask_before}
 use Rattle.failedsteps.specs.Asked.{BookAsked, StepAsked, ListAsked}
 
 module _ (h : Sections) (s masks : List ℕ) (book : BookAsked h s masks) where
@@ -93,26 +93,3 @@ mask_short form s pre m e = rw e
 pub mask_full : (form : Form) (s : List ℕ) (pre : ℕ) (m : List ℕ) → form ≡ false → mask_before form s pre m ≡ mask_of state_size (holding (list_at s pre))
 unfolding mask_before
 mask_full form s pre m e = rw e
-
--- ---- what the code says of it
-
--- the preconditions, by the bound facts that hold
-pub met_by : (sch : Schema) (l : List ℕ) (st : Step) (m : List ℕ) (step : Step) (atoms held : List ℕ) (r : Bool)
-    → step ≡ st
-    → atoms ≡ observed_set l step.action.0 bound
-    → held ≡ held_atoms sch step.binding atoms m
-    → r ≡ not (in_use (unmet_set l step.action.0 held))
-    → r ≡ met_in sch l st m
-unfolding met_in
-met_by sch l st m step atoms held r e f g k = k ∙ rw (g, f, e)
-
--- row 28, of a step that went and of one that did not
-module _ (form : Form) (sch : Schema) (s : List ℕ) (pre at : ℕ) (m l : List ℕ) where
-  pub refuted_gone : went_at s at ≡ true → false ≡ refuted_at form sch s pre at m l
-  unfolding refuted_at
-  refuted_gone e = rw e
-
-  pub refuted_failed : (m' : List ℕ) (r : Bool) → went_at s at ≡ false → m' ≡ mask_before form s pre m → r ≡ met_in sch l (filed_step_at s at) m'
-      → r ≡ refuted_at form sch s pre at m l
-  unfolding refuted_at
-  refuted_failed m' r e is told = rw (e, ← is) told

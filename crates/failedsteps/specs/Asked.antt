@@ -1,7 +1,7 @@
 -- What the functions ask: a book within its limits, with what is observed in it, and the part that they read being of good form.
 use Rattle.std.specs.Prelude.{ℕ, ◌+◌, ◌≤◌, ◌≡◌, List, length}
 use Rattle.limits.specs.Limits.{max_length, max_relations, max_moves, max_objects, step_size}
-use Rattle.answer.specs.declared.Answer.TheVariants.{Good}
+use Rattle.answer.specs.Answer.{Good}
 use Rattle.terms.specs.declared.Sections.{Sections}
 use Rattle.terms.specs.Schema.{TypedObjects, schema}
 use Rattle.terms.specs.Typing.{Falling, RightObjects}

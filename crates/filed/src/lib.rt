@@ -9,6 +9,7 @@ ghost use Rattle.format.specs.Filed.{went_at, filed_step_at};
 use terms::{Move, Step};
 
 // Whether the step at an offset went.
+#[tactic(auto, unfolding(format::specs::Filed::went_at, input::specs::Bytes::byte_at))]
 pub fn went(s: &[u8], at: usize) -> bool
     requires { at < length s.now }
     ensures { result ≡ went_at s.now at }
@@ -22,9 +23,8 @@ pub fn read_step(s: &[u8], at: usize) -> Step
     ensures { result ≡ filed_step_at s.now at }
 {
     let step = Step::read(s, at);
-    let binding = step.binding;
     Step {
         action: Move(step.action.0 % limits::FAILED_MARK),
-        binding,
+        ..step
     }
 }

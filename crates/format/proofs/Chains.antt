@@ -6,9 +6,7 @@ use mathlib.Core.Bool.{Bool, true, false}
 use native.Mathlib.Nat.{mul-zero, mul-suc}
 use native.Mathlib.Numerals.{sub-one}
 use native.Mathlib.Omega.{arith}
-use Rattle.answer.specs.declared.Answer.{Answer}
-use Rattle.answer.specs.declared.Answer.TheVariants.{Good, Refused}
-use Rattle.answer.specs.Answer.{◌>>=◌, refuse}
+use Rattle.answer.specs.Answer.{Answer, Good, Refused, ◌>>=◌, refuse}
 use Rattle.answer.proofs.Laws.{good_refused, refuse_met, refuse_unmet, passed}
 use Rattle.answer.proofs.Refusals.{row_cases}
 

@@ -7,8 +7,7 @@ use mathlib.Core.List.{List, [], ◌∷◌, ◌++◌, append-nil, append_assoc}
 use native.Mathlib.Omega.{arith}
 use borrow.Author.Tests.{ltb-false, le-ltb}
 use lib.ListN.{length}
-use Rattle.answer.specs.declared.Answer.{Answer}
-use Rattle.answer.specs.declared.Answer.TheVariants.{Good}
+use Rattle.answer.specs.Answer.{Answer, Good}
 use Rattle.truth.specs.Bools.{neither}
 use Rattle.answer.proofs.Laws.{passed, refuse_unmet, bind_good}
 use Rattle.answer.specs.Walk.{walk}

@@ -12,8 +12,7 @@ use borrow.Author.Tests.{le-ltb, eq-eqb}
 use lib.Dec.{eqb, ltb}
 use lib.ListN.{length}
 use Rattle.truth.specs.Bools.{or_right}
-use Rattle.answer.specs.declared.Answer.TheVariants.{Good}
-use Rattle.answer.specs.Answer.{◌>>=◌, refuse}
+use Rattle.answer.specs.Answer.{Good, ◌>>=◌, refuse}
 use Rattle.answer.proofs.Laws.{refuse_unmet, bind_good, bind_cong}
 use Rattle.answer.specs.Walk.{walk}
 use Rattle.answer.proofs.Entries.{entries_all}

@@ -8,11 +8,10 @@ use native.Mathlib.Omega.{arith}
 use borrow.Author.Tests.{ltb-false, eqb-true, not-false}
 use lib.Dec.{eqb}
 use lib.ListN.{length}
-use Rattle.answer.specs.declared.Answer.TheVariants.{Good, Refused}
+use Rattle.answer.specs.Answer.{Good, Refused, max_number}
 use Rattle.truth.specs.Bools.{neither, or_out}
 use Rattle.answer.proofs.Laws.{passed, parted, refuse_unmet, bind_good, none_over}
 use Rattle.answer.specs.Walk.{walk}
-use Rattle.answer.specs.Answer.{max_number}
 use Rattle.answer.specs.Table.{table, row_from, row, up_to, Between}
 use Rattle.answer.proofs.Refusals.{refused_cases, row_cases, between_at}
 use Rattle.answer.proofs.Entries.{Entry, entries_end, entries_right, entries_place}

@@ -5,7 +5,7 @@ use mathlib.Core.List.{List}
 use lib.ListN.{length}
 use native.Mathlib.Omega.{arith}
 use borrow.Author.Tests.{ltb-false, le-ltb}
-use Rattle.answer.specs.declared.Answer.TheVariants.{Good}
+use Rattle.answer.specs.Answer.{Good}
 use Rattle.answer.proofs.Laws.{passed, parted, refuse_unmet, bind_good}
 use Rattle.answer.specs.Walk.{walk}
 use Rattle.answer.proofs.Turns.{walk_within}

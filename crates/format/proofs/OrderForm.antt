@@ -6,13 +6,11 @@ use native.Mathlib.Omega.{arith}
 use borrow.Author.Tests.{ltb-false, le-ltb}
 use lib.Dec.{ltb}
 use lib.ListN.{length}
-use Rattle.answer.specs.declared.Answer.{Answer}
-use Rattle.answer.specs.declared.Answer.TheVariants.{Good, Refused}
+use Rattle.answer.specs.Answer.{Answer, Good, Refused, max_number}
 use Rattle.answer.proofs.Laws.{good_refused, passed, parted, bind_good, refuse_unmet}
 use Rattle.answer.specs.Walk.{walk}
 use Rattle.answer.proofs.Turns.{walk_within}
 use Rattle.answer.proofs.Items.{items_end, items_place}
-use Rattle.answer.specs.Answer.{max_number}
 use Rattle.answer.specs.Table.{table, row_from, row, up_to, Between, MetFrom}
 use Rattle.answer.proofs.Refusals.{refused_cases, row_cases, between_at}
 use Rattle.answer.proofs.Entries.{entries_end, entries_place}

@@ -7,7 +7,7 @@ use borrow.Author.Tests.{ltb-false, le-ltb, eqb-true, eq-eqb, not-false}
 use lib.Dec.{eqb, ltb}
 use lib.ListN.{length}
 use Rattle.truth.specs.Bools.{neither}
-use Rattle.answer.specs.declared.Answer.TheVariants.{Good}
+use Rattle.answer.specs.Answer.{Good}
 use Rattle.answer.proofs.Laws.{none_over, refuse_unmet, passed}
 use Rattle.answer.proofs.Entries.{Entry}
 use Rattle.input.specs.Bytes.{byte_at, two}

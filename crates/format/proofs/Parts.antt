@@ -9,7 +9,7 @@ use mathlib.Core.List.{List, ◌++◌, flatten, append-nil, append_assoc}
 use lib.ListN.{length, take, drop, take-append-drop, length-drop}
 use lib.Seq.{length-take-le, drop-length, drop-drop, get_or-take, get_or-drop}
 use borrow.Author.Tests.{ltb-false}
-use Rattle.answer.specs.declared.Answer.TheVariants.{Good}
+use Rattle.answer.specs.Answer.{Good}
 use Rattle.truth.specs.Bools.{neither}
 use Rattle.answer.specs.Walk.{walk}
 use Rattle.input.specs.Bytes.{byte_at}

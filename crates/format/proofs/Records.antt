@@ -7,7 +7,7 @@ use lib.ListN.{length}
 use native.Mathlib.Omega.{arith}
 use lib.Dec.{eqb, ltb}
 use borrow.Author.Tests.{ltb-false, eqb-false}
-use Rattle.answer.specs.declared.Answer.TheVariants.{Good}
+use Rattle.answer.specs.Answer.{Good}
 use Rattle.truth.specs.Bools.{neither}
 use Rattle.answer.proofs.Laws.{passed, parted, refuse_unmet, bind_good, none_over}
 use Rattle.answer.specs.Walk.{walk}

@@ -6,9 +6,8 @@ use mathlib.Core.List.{List}
 use native.Mathlib.Omega.{arith}
 use lib.ListN.{length}
 use borrow.Author.Tests.{ltb-false, le-ltb, not-false}
-use Rattle.answer.specs.declared.Answer.TheVariants.{Good, Refused}
+use Rattle.answer.specs.Answer.{Good, Refused, max_number}
 use Rattle.truth.specs.Bools.{neither}
-use Rattle.answer.specs.Answer.{max_number}
 use Rattle.answer.proofs.Laws.{passed, parted, bind_good, refuse_unmet}
 use Rattle.answer.proofs.Refusals.{row_cases}
 use Rattle.answer.proofs.Bounds.{Bounded, bounded_good, bounded_row, bounded_then}

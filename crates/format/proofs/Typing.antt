@@ -8,7 +8,7 @@ use mathlib.Core.List.{List}
 use lib.Dec.{leb}
 use borrow.Author.Tests.{leb-false, ltb-false, le-leb}
 use Rattle.truth.specs.Bools.{neither}
-use Rattle.answer.specs.declared.Answer.TheVariants.{Good}
+use Rattle.answer.specs.Answer.{Good}
 use Rattle.answer.specs.Walk.{walk}
 use Rattle.answer.proofs.Entries.{entries_right}
 use Rattle.input.specs.Bytes.{byte_at}

@@ -1,8 +1,6 @@
 -- Looking over a book: rows 1 to 10 and 27, and the count of all steps.
 use Rattle.std.specs.Prelude.{ℕ, zero, suc, ◌+◌, List, length, ltb}
-use Rattle.answer.specs.declared.Answer.{Answer}
-use Rattle.answer.specs.declared.Answer.TheVariants.{Good}
-use Rattle.answer.specs.Answer.{◌>>=◌, refuse}
+use Rattle.answer.specs.Answer.{Answer, Good, ◌>>=◌, refuse}
 use Rattle.answer.specs.Walk.{walk}
 use Rattle.terms.specs.declared.Sections.{Sections}
 use Rattle.terms.specs.Sections.{sections_of}

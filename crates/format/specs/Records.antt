@@ -1,8 +1,6 @@
 -- Rows 6 to 10 and 27, row 24 among them: the records of a book, in file order, each to its end.
 use Rattle.std.specs.Prelude.{ℕ, zero, suc, ◌+◌, Bool, ◌&&◌, ◌||◌, not, List, length, eqb, ltb}
-use Rattle.answer.specs.declared.Answer.{Answer}
-use Rattle.answer.specs.declared.Answer.TheVariants.{Good}
-use Rattle.answer.specs.Answer.{◌>>=◌, refuse}
+use Rattle.answer.specs.Answer.{Answer, Good, ◌>>=◌, refuse}
 use Rattle.answer.specs.Walk.{walk}
 use Rattle.input.specs.Bytes.{byte_at, two}
 use Rattle.terms.specs.declared.Sections.{Sections}

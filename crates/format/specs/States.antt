@@ -2,9 +2,7 @@
 -- where the record ends; in an order, where the starts end (row 16). `read` is how a fact is read from its bytes: a record's by `filed_fact`, an order's
 -- `as_written`.
 use Rattle.std.specs.Prelude.{ℕ, zero, suc, ◌+◌, Bool, ◌||◌, not, List, ltb, length}
-use Rattle.answer.specs.declared.Answer.{Answer}
-use Rattle.answer.specs.declared.Answer.TheVariants.{Good}
-use Rattle.answer.specs.Answer.{◌>>=◌, refuse}
+use Rattle.answer.specs.Answer.{Answer, Good, ◌>>=◌, refuse}
 use Rattle.input.specs.Bytes.{two}
 use Rattle.terms.specs.declared.Fact.{Fact}
 use Rattle.terms.specs.Schema.{Schema, TypedObjects}

@@ -2,13 +2,12 @@
 use Prim.Native.Nat.{ℕ, zero, suc, ◌+◌, ◌-◌, ◌/◌, ◌%◌, ◌≤◌, ◌<◌}
 use native.Mathlib.Decide.{dec_lt}
 use native.Mathlib.Omega.{arith}
-use mathlib.Core.Path.{◌≡◌, refl}
+use mathlib.Core.Path.{◌≡◌, refl, ◌∙◌}
 use mathlib.Core.Bool.{Bool, true, false, cond}
 use mathlib.Core.List.{List, [], ◌∷◌}
 use lib.Dec.{leb}
-use lib.ListN.{get_or, get_or-eq_default}
+use lib.ListN.{length, get_or, get_or-eq_default}
 use Rattle.terms.specs.declared.Param.{Param}
-use Rattle.terms.specs.declared.Object.{Object}
 use Rattle.terms.specs.declared.Relation.{Relation}
 use Rattle.terms.specs.declared.Binding.{Binding}
 use Rattle.terms.specs.Schema.{Schema}
@@ -17,6 +16,14 @@ use Rattle.factgroups.specs.declared.Placement.{Placement}
 use Rattle.factgroups.specs.Groups.{StartsRelation, Indices, unused, in_place, placement_of, Within, facts}
 use Rattle.grounding.specs.Grounding.{Bounded, indices, Placed}
 use Rattle.factgroups.proofs.Groups.{unused_at, place_small, group_at, table_place}
+
+four : (xs : List ℕ) → length xs ≡ 4 → xs ≡ (get_or xs 0 0 ∷ get_or xs 1 0 ∷ get_or xs 2 0 ∷ get_or xs 3 0 ∷ [])
+four [] e = absurd (omega arith)
+four (x ∷ []) e = absurd (omega arith)
+four (x ∷ y ∷ []) e = absurd (omega arith)
+four (x ∷ y ∷ z ∷ []) e = absurd (omega arith)
+four (x ∷ y ∷ z ∷ w ∷ []) e = refl
+four (x ∷ y ∷ z ∷ w ∷ v ∷ xs) e = absurd (omega arith)
 
 -- ---- the objects of a binding
 module _ (b : Binding) where
@@ -36,13 +43,12 @@ module _ (b : Binding) where
       go (yes h) = let small = bounded (record { 0 = q + 1 }) (omega arith) (omega arith) in omega (arith, index_at q h)
       go (no h) = omega (arith, get_or-eq_default (indices b) 0 {n = q} (omega arith))
 
-  pub indices_by : Bounded b → (o1 o2 o3 o4 : Object) (x1 x2 x3 x4 : ℕ)
-      → o1 ≡ object_of b (record { 0 = 1 }) → o2 ≡ object_of b (record { 0 = 2 }) → o3 ≡ object_of b (record { 0 = 3 }) → o4 ≡ object_of b (record { 0 = 4 })
-      → x1 ≡ o1.0 - 1 → x2 ≡ o2.0 - 1 → x3 ≡ o3.0 - 1 → x4 ≡ o4.0 - 1
-      → ((x1 ∷ x2 ∷ x3 ∷ x4 ∷ []) ≡ indices b) × Indices (x1 ∷ x2 ∷ x3 ∷ x4 ∷ [])
-  unfolding indices
-  indices_by bounded o1 o2 o3 o4 x1 x2 x3 x4 a1 a2 a3 a4 e1 e2 e3 e4 =
-      let e : (x1 ∷ x2 ∷ x3 ∷ x4 ∷ []) ≡ indices b = rw (e1, e2, e3, e4, a1, a2, a3, a4) in
+  -- four numbers, each by the object that is its parameter's
+  pub indices_by : Bounded b → (xs : List ℕ) → length xs ≡ 4 → ((i : ℕ) → i < 4 → get_or xs i 0 ≡ (get_or b.objects i (record { 0 = 0 })).0 - 1)
+      → (xs ≡ indices b) × Indices xs
+  unfolding indices object_of
+  indices_by bounded xs long at =
+      let e : xs ≡ indices b = four xs long ∙ rw (at 0 (omega arith), at 1 (omega arith), at 2 (omega arith), at 3 (omega arith)) in
       (e, rw e (indices_small bounded))
 
   placed_small : (sch : Schema) → Bounded b → (r : Relation) (i : ℕ) (p : Param) → 1 ≤ p.0 → p.0 ≤ 4 → placed sch b r i p < 16

@@ -23,16 +23,7 @@ pub fn indices(b: Binding) -> [usize; 4]
     requires { Bounded b }
     ensures { (result ≡ indices b) × Indices result }
 {
-    let x1 = b.object(Param(1));
-    let x2 = b.object(Param(2));
-    let x3 = b.object(Param(3));
-    let x4 = b.object(Param(4));
-    [
-        terms::index(x1.0),
-        terms::index(x2.0),
-        terms::index(x3.0),
-        terms::index(x4.0),
-    ]
+    b.objects.map(|x| terms::index(x.0))
 }
 
 // Where a relation's bound facts stand in a state for these objects, n being the first of them.
@@ -85,11 +76,9 @@ pub fn mark_held(
     ensures { set.new ≡ held_atoms (schema h book.now) b atoms.now state.now }
 {
     let xs = indices(b);
-    let end = atoms::atoms_end(h.relations.count);
-    let mut n = 0;
-    while n < end {
+    for r in 0..atoms::atoms_end(h.relations.count) / limits::ATOMS_PER_RELATION {
+        let n = limits::ATOMS_PER_RELATION * r;
         let bits = asked_word(book, h, xs, atoms, state, n);
         atoms::store_word(set, n, bits as u32);
-        n += limits::ATOMS_PER_RELATION;
     }
 }

@@ -6,8 +6,7 @@ use mathlib.Core.Path.{◌≡◌, refl, ◌∙◌}
 use mathlib.Core.Logic.{◌⊎◌, inl, inr}
 use mathlib.Core.Bool.{Bool, true, false}
 use mathlib.Core.List.{List, [], ◌∷◌, ◌++◌}
-use Rattle.answer.specs.declared.Answer.TheVariants.{Good, Refused}
-use Rattle.answer.specs.Answer.{◌>>=◌, first_refused, max_number}
+use Rattle.answer.specs.Answer.{Good, Refused, ◌>>=◌, first_refused, max_number}
 use Rattle.answer.proofs.Laws.{refuse_met, refuse_unmet}
 use Rattle.answer.proofs.Bounds.{Bounded, bounded_good, bounded_row}
 use Rattle.truth.specs.Bools.{clash, decide, neither}

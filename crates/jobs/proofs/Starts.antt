@@ -7,10 +7,7 @@ use mathlib.Core.Logic.{◌⊎◌, inl, inr}
 use mathlib.Core.List.{List, [], ◌∷◌, map}
 use native.Mathlib.Omega.{arith}
 use lib.ListN.{length}
-use Rattle.answer.specs.declared.Answer.{Answer}
-use Rattle.answer.specs.declared.Answer.TheVariants.{Good}
-use Rattle.answer.specs.Answer.{is_refused, unpositioned}
-use Rattle.answer.specs.declared.Positioned.{Positioned}
+use Rattle.answer.specs.Answer.{Answer, Good, is_refused, unpositioned, Positioned}
 use Rattle.truth.specs.Bools.{decide}
 use Rattle.quantify.specs.Quantify.{Mem, here, there}
 use Rattle.jobs.specs.Check.{first_failing, end_after}

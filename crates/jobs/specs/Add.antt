@@ -1,8 +1,6 @@
 -- Adding a record to a book, the record being in the book's form, and what the lent output holds afterwards.
 use Rattle.std.specs.Prelude.{ℕ, ◌+◌, List, ◌++◌, length, take, drop, ltb}
-use Rattle.answer.specs.declared.Answer.{Answer}
-use Rattle.answer.specs.declared.Answer.TheVariants.{Good}
-use Rattle.answer.specs.Answer.{◌>>=◌, refuse, kept}
+use Rattle.answer.specs.Answer.{Answer, Good, ◌>>=◌, refuse, kept}
 use Rattle.output.specs.Written.{two_bytes}
 use Rattle.terms.specs.Sections.{sections_of}
 use Rattle.limits.specs.Limits.{max_length, header_size}

@@ -1,9 +1,6 @@
 -- Checking a plan: rows 13 to 20, and what the lent end sheet holds afterwards.
 use Rattle.std.specs.Prelude.{ℕ, zero, suc, true, false, not, List, [], ◌∷◌, length, eqb}
-use Rattle.answer.specs.declared.Answer.{Answer}
-use Rattle.answer.specs.declared.Answer.TheVariants.{Good, Refused}
-use Rattle.answer.specs.declared.Positioned.{Positioned}
-use Rattle.answer.specs.Answer.{◌>>=◌, refuse, is_refused, unpositioned, then_at, kept}
+use Rattle.answer.specs.Answer.{Answer, Good, Refused, Positioned, ◌>>=◌, refuse, is_refused, unpositioned, then_at, kept}
 use Rattle.limits.specs.Limits.{state_size, end_sheet_size}
 use Rattle.mask.specs.Sets.{mask_of}
 use Rattle.format.specs.Form.{Form}

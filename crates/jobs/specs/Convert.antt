@@ -1,9 +1,7 @@
 -- Converting a book to the other form, and what the lent output holds afterwards. The header but for its end, the sections and what the records say
 -- stay; each state after a step is listed in the other form.
 use Rattle.std.specs.Prelude.{ℕ, zero, suc, ◌+◌, ◌-◌, cond, not, List, [], ◌∷◌, ◌++◌, length, take, drop, ltb}
-use Rattle.answer.specs.declared.Answer.{Answer}
-use Rattle.answer.specs.declared.Answer.TheVariants.{Good}
-use Rattle.answer.specs.Answer.{◌>>=◌, refuse, kept}
+use Rattle.answer.specs.Answer.{Answer, Good, ◌>>=◌, refuse, kept}
 use Rattle.output.specs.Written.{two_bytes}
 use Rattle.terms.specs.declared.Fact.{Fact}
 use Rattle.terms.specs.declared.Step.{Step}

@@ -1,8 +1,6 @@
 -- Learning: rows 11 to 13, row 28 among them, the rule sheet, and what the lent sheet holds afterwards.
 use Rattle.std.specs.Prelude.{ℕ, zero, suc, ◌*◌, not, List, [], ◌++◌, length, eqb}
-use Rattle.answer.specs.declared.Answer.{Answer}
-use Rattle.answer.specs.declared.Answer.TheVariants.{Good, Refused}
-use Rattle.answer.specs.Answer.{◌>>=◌, refuse, first_refused, kept}
+use Rattle.answer.specs.Answer.{Answer, Good, Refused, ◌>>=◌, refuse, first_refused, kept}
 use Rattle.limits.specs.Limits.{set_size, rule_size}
 use Rattle.mask.specs.Sets.{mask_of}
 use Rattle.terms.specs.Schema.{Schema}

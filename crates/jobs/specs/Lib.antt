@@ -8,3 +8,4 @@ pub mod Add
 pub mod Convert
 pub mod Judge
 pub mod Listing
+pub mod RuleSets

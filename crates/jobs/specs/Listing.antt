@@ -1,8 +1,7 @@
 -- What the two programs print, as bytes (ASCII), of a full book: the listing of a book's rules, the outcome of a check, and the refused line.
 use Rattle.std.specs.Prelude.{ℕ, zero, suc, ◌+◌, ◌*◌, ◌/◌, ◌%◌, Bool, true, false, cond, List, [], ◌∷◌, ◌++◌, leb}
 use Rattle.limits.specs.Limits.{end_sheet_size, atoms_per_relation}
-use Rattle.answer.specs.declared.Answer.{Answer}
-use Rattle.answer.specs.declared.Answer.TheVariants.{Good, Refused}
+use Rattle.answer.specs.Answer.{Answer, Good, Refused}
 use Rattle.terms.specs.declared.Relation.{Relation}
 use Rattle.terms.specs.Sections.{sections_of}
 use Rattle.terms.specs.Schema.{Schema}

@@ -4,8 +4,9 @@
 // observed, failedsteps for row 28, answer, limits and terms, and the definitions of jobs and observed.
 #![tactic(auto)]
 
+ghost use Rattle.answer.specs.Refusal.{answer_of, row_of};
 ghost use Rattle.std.specs.Prelude.{◌≡◌, ℕ};
-ghost use Rattle.answer.specs.declared.Answer.TheVariants.{Good};
+ghost use Rattle.answer.specs.Answer.{Good};
 ghost use Rattle.format.specs.LookOver.{look_over};
 ghost use Rattle.jobs.specs.Learn.{refutation};
 ghost use Rattle.observed.specs.Observed.{observed_of};
@@ -14,19 +15,16 @@ ghost use Rattle.mask.specs.Sets.{empty};
 ghost use Rattle.learner.specs.Learner.{FormObserved, BookObserved, LearnOutcome};
 ghost use Rattle.terms.specs.Sections.{sections_of};
 
-use answer::Answer;
+use answer::{Reason, Refusal};
 use observerecords::noticed::Walked;
 use terms::Sections;
 
 // Rows 1 to 10 and 27: the book looked over and observed in one walk.
-fn observe_form(s: &[u8], short: bool, h: Sections, observed: &mut [u8]) -> Walked
+fn observe_form(s: &[u8], short: bool, h: Sections, observed: &mut [u8]) -> Result<Walked, Refusal>
     requires { (h ≡ sections_of s.now) × (observed.old ≡ empty observed_size) }
     ensures { FormObserved short s.now observed.new result }
 {
-    let a = sections::sections(s, h);
-    if answer::is_refused(a) {
-        return observerecords::noticed::stopped(a);
-    }
+    sections::sections(s, h)?;
     observestep::nothing_seen(s, h, observed);
     observerecords::walk::records(
         s,
@@ -40,58 +38,54 @@ fn observe_form(s: &[u8], short: bool, h: Sections, observed: &mut [u8]) -> Walk
 
 // Row 28 of a book that is observed. Where all steps went, its records are not walked again. The second walk is called for each form by itself: called in
 // one place the compiler puts it into the first walk, whose loops over facts then take a tenth longer.
-fn refutation(s: &[u8], short: bool, h: Sections, observed: &[u8], failed: bool) -> Answer
+fn refutation(
+    s: &[u8],
+    short: bool,
+    h: Sections,
+    observed: &[u8],
+    failed: bool,
+) -> Result<(), Refusal>
     requires { (h ≡ sections_of s.now) × ((n : ℕ) × (look_over short s.now ≡ Good n)) × (observed.now ≡ (observed_of short s.now).masks) × (failed ≡ (observed_of short s.now).failed) }
-    ensures { result ≡ refutation short s.now }
+    ensures { row_of result ≡ refutation short s.now }
 {
     if !failed {
-        return Answer::Good(0);
+        return Ok(());
     }
     if short {
-        return failedsteps::first_refuted(s, true, h, observed);
+        failedsteps::first_refuted(s, true, h, observed)?;
+        return Ok(());
     }
-    failedsteps::first_refuted(s, false, h, observed)
+    failedsteps::first_refuted(s, false, h, observed)?;
+    Ok(())
 }
 
 // Rows 1 to 12 and 28: then what rows 11 and 12 say of what is observed, and where some step did not go, row 28.
-pub fn observe_book(s: &[u8], short: bool, h: Sections, observed: &mut [u8]) -> Answer
+pub fn observe_book(
+    s: &[u8],
+    short: bool,
+    h: Sections,
+    observed: &mut [u8],
+) -> Result<usize, Refusal>
     requires { (h ≡ sections_of s.now) × (observed.old ≡ empty observed_size) }
-    ensures { BookObserved short s.now observed.new result }
+    ensures { BookObserved short s.now observed.new (answer_of result) }
 {
-    let w = observe_form(s, short, h, observed);
-    let a = w.answer;
-    if answer::is_refused(a) {
-        return a;
-    }
-    let noticed = w.noticed;
-    let b = conflicts::unbound_answer(noticed.named);
-    if answer::is_refused(b) {
-        return b;
-    }
-    let c = conflicts::conflict_among(h.moves.count, observed);
-    if answer::is_refused(c) {
-        return c;
-    }
-    let d = refutation(s, short, h, observed, noticed.failed);
-    if answer::is_refused(d) {
-        return d;
-    }
-    a
+    let w = observe_form(s, short, h, observed)?;
+    conflicts::unbound_answer(w.noticed.named)?;
+    conflicts::conflict_among(h.moves.count, observed)?;
+    refutation(s, short, h, observed, w.noticed.failed)?;
+    Ok(w.value)
 }
 
 // Rows 1 to 13, and the rule sheet.
-pub fn learn(s: &[u8], short: bool, sheet: &mut [u8]) -> Answer
-    ensures { LearnOutcome short s.now sheet.old sheet.new result }
+pub fn learn(s: &[u8], short: bool, sheet: &mut [u8]) -> Result<usize, Refusal>
+    ensures { LearnOutcome short s.now sheet.old sheet.new (answer_of result) }
 {
     let h = Sections::read(s);
     let mut observed = [0u8; limits::OBSERVED_SIZE];
-    let a = observe_book(s, short, h, &mut observed);
-    if answer::is_refused(a) {
-        return a;
-    }
+    let total = observe_book(s, short, h, &mut observed)?;
     if sheet.len() != limits::RULE_SIZE * h.moves.count as usize {
-        return Answer::Refused(13, 0);
+        return Err(Reason::Room.at(0));
     }
     rulesheet::write_sheet(h.moves.count, &observed, sheet);
-    a
+    Ok(total)
 }

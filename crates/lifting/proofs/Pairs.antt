@@ -1,8 +1,9 @@
 -- From a fact to its bound fact by a table of digits: the table of a binding, and a fact's mark. Uses the definitions of observed.
-use Prim.Native.Nat.{ℕ, ◌+◌, ◌-◌, ◌*◌, ◌<◌, ◌≤◌}
+use Prim.Native.Nat.{ℕ, zero, suc, ◌+◌, ◌-◌, ◌*◌, ◌<◌, ◌≤◌}
 use mathlib.Core.Path.{◌≡◌, refl, sym, ap, ◌∙◌}
 use mathlib.Core.Bool.{Bool, true, false, cond, ◌&&◌, ◌||◌, not}
 use mathlib.Core.List.{List}
+use Rattle.std.proofs.Common.{Option, Some, None, is_some}
 use native.Mathlib.Decide.{ℕ_discrete}
 use native.Mathlib.Omega.{arith}
 use borrow.Author.Tests.{eq-eqb, ne_eqb, leb-true, leb-false, le-leb, lt-leb}
@@ -17,14 +18,14 @@ use Rattle.terms.specs.declared.Fact.{Fact}
 use Rattle.terms.specs.Steps.{object_of}
 use Rattle.observed.specs.Inverse.{gives, param_of, place_bound, fact_bound, atom_of, mark, turn_mark}
 use Rattle.observed.proofs.Params.{param_most}
-use Rattle.lifting.specs.Pairs.{digit, places_of, pair_of, at_pair, marked_as, turned_as, no_digits, given_each, Inverts}
+use Rattle.lifting.specs.Pairs.{digit, places_of, lifted, at_atom, marked_as, turned_as, no_digits, Inverts}
 
 -- ---- the table
 
 -- a table of 256 bytes that has f
-record Table (t : List ℕ) (f : ℕ → ℕ) : Type 0 where
-  long : length t ≡ 256
-  has : (x : ℕ) → x < 256 → get_or t x 0 ≡ f x
+pub record Table (t : List ℕ) (f : ℕ → ℕ) : Type 0 where
+  pub long : length t ≡ 256
+  pub has : (x : ℕ) → x < 256 → get_or t x 0 ≡ f x
 
 table_none : Table no_digits (λ x. 16)
 unfolding no_digits
@@ -73,56 +74,92 @@ module _ (b : Binding) (x : Object) where
       go false false false false true = refl
       go false false false false false = refl
 
--- what the code puts in one by one
-pub given_by : (b : Binding) (d₀ d₁ d₂ d₃ d₄ : ℕ) (o₁ o₂ o₃ o₄ : Object) (t₀ t₁ t₂ t₃ t₄ t : List ℕ)
-    → o₁ ≡ object_of b (record { 0 = 1 })
-    → o₂ ≡ object_of b (record { 0 = 2 })
-    → o₃ ≡ object_of b (record { 0 = 3 })
-    → o₄ ≡ object_of b (record { 0 = 4 })
-    → t₁ ≡ set t₀ o₄.0 d₄
-    → t₂ ≡ set t₁ o₃.0 d₃
-    → t₃ ≡ set t₂ o₂.0 d₂
-    → t₄ ≡ set t₃ o₁.0 d₁
-    → t ≡ set t₄ 0 d₀
-    → t ≡ given_each b d₀ d₁ d₂ d₃ d₄ t₀
-unfolding given_each
-given_by b d₀ d₁ d₂ d₃ d₄ o₁ o₂ o₃ o₄ t₀ t₁ t₂ t₃ t₄ t i₁ i₂ i₃ i₄ e₁ e₂ e₃ e₄ e = rw (e, e₄, e₃, e₂, e₁, i₁, i₂, i₃, i₄)
-
 module _ (b : Binding) where
-  -- which digit an object then has
-  given_table : {f : ℕ → ℕ} (d₀ d₁ d₂ d₃ d₄ : ℕ) (t : List ℕ) → Table t f
-      → Table (given_each b d₀ d₁ d₂ d₃ d₄ t)
-      (λ x. cond (eqb 0 x) d₀ (cond (gives b 1 (record { 0 = x })) d₁ (cond (gives b 2 (record { 0 = x })) d₂ (cond (gives b 3 (record { 0 = x })) d₃ (cond (gives b 4 (record { 0 = x })) d₄ (f x))))))
-  unfolding given_each gives
-  given_table d₀ d₁ d₂ d₃ d₄ t w =
-      table_put (table_put (table_put (table_put (table_put w _ _ d₄ refl) _ _ d₃ refl) _ _ d₂ refl) _ _ d₁ refl) _ 0 d₀ refl
+  -- what an object adds by the parameters from i on; and what is left of it once the first i parameters are taken out
+  abbrev pub put_from : ℕ → ℕ → ℕ
+  put_from i x =
+      let o : Object = record { 0 = x } in
+      cond (leb i 0 && gives b 1 o) 0 (cond (leb i 1 && gives b 2 o) 1 (cond (leb i 2 && gives b 3 o) 2 (cond (leb i 3 && gives b 4 o) 3 16)))
 
-  -- the digits of the parameters put into an empty table
-  inverts_given : Inverts b (given_each b 0 0 1 2 3 no_digits)
-  inverts_given =
-      let w = given_table 0 0 1 2 3 no_digits table_none in
-      record { long = w.long; gives = λ x h. w.has x h ∙ rw (eqb_flip 0 x) (sym (digit_is b (record { 0 = x }))) }
+  abbrev pub left_after : ℕ → ℕ → ℕ
+  left_after i x =
+      let o : Object = record { 0 = x } in
+      cond (leb 4 i && gives b 4 o) 16 (cond (leb 3 i && gives b 3 o) 16 (cond (leb 2 i && gives b 2 o) 16 (cond (leb 1 i && gives b 1 o) 16 (digit b o))))
 
-  pub inverts_by : (t₀ t : List ℕ) → t₀ ≡ no_digits → t ≡ given_each b 0 0 1 2 3 t₀ → Inverts b t
-  inverts_by t₀ t e f = rw (f, e) inverts_given
+  abbrev object_at : ℕ → Object
+  object_at i = get_or b.objects i (record { 0 = 0 })
+
+  put_one : (i x : ℕ) → i < 4 → cond (eqb (object_at i).0 x) i (put_from (i + 1) x) ≡ put_from i x
+  unfolding gives object_of
+  put_one zero x h = refl
+  put_one (suc zero) x h = refl
+  put_one (suc (suc zero)) x h = refl
+  put_one (suc (suc (suc zero))) x h = refl
+  put_one (suc (suc (suc (suc i)))) x h = absurd (omega arith)
+
+  left_one : (i x : ℕ) → i < 4 → cond (eqb (object_at i).0 x) 16 (left_after i x) ≡ left_after (i + 1) x
+  unfolding gives object_of
+  left_one zero x h = refl
+  left_one (suc zero) x h = refl
+  left_one (suc (suc zero)) x h = refl
+  left_one (suc (suc (suc zero))) x h = refl
+  left_one (suc (suc (suc (suc i)))) x h = absurd (omega arith)
+
+  table_as : {l : List ℕ} {f g : ℕ → ℕ} → Table l f → ((x : ℕ) → f x ≡ g x) → Table l g
+  table_as w e = record { long = w.long; has = λ x h. w.has x h ∙ e x }
+
+  -- the digits of the parameters put into an empty table, the last first
+  pub put_none : (t : List ℕ) → t ≡ no_digits → Table t (put_from 4)
+  put_none t e = rw e table_none
+
+  pub put_next : {t : List ℕ} (i : ℕ) (t' : List ℕ) → 0 < i → i ≤ 4 → Table t (put_from i) → t' ≡ set t (object_at (i - 1)).0 (i - 1) → Table t' (put_from (i - 1))
+  put_next {t} i t' h k w e =
+      let p : i ≡ i - 1 + 1 = omega arith in
+      let v : Table t (put_from (i - 1 + 1)) = rw (← p) w in
+      table_as (table_put v t' _ (i - 1) e) (λ x. put_one (i - 1) x (omega arith))
+
+  pub put_all : {t : List ℕ} (i : ℕ) (t' : List ℕ) → i ≤ 0 → Table t (put_from i) → t' ≡ set t 0 0 → Inverts b t'
+  put_all {t} i t' h w e =
+      let p : i ≡ 0 = omega arith in
+      let u : Table t (put_from 0) = rw (← p) w in
+      let v = table_put u t' 0 0 e in
+      record { long = v.long; gives = λ x h. v.has x h ∙ rw (eqb_flip 0 x) (sym (digit_is b (record { 0 = x }))) }
 
   -- and taken out again
-  pub restores_given : (t : List ℕ) → Inverts b t → given_each b 16 16 16 16 16 t ≡ no_digits
-  restores_given t inverts =
-      let w₀ : Table t (λ x. digit b (record { 0 = x })) = record { long = inverts.long; has = inverts.gives } in
-      let w = given_table 16 16 16 16 16 t w₀ in
-      ext_get_or 0 (given_each b 16 16 16 16 16 t) no_digits (w.long ∙ sym table_none.long)
+  pub left_none : (t : List ℕ) → Inverts b t → Table t (left_after 0)
+  left_none t inverts = record { long = inverts.long; has = inverts.gives }
+
+  pub left_next : {t : List ℕ} (i : ℕ) (t' : List ℕ) → i < 4 → Table t (left_after i) → t' ≡ set t (object_at i).0 16 → Table t' (left_after (i + 1))
+  left_next i t' h w e = table_as (table_put w t' _ 16 e) (λ x. left_one i x h)
+
+  pub left_all : {t : List ℕ} (i : ℕ) (t' : List ℕ) → 4 ≤ i → i ≤ 4 → Table t (left_after i) → t' ≡ set t 0 16 → t' ≡ no_digits
+  left_all {t} i t' h k w e =
+      let p : i ≡ 4 = omega arith in
+      let u : Table t (left_after 4) = rw (← p) w in
+      let v = table_put u t' 0 16 e in
+      ext_get_or 0 t' no_digits (v.long ∙ sym table_none.long)
       (λ x h.
-      let l : x < 256 = omega (arith, w.long) in
-      w.has x l ∙ rw (eqb_flip 0 x, digit_is b (record { 0 = x })) (none (eqb x 0) (gives b 1 (record { 0 = x })) (gives b 2 (record { 0 = x })) (gives b 3 (record { 0 = x })) (gives b 4 (record { 0 = x })))
-      ∙ sym (table_none.has x l))
+      let l : x < 256 = omega (arith, v.long) in
+      let o : Object = record { 0 = x } in
+      v.has x l ∙ rw (eqb_flip 0 x, digit_is b o) (none (eqb x 0) (gives b 1 o) (gives b 2 o) (gives b 3 o) (gives b 4 o)) ∙ sym (table_none.has x l))
     where
       none : (z g₁ g₂ g₃ g₄ : Bool)
-          → ◌≡◌ {A = ℕ} (cond z 16 (cond g₁ 16 (cond g₂ 16 (cond g₃ 16 (cond g₄ 16 (cond z 0 (cond g₁ 0 (cond g₂ 1 (cond g₃ 2 (cond g₄ 3 16)))))))))) 16
+          → ◌≡◌ {A = ℕ} (cond z 16 (cond g₄ 16 (cond g₃ 16 (cond g₂ 16 (cond g₁ 16 (cond z 0 (cond g₁ 0 (cond g₂ 1 (cond g₃ 2 (cond g₄ 3 16)))))))))) 16
       none true g₁ g₂ g₃ g₄ = refl
-      none false true g₂ g₃ g₄ = refl
-      none false false true g₃ g₄ = refl
-      none false false false true g₄ = refl
+      none false true true true true = refl
+      none false true true true false = refl
+      none false true true false true = refl
+      none false true true false false = refl
+      none false true false true true = refl
+      none false true false true false = refl
+      none false true false false true = refl
+      none false true false false false = refl
+      none false false true true true = refl
+      none false false true true false = refl
+      none false false true false true = refl
+      none false false true false false = refl
+      none false false false true true = refl
+      none false false false true false = refl
       none false false false false true = refl
       none false false false false false = refl
 
@@ -136,15 +173,6 @@ pub places_by : (b : Binding) (f : Fact) (t : List ℕ) (m n : ℕ)
     → 4 * m + n ≡ places_of b f
 unfolding places_of
 places_by b f t m n w d e h k = rw (d, e, w.gives f.first.0 h, w.gives f.second.0 k)
-
-module _ (make : List ℕ → ℕ → List ℕ) (m : List ℕ) (f : Fact) (x : ℕ) where
-  pub as_unbound : 16 ≤ x → m ≡ at_pair make m f x
-  unfolding at_pair
-  as_unbound h = rw (le-leb 16 x h)
-
-  pub as_bound : (n : ℕ) → x < 16 → n ≡ 16 * (f.relation.0 - 1) + x → make m n ≡ at_pair make m f x
-  unfolding at_pair
-  as_bound n h e = rw (lt-leb 16 x h, e)
 
 module _ (b : Binding) (f : Fact) where
   abbrev both_bound : Bool
@@ -179,69 +207,59 @@ module _ (b : Binding) (f : Fact) where
   number_by e x is n d = omega (arith, filled e)
 
   module _ (atoms : List ℕ) where
-    -- ---- what `pair` returns, by its tests
+    -- ---- what `atom` returns, by its tests
     module _ (x : ℕ) (is : x ≡ places_of b f) where
-      pub pair_none : 16 ≤ x → 16 ≡ pair_of atoms b f
-      unfolding pair_of fact_bound
-      pair_none h = go both_bound refl
+      pub atom_none : 16 ≤ x → None ≡ lifted atoms b f
+      unfolding lifted fact_bound
+      atom_none h = go both_bound refl
         where
-          go : (t : Bool) → both_bound ≡ t → 16 ≡ cond (t && test_bit atoms (atom_of b f)) (places_of b f) 16
+          go : (t : Bool) → both_bound ≡ t → None ≡ cond (t && test_bit atoms (atom_of b f)) (Some (atom_of b f)) None
           go true e = absurd (omega (arith, filled_less e))
           go false e = refl
 
-      pub pair_some : x < 16 → (n : ℕ) → n ≡ 16 * (f.relation.0 - 1) + x → (t : Bool) → t ≡ test_bit atoms n → cond t x 16 ≡ pair_of atoms b f
-      unfolding pair_of fact_bound
-      pair_some h n d t told = go both_bound refl
+      pub atom_some : x < 16 → (n : ℕ) → n ≡ 16 * (f.relation.0 - 1) + x → (t : Bool) → t ≡ test_bit atoms n → cond t (Some n) None ≡ lifted atoms b f
+      unfolding lifted fact_bound
+      atom_some h n d t told = go both_bound refl
         where
-          go : (u : Bool) → both_bound ≡ u → cond t x 16 ≡ cond (u && test_bit atoms (atom_of b f)) (places_of b f) 16
-          go true e =
-              let q = number_by e x is n d in
-              rw (← q, ← told, is)
+          go : (u : Bool) → both_bound ≡ u → cond t (Some n) None ≡ cond (u && test_bit atoms (atom_of b f)) (Some (atom_of b f)) None
+          go true e = rw (← number_by e x is n d, ← told)
           go false e = absurd (omega (arith, unfilled e))
 
-    -- ---- what a pair says
-    bound_both : fact_bound atoms b f ≡ true → both_bound ≡ true
-    unfolding fact_bound
-    bound_both e = (and_out both_bound _ e).0
-
-    module _ (x : ℕ) (is : x ≡ pair_of atoms b f) where
-      bound_less : fact_bound atoms b f ≡ true → (x ≡ places_of b f) × (x < 16)
-      unfolding pair_of
-      bound_less e =
-          let p : x ≡ places_of b f = is ∙ rw e in
-          (p, omega (arith, filled_less (bound_both e)))
-
-      unbound_is : fact_bound atoms b f ≡ false → x ≡ 16
-      unfolding pair_of
-      unbound_is e = is ∙ rw e
-
-      pub place_bound_lem : x < 16 → fact_bound atoms b f ≡ true
-      place_bound_lem h = is_true _ (λ e. omega (arith, unbound_is e))
-
-      pub place_unbound : 16 ≤ x → fact_bound atoms b f ≡ false
-      place_unbound h = is_false _ (λ e. omega (arith, (bound_less e).1))
-
-      pub pair_test : leb 16 x ≡ not (fact_bound atoms b f)
-      pair_test = go (leb 16 x) refl
+    -- ---- what it says
+    module _ (x : Option ℕ) (is : x ≡ lifted atoms b f) where
+      is_bound : is_some x ≡ fact_bound atoms b f
+      unfolding lifted
+      is_bound = rw is (go (fact_bound atoms b f))
         where
-          go : (t : Bool) → leb 16 x ≡ t → t ≡ not (fact_bound atoms b f)
-          go true e = ap not (sym (place_unbound (leb-true 16 x e)))
-          go false e = ap not (sym (place_bound_lem (leb-false 16 x e)))
+          go : (t : Bool) → is_some (cond t (Some (atom_of b f)) None) ≡ t
+          go true = refl
+          go false = refl
 
-      at_pair_lem : (make : List ℕ → ℕ → List ℕ) (m : List ℕ) → at_pair make m f x ≡ cond (fact_bound atoms b f) (make m (atom_of b f)) m
-      unfolding at_pair
-      at_pair_lem make m = go (fact_bound atoms b f) refl
+      pub atom_bound : is_some x ≡ true → fact_bound atoms b f ≡ true
+      atom_bound e = sym is_bound ∙ e
+
+      pub atom_unbound : is_some x ≡ false → fact_bound atoms b f ≡ false
+      atom_unbound e = sym is_bound ∙ e
+
+      pub atom_test : (t : Bool) → is_some x ≡ not t → t ≡ not (fact_bound atoms b f)
+      atom_test t e = rw (← is_bound, e) (go t)
         where
-          go : (t : Bool) → fact_bound atoms b f ≡ t → cond (leb 16 x) m (make m (16 * (f.relation.0 - 1) + x)) ≡ cond t (make m (atom_of b f)) m
-          go true e =
-              let (p, l) = bound_less e in
-              rw (lt-leb 16 x l, number_by (bound_both e) x p _ refl)
-          go false e = rw (le-leb 16 x (omega (arith, unbound_is e)))
+          go : (t : Bool) → t ≡ not (not t)
+          go true = refl
+          go false = refl
 
-      pub marked_as_lem : (m : List ℕ) → marked_as m f x ≡ mark atoms b m f
+      at_atom_lem : (make : List ℕ → ℕ → List ℕ) (m : List ℕ) → at_atom make m x ≡ cond (fact_bound atoms b f) (make m (atom_of b f)) m
+      unfolding lifted
+      at_atom_lem make m = rw is (go (fact_bound atoms b f))
+        where
+          go : (t : Bool) → at_atom make m (cond t (Some (atom_of b f)) None) ≡ cond t (make m (atom_of b f)) m
+          go true = refl
+          go false = refl
+
+      pub marked_as_lem : (m : List ℕ) → marked_as m x ≡ mark atoms b m f
       unfolding mark
-      marked_as_lem m = at_pair_lem set_bit m
+      marked_as_lem m = at_atom_lem set_bit m
 
-      pub turned_as_lem : (m : List ℕ) → turned_as m f x ≡ turn_mark atoms b m f
+      pub turned_as_lem : (m : List ℕ) → turned_as m x ≡ turn_mark atoms b m f
       unfolding turn_mark
-      turned_as_lem m = at_pair_lem flip_bit m
+      turned_as_lem m = at_atom_lem flip_bit m

@@ -47,7 +47,7 @@ digits_spelt (suc fuel) (suc (suc k)) n rest h f =
     ∙ ap (λ (d : ℕ). spelt 10 (suc k) (n / 10) ++ (d ∷ []) ++ rest) (sym (glyph_digit (n % 10) (omega arith)))
 
 -- a number of 64 bits has at most 20 digits
-pub few : (n k : ℕ) → n < 2 ^ 64 → IsDigitCount 10 1 n k → k ≤ 20
+few : (n k : ℕ) → n < 2 ^ 64 → IsDigitCount 10 1 n k → k ≤ 20
 few n k h f = go (ltb 20 k) refl
   where
     go : (b : Bool) → ltb 20 k ≡ b → k ≤ 20

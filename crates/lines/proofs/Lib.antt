@@ -1,4 +1,2 @@
--- What the proofs of the functions cite: digits, text after text, and a bound fact's line.
+-- What the proofs of the functions cite: the digits of a number.
 pub mod Decimal
-pub mod Text
-pub mod Atom

@@ -7,9 +7,7 @@ use lib.Dec.{eqb}
 use lib.ListN.{length}
 use borrow.Author.Tests.{eq-eqb}
 use Rattle.format.specs.Form.{full}
-use Rattle.answer.specs.declared.Answer.{Answer}
-use Rattle.answer.specs.declared.Answer.TheVariants.{Good, Refused}
-use Rattle.answer.specs.Answer.{◌>>=◌, refuse, kept}
+use Rattle.answer.specs.Answer.{Answer, Good, Refused, ◌>>=◌, refuse, kept}
 use Rattle.answer.proofs.Laws.{parted}
 use Rattle.limits.specs.Limits.{max_moves, rule_size}
 use Rattle.terms.specs.declared.Sections.{Sections}

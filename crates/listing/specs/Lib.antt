@@ -1,3 +1,2 @@
 -- What the contracts of the listing cite.
-pub mod Room
 pub mod SheetOf

@@ -1,13 +1,14 @@
 -- Looking over as the code does it, rows 1 to 5 and then the records; and bounds of every answer, for packing it.
 use Prim.Native.Nat.{ℕ}
-use mathlib.Core.Path.{◌≡◌, refl, sym, ap, ◌∙◌}
-use mathlib.Core.Bool.{Bool, true, false}
+use mathlib.Core.Path.{◌≡◌, sym, ap, ◌∙◌}
 use mathlib.Core.List.{List}
 use native.Mathlib.Nat.{add-zero}
 use native.Mathlib.Omega.{arith}
-use Rattle.answer.specs.declared.Answer.{Answer}
-use Rattle.answer.specs.Answer.{◌>>=◌, is_refused, value_of}
-use Rattle.answer.proofs.Laws.{bind_unit}
+use Rattle.answer.specs.Answer.{Answer, ◌>>=◌, Good}
+use Rattle.std.proofs.Common.{Result, Ok, Err}
+use Rattle.answer.specs.declared.Refusal.{Refusal}
+use Rattle.answer.specs.Refusal.{refused_by, answer_of}
+use Rattle.answer.proofs.Laws.{bind_unit, bind_good}
 use Rattle.answer.specs.Walk.{walk}
 use Rattle.terms.specs.declared.Sections.{Sections}
 use Rattle.terms.specs.Sections.{sections_of}
@@ -18,22 +19,20 @@ use Rattle.format.specs.Records.{steps_in, record_at}
 use Rattle.format.specs.LookOver.{step_total, all_records, look_over_by, look_over}
 use Rattle.format.proofs.Header.{sections_good, sections_place}
 use Rattle.answer.proofs.Bounds.{Bounded, bounded_of, bounded_good, bounded_then, bounded_row, bounded_wider}
-use Rattle.answer.proofs.Turns.{part_stays, part_follows}
+use Rattle.answer.proofs.Results.{part_err, part_ok}
 use Rattle.terms.specs.declared.Head.{Head}
 use Rattle.terms.specs.Head.{head_of}
 use Rattle.records.specs.Rows.{book_end}
 use Rattle.records.proofs.Bounds.{records_bounded, total_bounded}
 
-module _ (form : Form) (h : Sections) (s : List ℕ) (is : h ≡ sections_of s) (a : Answer) (b : Bool) (first : a ≡ sections h s) (told : b ≡ is_refused a) where
-  pub look_over_stays : b ≡ true → a ≡ look_over form s
+module _ (form : Form) (h : Sections) (s : List ℕ) (is : h ≡ sections_of s) where
+  pub look_over_stays : (r : Result ℕ Refusal) → answer_of r ≡ sections h s → (e : Refusal) → r ≡ Err e → refused_by e ≡ look_over form s
   unfolding look_over look_over_by
-  look_over_stays e = rw (← is) (part_stays _ _ a b first told e)
+  look_over_stays r first e p = rw (← is) (part_err _ r first _ e p)
 
-  pub look_over_records : b ≡ false → (r : Answer) → r ≡ all_records form h s h.records.count h.records.at → r ≡ look_over form s
+  pub look_over_records : (n : ℕ) → sections h s ≡ Good n → all_records form h s h.records.count h.records.at ≡ look_over form s
   unfolding look_over look_over_by
-  look_over_records e r w =
-      rw (← is)
-      (w ∙ part_follows _ (λ _. all_records form h s h.records.count h.records.at) a b _ first told e refl)
+  look_over_records n p = rw (← is) (sym (bind_good _ (λ _. all_records form h s h.records.count h.records.at) n p))
 
 look_over_by_bounded : (form : Form) (h : Sections) (s : List ℕ) → Bounded max_length (look_over_by form h s)
 unfolding look_over_by all_records
@@ -63,7 +62,7 @@ unfolding all_records walk step_total book_end
 one_record form h s at = rw (bind_unit, add-zero)
 
 -- its two answers, by what the calls in the code return
-module _ (form : Form) (h : Sections) (s : List ℕ) (at : ℕ) (read : h ≡ sections_of s) (a : Answer) (is : a ≡ record_at form h s at) (b : Bool) (told : b ≡ is_refused a) where
+module _ (form : Form) (h : Sections) (s : List ℕ) (at : ℕ) (read : h ≡ sections_of s) (r : Result ℕ Refusal) (is : answer_of r ≡ record_at form h s at) where
   rest : ℕ → Answer
   rest last = book_end s last (steps_in s at)
 
@@ -71,9 +70,9 @@ module _ (form : Form) (h : Sections) (s : List ℕ) (at : ℕ) (read : h ≡ se
   unfolding rest
   own = sym (one_record form h s at) ∙ ap (λ (x : Sections). all_records form x s 1 at) read
 
-  pub last_refused : b ≡ true → a ≡ all_records form (sections_of s) s 1 at
-  last_refused e = part_stays _ rest a b is told e ∙ own
+  pub last_refused : (e : Refusal) → r ≡ Err e → refused_by e ≡ all_records form (sections_of s) s 1 at
+  last_refused e p = part_err _ r is rest e p ∙ own
 
-  pub last_ended : b ≡ false → (v : ℕ) → v ≡ value_of a → (head : Head) → head ≡ head_of s at → book_end s v head.steps ≡ all_records form (sections_of s) s 1 at
+  pub last_ended : (next : ℕ) → r ≡ Ok next → (head : Head) → head ≡ head_of s at → book_end s next head.steps ≡ all_records form (sections_of s) s 1 at
   unfolding rest head_of steps_in
-  last_ended e v value head f = ap (λ (x : Head). book_end s v x.steps) f ∙ part_follows _ rest a b v is told e value ∙ own
+  last_ended next p head f = ap (λ (x : Head). book_end s next x.steps) f ∙ sym (part_ok _ r is rest next p) ∙ own

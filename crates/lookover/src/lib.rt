@@ -3,59 +3,46 @@
 // of its own (observerecords), which looks over and observes at once.
 #![tactic(auto)]
 
+ghost use Rattle.answer.specs.Refusal.{answer_of};
 ghost use Rattle.std.specs.Prelude.{◌≡◌, ◌≤◌, length};
 ghost use Rattle.terms.specs.Sections.{sections_of};
 ghost use Rattle.limits.specs.Limits.{max_length, max_records, max_relations};
 ghost use Rattle.format.specs.LookOver.{look_over, all_records};
 
-use answer::Answer;
+use answer::Refusal;
 use terms::{Head, Sections};
 
 // A number of records, which end the book, walked once and in file order; a good answer is the count of all their steps.
-fn records(s: &[u8], short: bool, h: Sections, n: usize, from: usize) -> Answer
+fn records(s: &[u8], short: bool, h: Sections, n: usize, from: usize) -> Result<usize, Refusal>
     requires { (h.relations.count ≤ max_relations) × (length s.now ≤ max_length) × (from ≤ max_length) × (n ≤ max_records) }
-    ensures { result ≡ all_records short h s.now n from }
+    ensures { answer_of result ≡ all_records short h s.now n from }
 {
-    let mut left = n;
     let mut at = from;
     let mut total: usize = 0;
-    while 0 < left {
-        match reader::record_from(s, at, short, h) {
-            Answer::Refused(k, p) => {
-                return Answer::Refused(k, p);
-            }
-            Answer::Good(next) => {
-                let head = Head::read(s, at);
-                total += head.steps as usize;
-                at = next;
-            }
-        }
-        left -= 1;
+    for _ in 0..n {
+        let next = reader::record_from(s, at, short, h)?;
+        total += Head::read(s, at).steps as usize;
+        at = next;
     }
     records::book_end(s, at, total)
 }
 
 // The record at an offset, which ends the book; a good answer is the count of its steps.
-pub fn last_record(s: &[u8], short: bool, at: usize) -> Answer
+#[tactic(auto, using(crate::proofs::Laws::last_refused, crate::proofs::Laws::last_ended))]
+pub fn last_record(s: &[u8], short: bool, at: usize) -> Result<usize, Refusal>
     requires { (length s.now ≤ max_length) × (at ≤ max_length) × ((sections_of s.now).relations.count ≤ max_relations) }
-    ensures { result ≡ all_records short (sections_of s.now) s.now 1 at }
+    ensures { answer_of result ≡ all_records short (sections_of s.now) s.now 1 at }
 {
     let h = Sections::read(s);
-    let record = reader::record_from(s, at, short, h);
-    if answer::is_refused(record) {
-        return record;
-    }
-    let head = Head::read(s, at);
-    records::book_end(s, answer::value_of(record), head.steps as usize)
+    let next = reader::record_from(s, at, short, h)?;
+    records::book_end(s, next, Head::read(s, at).steps as usize)
 }
 
-pub fn look_over(s: &[u8], short: bool) -> Answer
-    ensures { result ≡ look_over short s.now }
+#[tactic(auto, using(crate::proofs::Laws::look_over_stays, crate::proofs::Laws::look_over_records, format::proofs::Header::sections_good))]
+pub fn look_over(s: &[u8], short: bool) -> Result<usize, Refusal>
+    ensures { answer_of result ≡ look_over short s.now }
 {
     let h = Sections::read(s);
-    let a = sections::sections(s, h);
-    if answer::is_refused(a) {
-        return a;
-    }
+    sections::sections(s, h)?;
     records(s, short, h, h.records.count as usize, h.records.at as usize)
 }

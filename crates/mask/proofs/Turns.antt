@@ -6,6 +6,8 @@ use Prim.Native.Nat.{ℕ, suc, ◌+◌, ◌-◌, ◌*◌, ◌^◌, ◌%◌, ◌<
 use native.Mathlib.Nat.{add-zero}
 use native.Mathlib.Numerals.{add-one}
 use native.Mathlib.Omega.{arith}
+use Rattle.std.specs.List.{sum_by}
+use Rattle.std.proofs.lemmas.List.Sums.{sum_by-cons}
 use lib.Bits.{bit_and}
 use lib.Count.{ones}
 use lib.ListN.{length, get_or, take, drop, set, length-set, drop_of_length-le}
@@ -67,17 +69,17 @@ module _ (f : ℕ → ℕ → ℕ) where
   turn_first a b = record { within = omega arith; long = refl; whole = rest_none f a b }
 
   -- y is byte i of b, wherever the loop has it from
-  pub turn_next : {a₀ b a : List ℕ} {i y : ℕ} → Turn f a₀ b a i → i < length a → y ≡ get_or b i 0 → Turn f a₀ b (set a i (f (get_or a i 0) y)) (i + 1)
+  pub turn_next : {a₀ b a : List ℕ} {i y : ℕ} → Turn f a₀ b a i → i < length a₀ → y ≡ get_or b i 0 → Turn f a₀ b (set a i (f (get_or a i 0) y)) (i + 1)
   turn_next {a₀} {b} {a} {i} {y} t h e =
       let k = length-set a i (f (get_or a i 0) y) in
       record {
         within = omega arith;
         long = k ∙ t.long;
-        whole = ap (λ (x : ℕ). rest f (set a i (f (get_or a i 0) x)) b (i + 1)) e ∙ rest_turn f a b i h ∙ t.whole;
+        whole = ap (λ (x : ℕ). rest f (set a i (f (get_or a i 0) x)) b (i + 1)) e ∙ rest_turn f a b i (omega arith) ∙ t.whole;
       }
 
-  pub turn_last : {a₀ b a : List ℕ} {i : ℕ} → Turn f a₀ b a i → length a ≤ i → a ≡ bytewise f a₀ b
-  turn_last {a₀} {b} {a} {i} t h = sym (rest_all f a b i h) ∙ t.whole
+  pub turn_last : {a₀ b a : List ℕ} {i : ℕ} → Turn f a₀ b a i → length a₀ ≤ i → a ≡ bytewise f a₀ b
+  turn_last {a₀} {b} {a} {i} t h = let long = t.long in sym (rest_all f a b i (omega arith)) ∙ t.whole
 
 -- the byte of a difference, as a loop computes it from bytes x and y
 pub byte_difference : (a b : List ℕ) (i : ℕ) {x y : ℕ} → x ≡ get_or a i 0 → y ≡ get_or b i 0 → x < 256 → y < 256 → bit_and x (255 - y) ≡ get_or (difference a b) i 0
@@ -85,11 +87,8 @@ unfolding difference
 byte_difference a b i {x} {y} e e' h h' =
     and_not x y h h' ∙ ap₂ without e e' ∙ sym (byte_bytewise without a b i (λ o. without_none (get_or b i 0)))
 
--- ---- the count of the bytes from i on
-pub cardinality_turn : (m : List ℕ) (i : ℕ) → i < length m → cardinality (drop i m) ≡ ones (get_or m i 0) + cardinality (drop (i + 1) m)
+-- ---- the count
+pub cardinality_sum : (m : List ℕ) → sum_by ones m ≡ cardinality m
 unfolding cardinality
-cardinality_turn m i h = ap cardinality (drop-cons m i 0 h) ∙ ap (λ (k : ℕ). ones (get_or m i 0) + cardinality (drop k m)) (sym (add-one i))
-
-pub cardinality_all : (m : List ℕ) (i : ℕ) → length m ≤ i → cardinality (drop i m) ≡ 0
-unfolding cardinality
-cardinality_all m i h = ap cardinality (drop_of_length-le m h)
+cardinality_sum [] = refl
+cardinality_sum (x ∷ m) = sum_by-cons ones x m ∙ ap (λ (n : ℕ). ones x + n) (cardinality_sum m)

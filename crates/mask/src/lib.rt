@@ -1,6 +1,6 @@
-// Sets of numbers as byte masks: element n is the bit of value 2^(n mod 8) in byte n div 8. Functions on slices of any length, then
-// wrappers at 32 bytes (n < 256) and 512 bytes (n < 4096). All but `count` are total: bytes past an end read as 0, and a store there
-// changes nothing, as specs/Bits.antt and specs/Sets.antt say. Uses no other crate.
+// Sets of numbers as byte masks: element n is the bit of value 2^(n mod 8) in byte n div 8. Functions on slices of any length, and those that take and
+// give arrays. All but `count` are total: bytes past an end read as 0, and a store there changes nothing, as specs/Bits.antt and specs/Sets.antt say.
+// Uses no other crate.
 #![tactic(auto)]
 
 ghost use Rattle.std.specs.Prelude.{◌≡◌, ◌*◌, ◌^◌, ◌<◌, ◌≤◌, length, get_or};
@@ -11,10 +11,7 @@ ghost use Rattle.mask.specs.Sets.{intersection, union, difference, empty, cardin
 fn byte_at(m: &[u8], i: usize) -> u8
     ensures { (result ≡ get_or m.now i 0) × (result < 256) }
 {
-    if i < m.len() {
-        return m[i];
-    }
-    0
+    m.get(i).copied().unwrap_or(0)
 }
 
 pub fn test_bit(m: &[u8], n: usize) -> bool
@@ -27,10 +24,9 @@ pub fn set_bit(m: &mut [u8], n: usize)
     ensures { m.new ≡ set_bit m.old n }
 {
     let k = n / 8;
-    if m.len() <= k {
-        return;
+    if k < m.len() {
+        m[k] |= 1u8 << (n % 8);
     }
-    m[k] = m[k] | (1u8 << (n % 8));
 }
 
 // Takes n out where it was in, puts it in where it was not, and says which: whether it was in.
@@ -49,20 +45,16 @@ pub fn flip_bit(m: &mut [u8], n: usize) -> bool
 pub fn intersect(acc: &mut [u8], other: &[u8])
     ensures { acc.new ≡ intersection acc.old other.now }
 {
-    let mut i = 0;
-    while i < acc.len() {
-        acc[i] = acc[i] & byte_at(other, i);
-        i += 1;
+    for (i, x) in acc.iter_mut().enumerate() {
+        *x &= byte_at(other, i);
     }
 }
 
 pub fn unite(acc: &mut [u8], other: &[u8])
     ensures { acc.new ≡ union acc.old other.now }
 {
-    let mut i = 0;
-    while i < acc.len() {
-        acc[i] = acc[i] | byte_at(other, i);
-        i += 1;
+    for (i, x) in acc.iter_mut().enumerate() {
+        *x |= byte_at(other, i);
     }
 }
 
@@ -70,10 +62,8 @@ pub fn unite(acc: &mut [u8], other: &[u8])
 pub fn unite_difference(acc: &mut [u8], a: &[u8], b: &[u8])
     ensures { acc.new ≡ union acc.old (difference a.now b.now) }
 {
-    let mut i = 0;
-    while i < acc.len() {
-        acc[i] = acc[i] | (byte_at(a, i) & !byte_at(b, i));
-        i += 1;
+    for (i, x) in acc.iter_mut().enumerate() {
+        *x |= byte_at(a, i) & !byte_at(b, i);
     }
 }
 
@@ -82,81 +72,38 @@ pub fn count(m: &[u8]) -> usize
     requires { length m.now ≤ 2 ^ 60 }
     ensures { (result ≡ cardinality m.now) × (result ≤ 8 * length m.now) }
 {
-    let mut n: usize = 0;
-    let mut i = 0;
-    while i < m.len() {
-        n += u8::count_ones(m[i]) as usize;
-        i += 1;
-    }
-    n
+    m.iter().map(|x| x.count_ones() as usize).sum()
 }
 
-// ---- 32 bytes, by value and behind a reference
+// ---- by value
 
-pub fn empty32() -> [u8; 32]
-    ensures { result ≡ empty 32 }
+#[tactic(auto, unfolding(crate::specs::Sets::empty))]
+pub fn empty<const N: usize>() -> [u8; N]
+    ensures { result ≡ empty N }
 {
-    [0u8; 32]
+    [0u8; N]
 }
 
-pub fn has32(m: [u8; 32], n: usize) -> bool
-    ensures { result ≡ test_bit m n }
-{
-    test_bit(&m, n)
-}
-
-pub fn intersection32(a: [u8; 32], b: [u8; 32]) -> [u8; 32]
-    ensures { result ≡ intersection a b }
+pub fn intersection<const N: usize>(a: [u8; N], b: [u8; N]) -> [u8; N]
+    ensures { result ≡ intersection a.entry b.entry }
 {
     let mut t = a;
     intersect(&mut t, &b);
     t
 }
 
-pub fn union32(a: [u8; 32], b: [u8; 32]) -> [u8; 32]
-    ensures { result ≡ union a b }
+pub fn union<const N: usize>(a: [u8; N], b: [u8; N]) -> [u8; N]
+    ensures { result ≡ union a.entry b.entry }
 {
     let mut t = a;
     unite(&mut t, &b);
     t
 }
 
-pub fn union_difference32(m: [u8; 32], a: [u8; 32], b: [u8; 32]) -> [u8; 32]
-    ensures { result ≡ union m (difference a b) }
+pub fn union_difference<const N: usize>(m: [u8; N], a: [u8; N], b: [u8; N]) -> [u8; N]
+    ensures { result ≡ union m.entry (difference a.entry b.entry) }
 {
     let mut t = m;
     unite_difference(&mut t, &a, &b);
     t
-}
-
-pub fn mark32(m: &mut [u8; 32], n: usize)
-    ensures { m.new ≡ set_bit m.old n }
-{
-    set_bit(m, n);
-}
-
-pub fn count32(m: [u8; 32]) -> usize
-    ensures { (result ≡ cardinality m) × (result ≤ 256) }
-{
-    count(&m)
-}
-
-// ---- 512 bytes, behind a reference
-
-pub fn empty512() -> [u8; 512]
-    ensures { result ≡ empty 512 }
-{
-    [0u8; 512]
-}
-
-pub fn has512(m: &[u8; 512], n: usize) -> bool
-    ensures { result ≡ test_bit m.now n }
-{
-    test_bit(m, n)
-}
-
-pub fn mark512(m: &mut [u8; 512], n: usize)
-    ensures { m.new ≡ set_bit m.old n }
-{
-    set_bit(m, n);
 }

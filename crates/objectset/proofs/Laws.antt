@@ -1,20 +1,23 @@
 -- Laws of sets of objects and of tables of them: an object put into a set, and what stands at an index of a table.
-use Prim.Native.Nat.{ℕ, ◌/◌, ◌^◌, ◌%◌, ◌<◌, ◌≤◌}
+use Prim.Native.Nat.{ℕ, suc, ◌+◌, ◌/◌, ◌^◌, ◌%◌, ◌<◌, ◌≤◌}
 use mathlib.Core.Path.{◌≡◌, refl, sym, ap, ap₂, ◌∙◌}
-use mathlib.Core.Bool.{Bool, true, false, ◌&&◌, ◌||◌, and-false}
+use mathlib.Core.Bool.{Bool, true, false, ◌&&◌, ◌||◌, and-true, and-false, and_assoc}
 use mathlib.Core.List.{List}
 use native.Mathlib.Decide.{ℕ_discrete}
+use native.Mathlib.Numerals.{add-one}
 use native.Mathlib.Omega.{arith}
 use borrow.Author.Tests.{ltb-true, ltb-false, ne_eqb}
 use lib.Bits.{bit_and, bit_or}
 use lib.Dec.{eqb, ltb}
-use lib.ListN.{length, length-set}
-use lib.Seq.{get_or-set_same, get_or-set_other}
+use lib.ListN.{length, length-set, get_or, drop, drop_of_length-le}
+use lib.Seq.{drop-cons, get_or-set_same, get_or-set_other}
+use Rattle.std.specs.List.{list_all}
 use Rattle.mask.specs.Bits.{bit_of}
 use Rattle.mask.specs.Sets.{empty}
 use Rattle.mask.proofs.Numbers.{bit_and_lem, bit_or_lem, bit_zero, bit_power, bit_none}
 use Rattle.mask.proofs.Bytes.{zeros}
-use Rattle.objectset.specs.Sets.{member, entry, put, stored}
+use Rattle.objectset.specs.declared.Asked.{Asked}
+use Rattle.objectset.specs.Sets.{member, is_in, entry, put, stored}
 
 -- ---- sets
 pub member_none : (x : ℕ) → member 0 x ≡ false
@@ -62,18 +65,22 @@ low_and p q = sym (bit_zero (bit_and p q)) ∙ bit_and_lem p q 0 ∙ ap₂ ◌&&
 lowest_two : (p q : ℕ) (s t : Bool) → ((s && t) && eqb (bit_and p q % 2) 1) ≡ ((s && eqb (p % 2) 1) && (t && eqb (q % 2) 1))
 lowest_two p q s t = ap (λ (b : Bool). (s && t) && b) (low_and p q) ∙ swapped s t (eqb (p % 2) 1) (eqb (q % 2) 1)
 
-pub two_members : (m x n y : ℕ)
-    → ((ltb x 32 && ltb y 32) && eqb (bit_and (m / 2 ^ (x % 32)) (n / 2 ^ (y % 32)) % 2) 1) ≡ (member m x && member n y)
-unfolding member bit_of
-two_members m x n y = lowest_two (m / 2 ^ (x % 32)) (n / 2 ^ (y % 32)) (ltb x 32) (ltb y 32)
+-- Where a loop stands that asks all the questions: those before i have their answers in `known` and in the lowest bit.
+unfoldable pub Asking : List Asked → ℕ → Bool → ℕ → Type 0
+Asking xs i known bits = ((known && eqb (bits % 2) 1) && list_all is_in (drop i xs)) ≡ list_all is_in xs
 
-pub four_members : (m x n y k z l w : ℕ)
-    → (((ltb x 32 && ltb y 32) && (ltb z 32 && ltb w 32))
-    && eqb (bit_and (bit_and (m / 2 ^ (x % 32)) (n / 2 ^ (y % 32))) (bit_and (k / 2 ^ (z % 32)) (l / 2 ^ (w % 32))) % 2) 1)
-    ≡ ((member m x && member n y) && (member k z && member l w))
-four_members m x n y k z l w =
-    lowest_two (bit_and (m / 2 ^ (x % 32)) (n / 2 ^ (y % 32))) (bit_and (k / 2 ^ (z % 32)) (l / 2 ^ (w % 32))) (ltb x 32 && ltb y 32) (ltb z 32 && ltb w 32)
-    ∙ ap₂ ◌&&◌ (two_members m x n y) (two_members k z l w)
+pub asking_next : (xs : List Asked) (i : ℕ) (d : Asked) (known : Bool) (bits : ℕ) → i < length xs → Asking xs i known bits
+    → (let a : Asked = get_or xs i d in Asking xs (i + 1) (known && ltb a.object 32) (bit_and bits (a.set / 2 ^ (a.object % 32))))
+unfolding Asking is_in member bit_of
+asking_next xs i d known bits h is =
+    let a : Asked = get_or xs i d in
+    let q : ℕ = a.set / 2 ^ (a.object % 32) in
+    rw (add-one, lowest_two bits q known (ltb a.object 32), and_assoc (known && eqb (bits % 2) 1) (ltb a.object 32 && eqb (q % 2) 1) (list_all is_in (drop (suc i) xs)))
+    (rw (drop-cons xs i d h) at is)
+
+pub asking_last : (xs : List Asked) (i : ℕ) (known : Bool) (bits : ℕ) → length xs ≤ i → Asking xs i known bits → (known && eqb (bits % 2) 1) ≡ list_all is_in xs
+unfolding Asking
+asking_last xs i known bits h is = sym (and-true (known && eqb (bits % 2) 1)) ∙ (rw (drop_of_length-le xs h) at is)
 
 -- ---- tables
 pub put_same : (t : List ℕ) (i x : ℕ) → i < length t → entry (put t i x) i ≡ bit_or (entry t i) (2 ^ x)

@@ -5,8 +5,7 @@ use mathlib.Core.Path.{◌≡◌, refl, ap, ◌∙◌}
 use mathlib.Core.Logic.{◌⊎◌, inl, inr}
 use mathlib.Core.Bool.{Bool, true, false, ◌&&◌, ◌||◌, not}
 use mathlib.Core.List.{List, ◌∷◌, ◌++◌}
-use Rattle.answer.specs.declared.Answer.TheVariants.{Good, Refused}
-use Rattle.answer.specs.Answer.{◌>>=◌, first_refused}
+use Rattle.answer.specs.Answer.{Good, Refused, ◌>>=◌, first_refused}
 use borrow.Author.Tests.{not-true}
 use Rattle.truth.specs.Bools.{clash, decide, and_out}
 use Rattle.mask.specs.Sets.{mask_of, intersection, difference}

@@ -6,7 +6,7 @@ use mathlib.Core.Logic.{◌⊎◌, inl, inr}
 use mathlib.Core.Bool.{Bool, true, false, cond}
 use mathlib.Core.List.{List, [], ◌∷◌, ◌++◌}
 use borrow.Author.Tests.{ne_eqb}
-use Rattle.answer.specs.declared.Answer.TheVariants.{Refused}
+use Rattle.answer.specs.Answer.{Refused, first_refused}
 use Rattle.truth.specs.Bools.{decide}
 use Rattle.limits.specs.Limits.{max_moves}
 use Rattle.terms.specs.Schema.{Schema}
@@ -16,7 +16,6 @@ use Rattle.model.specs.Domain.{Transition}
 use Rattle.model.specs.Learned.{unbound_effect}
 use Rattle.jobs.specs.Planning.{domain, transition, went_steps}
 use Rattle.jobs.specs.Learn.{unbound_effects}
-use Rattle.answer.specs.Answer.{first_refused}
 use Rattle.jobs.proofs.Parted.{went_take, went_skip}
 use Rattle.jobs.proofs.FirstRefused.{first_refused_none, first_refused_here, first_refused_later}
 use Rattle.observed.specs.Inverse.{unbound_changed}

@@ -7,3 +7,4 @@ pub mod Rules
 pub mod Faithful
 pub mod Seen
 pub mod Taught
+pub mod SeenSets

@@ -13,7 +13,7 @@ use Rattle.format.specs.Parts.{records_at, sections_part}
 use Rattle.jobs.specs.Planning.{schema_of}
 use Rattle.observed.specs.Inverse.{atoms_in, unbound_changed}
 
--- ---- the seven sets of a move, numbered in their order; src/lib.rt has the numbers for code
+-- ---- the seven sets of a move, numbered in their order; src/lib.rt has an enum of them for code
 
 -- what held before every step of the move, and before some
 abbrev pub always_before : ℕ

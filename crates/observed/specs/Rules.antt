@@ -1,9 +1,7 @@
 -- Sheet, row 11 and row 12 from what is observed; and row 28 of a step that did not go, by the preconditions that are observed and the state before
 -- it. Uses jobs for the answer of row 12 and for the steps that did not go.
 use Rattle.std.specs.Prelude.{ℕ, zero, suc, Bool, not, List, [], ◌++◌, eqb}
-use Rattle.answer.specs.declared.Answer.{Answer}
-use Rattle.answer.specs.declared.Answer.TheVariants.{Good, Refused}
-use Rattle.answer.specs.Answer.{first_refused}
+use Rattle.answer.specs.Answer.{Answer, Good, Refused, first_refused}
 use Rattle.mask.specs.Sets.{intersection, union, difference}
 use Rattle.quantify.specs.Quantify.{any, least}
 use Rattle.format.specs.Decode.{RecordedStep}

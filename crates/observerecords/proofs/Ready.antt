@@ -6,9 +6,12 @@ use mathlib.Core.Path.{◌≡◌, refl, sym, ap, ◌∙◌, subst}
 use mathlib.Core.Bool.{Bool, true, false, ◌&&◌, not}
 use mathlib.Core.List.{List}
 use lib.ListN.{length}
+use Rattle.std.proofs.Common.{Result, Ok, Err, IfOk}
 use Rattle.truth.specs.Bools.{clash}
-use Rattle.answer.specs.declared.Answer.TheVariants.{Good}
-use Rattle.answer.proofs.Laws.{parted}
+use Rattle.answer.specs.Answer.{Good}
+use Rattle.answer.specs.declared.Refusal.{Refusal}
+use Rattle.answer.specs.Refusal.{refused_by, answer_by}
+use Rattle.answer.proofs.Laws.{bind_good, bind_refused, parted}
 use Rattle.mask.specs.Bits.{test_bit}
 use Rattle.mask.specs.Sets.{mask_of, cardinality}
 use Rattle.terms.specs.declared.Fact.{Fact}
@@ -17,7 +20,7 @@ use Rattle.terms.specs.Steps.{ground}
 use Rattle.terms.specs.Facts.{fact_bad, no_fact}
 use Rattle.terms.specs.Told.{suits}
 use Rattle.limits.specs.Limits.{max_length, step_size}
-use Rattle.format.specs.Filed.{went_at, filed_step_at, as_written}
+use Rattle.format.specs.Filed.{went_at, filed_fact, filed_step_at, as_written}
 use Rattle.format.specs.Lists.{list_at, list_end}
 use Rattle.format.specs.Toggled.{toggled}
 use Rattle.format.specs.Form.{Form, full, most_listed, state_after}
@@ -39,14 +42,16 @@ use Rattle.observed.specs.Observed.{bound, Observed, observed_set, failure_seen,
 use Rattle.observed.proofs.Observe.{observe_went, observe_failed}
 use Rattle.onewalk.proofs.Bound.{step_bounded, step_ended}
 use Rattle.onewalk.proofs.Turned.{held_found, turn_marks_lem, some_unbound_lem}
+use Rattle.states.specs.Looked.{whole_list}
 use Rattle.states.proofs.Looking.{whole_parts, good_whole}
 use Rattle.records.specs.declared.Scope.{Scope}
 use Rattle.records.specs.Readable.{schema_in, typed_in, step_alone, step_listed}
 use Rattle.records.proofs.Parts.{alone_behind}
+use Rattle.lifting.specs.Pairs.{no_digits}
 use Rattle.stepmasks.specs.Marks.{Suited, RightForFew}
 use Rattle.observestep.specs.declared.Noted.{Noted}
 use Rattle.observestep.specs.Notes.{observed_step, IsObserved, StepTurnable, observed_turned, TurnObserved}
-use Rattle.observerecords.specs.Observing.{Observable, Ready, Whole, Done}
+use Rattle.observerecords.specs.Observing.{Observable, Ready, Whole, Done, DoneReady}
 
 -- the facts that hold after a step of a short book
 after_short : (form : Form) (s : List ℕ) (before : List Fact) (at : ℕ) → form ≡ true → state_after form s before at ≡ toggled before (list_at s at)
@@ -70,6 +75,34 @@ done_passed form s before at m m' masks named r failed same carried =
       observed = subst (λ (x : Observed). IsObserved x masks r.named) (sym (observe_failed (recorded_step form s before at) _ failed)) (record { masks = refl; named = same });
       carried = carried;
     }
+
+-- what the functions say of a step, by the list behind it
+module _ (s : List ℕ) (c : Scope) where
+  pub alone_err : (at : ℕ) (e : Refusal) → refused_by e ≡ step_alone (schema_in s c) (typed_in s c) s c.end at → refused_by e ≡ step_listed c.short (schema_in s c) (typed_in s c) s c.end at
+  unfolding step_listed
+  alone_err at e told = sym (bind_refused _ _ _ _ (sym told))
+
+  pub alone_ok : (at listed : ℕ) → Good listed ≡ step_alone (schema_in s c) (typed_in s c) s c.end at
+      → list (filed_fact c.short) 8 (most_listed c.short) (schema_in s c) (typed_in s c) s c.end (at + step_size) ≡ step_listed c.short (schema_in s c) (typed_in s c) s c.end at
+  unfolding step_listed
+  alone_ok at listed told =
+      let place = (alone_behind (schema_in s c) (typed_in s c) s c.end at listed (sym told)).3 in
+      sym (bind_good _ (list (filed_fact c.short) 8 (most_listed c.short) (schema_in s c) (typed_in s c) s c.end) (at + step_size) (sym told ∙ ap Good place))
+
+  module _ (pre at : ℕ) (m : List ℕ) (held : ℕ) (masks : List ℕ) (named : ℕ) (t m' : List ℕ) where
+    pub passed_done : (r : Result Noted Refusal) → t ≡ no_digits → went_at s at ≡ false
+        → IfOk r (λ x. (x.named ≡ named) × Carried c.short s (at + step_size) m m' x.count)
+        → IfOk r (λ x. (t ≡ no_digits) × DoneReady s c pre at m held masks named m' masks x)
+    passed_done (Ok x) same failed v = (same, λ ready. done_passed c.short s ready.before at m m' masks named x failed v.0 v.1)
+    passed_done (Err e) same failed v = tt
+
+    -- a list that is not whole is refused
+    pub cut_done : (masks' : List ℕ) (r : Result Noted Refusal)
+        → answer_by (λ (x : Noted). x.next) r ≡ list (filed_fact c.short) 8 (most_listed c.short) (schema_in s c) (typed_in s c) s c.end (at + step_size)
+        → whole_list (most_listed c.short) s c.end (at + step_size) ≡ false
+        → IfOk r (λ x. (t ≡ no_digits) × DoneReady s c pre at m held masks named m' masks' x)
+    cut_done masks' (Ok x) e cut = clash _ (good_whole _ _ _ _ _ _ _ _ x.next (sym e)) cut
+    cut_done masks' (Err y) e cut = tt
 
 module _ (s : List ℕ) (c : Scope) (ks table : List ℕ) (obs : Observable s c ks table) where
   pub known : (schema_in s c).relations ≤ 16
@@ -100,6 +133,13 @@ module _ (s : List ℕ) (c : Scope) (ks table : List ℕ) (obs : Observable s c 
   pub list_turns : (at next : ℕ) → at + step_size ≤ c.end → list as_written 8 (most_listed c.short) (schema_in s c) (typed_in s c) s c.end (at + step_size) ≡ Good next → Turnable s (at + step_size)
   list_turns at next fits good =
       list_turnable (most_listed c.short) 8 (schema_in s c) (typed_in s c) few known s c.end (at + step_size) next good obs.readable.within (omega (arith, fits, obs.readable.near))
+
+  -- a step that was found good alone
+  pub step_found : (at listed : ℕ) → Good listed ≡ step_alone (schema_in s c) (typed_in s c) s c.end at
+      → (at + step_size ≤ c.end) × (step_alone (schema_in s c) (typed_in s c) s c.end at ≡ Good (at + step_size)) × (listed ≡ at + step_size)
+  step_found at listed told =
+      let (fits, suits, different, place) = alone_behind (schema_in s c) (typed_in s c) s c.end at listed (sym told) in
+      (fits, sym told ∙ ap Good place, place)
 
   -- a step and a list that were found good
   pub listed_whole : (at next : ℕ) → step_listed c.short (schema_in s c) (typed_in s c) s c.end at ≡ Good next → Whole s c at
@@ -215,3 +255,18 @@ module _ (s : List ℕ) (c : Scope) (ks table : List ℕ) (obs : Observable s c 
                   (rw atoms (subst (λ (x : Observed). IsObserved x masks' r.named) (same named) (rw atoms at o.observed)));
               carried = record { turned = λ t. (o.state, count); nothing = λ f. clash c.short e f };
             }
+
+    -- ---- the same, by what they return
+    module _ (pre : ℕ) (m : List ℕ) (held : ℕ) (masks : List ℕ) (named : ℕ) (t : List ℕ) where
+      pub listed_done : (masks' : List ℕ) (r : Result Noted Refusal) → c.short ≡ false → went_at s at ≡ true
+          → IfOk r (λ x. (x.count ≡ 0) × (t ≡ no_digits) × IsObserved (observed_step full s (list_at s pre) at masks named) masks' x.named)
+          → IfOk r (λ x. (t ≡ no_digits) × DoneReady s c pre at m held masks named m masks' x)
+      listed_done masks' (Ok x) e went v = (v.1, λ ready. done_listed pre m held masks ready went e masks' named x v.0 v.2)
+      listed_done masks' (Err y) e went v = tt
+
+      pub turned_done : (m' masks' : List ℕ) (r : Result Noted Refusal) → c.short ≡ true → went_at s at ≡ true
+          → answer_by (λ (x : Noted). x.next) r ≡ list as_written 8 (most_listed c.short) (schema_in s c) (typed_in s c) s c.end (at + step_size)
+          → IfOk r (λ x. (t ≡ no_digits) × TurnObserved (schema_in s c) (filed_step_at s at) (list_at s (at + step_size)) at masks named masks' x.named m m' × (x.count ≡ cardinality m'))
+          → IfOk r (λ x. (t ≡ no_digits) × DoneReady s c pre at m held masks named m' masks' x)
+      turned_done m' masks' (Ok x) e went good v = (v.0, λ ready. done_turned pre m held masks ready e x.next (sym good) went m' masks' named x v.1 v.2)
+      turned_done m' masks' (Err y) e went good v = tt

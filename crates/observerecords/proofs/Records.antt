@@ -4,8 +4,10 @@ use mathlib.Core.Path.{◌≡◌, sym, ◌∙◌}
 use mathlib.Core.List.{List}
 use native.Mathlib.Numerals.{sub-one}
 use native.Mathlib.Omega.{arith}
-use Rattle.answer.specs.declared.Answer.TheVariants.{Good, Refused}
-use Rattle.answer.proofs.Laws.{good_refused}
+use Rattle.std.proofs.Common.{Err}
+use Rattle.answer.specs.Answer.{Good}
+use Rattle.answer.specs.declared.Refusal.{Refusal}
+use Rattle.answer.specs.Refusal.{refused_by}
 use Rattle.terms.specs.declared.Sections.{Sections}
 use Rattle.format.specs.Form.{Form}
 use Rattle.format.specs.LookOver.{all_records}
@@ -17,11 +19,10 @@ use Rattle.observerecords.specs.declared.noticed.Noticed.{Noticed}
 use Rattle.observerecords.specs.Observing.{held_with, IsHeld, RecordsObserved}
 use Rattle.observerecords.proofs.Steps.{held_path, path_held}
 
-pub refused_walked : (form : Form) (h : Sections) (s : List ℕ) (n from : ℕ) (before : Observed) (bytes : List ℕ) (k p : ℕ) (noticed : Noticed)
-    → Refused k p ≡ all_records form h s n from
-    → RecordsObserved form h s n from before bytes (record { answer = Refused k p; noticed = noticed })
-refused_walked form h s n from before bytes k p noticed e =
-    record { says = e; observes = λ m f. good_refused m k p (sym f) }
+pub refused_walked : (form : Form) (h : Sections) (s : List ℕ) (n from : ℕ) (before : Observed) (bytes : List ℕ) (e : Refusal)
+    → refused_by e ≡ all_records form h s n from
+    → RecordsObserved form h s n from before bytes (Err e)
+refused_walked form h s n from before bytes e p = record { says = p; observes = tt }
 
 -- ---- the records
 

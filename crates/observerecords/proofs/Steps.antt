@@ -8,9 +8,7 @@ use mathlib.Core.Bool.{Bool, true, false, ◌||◌, not}
 use mathlib.Core.List.{List}
 use lib.ListN.{length}
 use Rattle.truth.specs.Bools.{decide}
-use Rattle.answer.specs.declared.Answer.{Answer}
-use Rattle.answer.specs.declared.Answer.TheVariants.{Good}
-use Rattle.answer.specs.Answer.{is_refused}
+use Rattle.answer.specs.Answer.{Good, is_refused}
 use Rattle.mask.specs.Sets.{empty}
 use Rattle.terms.specs.declared.Fact.{Fact}
 use Rattle.limits.specs.Limits.{step_size, state_size, near_ceiling}
@@ -99,14 +97,17 @@ module _ (s : List ℕ) (c : Scope) (ks table : List ℕ) (readable : Readable s
       → Carried c.short s first m m' held
       → (masks : List ℕ) (noticed : Noticed)
       → Begun (schema_in s c) masks
-      → Observing s c first from m' held c.steps first from masks noticed (observe_all (recorded_steps_at c.short s c.steps (list_at s first) from) (held_with masks noticed))
-  observing_first first from near good m m' held e long carried masks noticed begun =
-      record {
+      → (left : ℕ)
+      → left ≡ c.steps
+      → Observing s c first from m' held left first from masks noticed (observe_all (recorded_steps_at c.short s c.steps (list_at s first) from) (held_with masks noticed))
+  observing_first first from near good m m' held e long carried masks noticed begun left all =
+      rw all
+      (record {
         before = list_at s first;
         going = going_first s c ks table readable first from near good m m' held e long carried;
         begun = begun;
         rest = refl;
-      }
+      })
 
   -- ---- one step on
   module _ (first from : ℕ) (m : List ℕ) (held left pre at : ℕ) (masks : List ℕ) (noticed : Noticed) (whole : Observed) (obs : Observing s c first from m held left pre at masks noticed whole) where
@@ -120,7 +121,7 @@ module _ (s : List ℕ) (c : Scope) (ks table : List ℕ) (readable : Readable s
     abbrev Stepped : List ℕ → ℕ → Type 0
     Stepped masks' named' = IsObserved (observe own_step (record { masks = masks; named = noticed.named; failed = false })) masks' named'
 
-    module _ (observable : Observable s c ks table) (some : 0 < left) (a : Answer) (told : a ≡ step_listed c.short (schema_in s c) (typed_in s c) s c.end at) (next : ℕ) (good : a ≡ Good next) where
+    module _ (observable : Observable s c ks table) (some : 0 < left) (next : ℕ) (told : Good next ≡ step_listed c.short (schema_in s c) (typed_in s c) s c.end at) where
       -- what is observed keeps its size and the bound facts of each move
       begun_on : (masks' : List ℕ) (r : ℕ) → Stepped masks' r → Begun (schema_in s c) masks'
       unfolding observe_by recorded_step
@@ -129,7 +130,7 @@ module _ (s : List ℕ) (c : Scope) (ks table : List ℕ) (readable : Readable s
           go : (own_step.went ≡ true) ⊎ (own_step.went ≡ false) → Begun (schema_in s c) masks'
           go (inr e) = subst (Begun (schema_in s c)) (passed_masks own_step _ e ∙ sym o.masks) obs.begun
           go (inl e) =
-              let (counted, known) = step_move s c ks table observable at (listed_whole s c ks table observable at next (sym told ∙ good)) in
+              let (counted, known) = step_move s c ks table observable at (listed_whole s c ks table observable at next (sym told)) in
               let is = o.masks ∙ ap (λ h. h.masks) (observe_went own_step _ e) in
               record {
                 sized = ap length is ∙ length_noted _ counted known _ _ masks obs.begun.sized;
@@ -137,7 +138,7 @@ module _ (s : List ℕ) (c : Scope) (ks table : List ℕ) (readable : Readable s
               }
 
       end : next ≡ list_end s (at + step_size)
-      end = (list_ends _ (most_listed c.short) 8 _ _ s c.end (at + step_size) next (listed_good c.short (schema_in s c) (typed_in s c) s c.end at next (sym told ∙ good)).1).0
+      end = (list_ends _ (most_listed c.short) 8 _ _ s c.end (at + step_size) next (listed_good c.short (schema_in s c) (typed_in s c) s c.end at next (sym told)).1).0
 
       one_more_lem : (k : ℕ) (masks' : List ℕ) (noticed' : Noticed) → left ≡ suc k → IsHeld (observe own_step (held_with masks noticed)) masks' noticed'
           → observe_all (recorded_steps_at c.short s k (state_after c.short s obs.before (at + step_size)) next) (held_with masks' noticed') ≡ whole
@@ -146,20 +147,22 @@ module _ (s : List ℕ) (c : Scope) (ks table : List ℕ) (readable : Readable s
 
       pub observing_on : (m' masks' : List ℕ) (r : Noted)
           → Done c.short s obs.before at m masks noticed.named m' masks' r
-          → (after : Answer) → after ≡ step_after at r.count (changes_listed c.short s pre at) next → (b : Bool) → b ≡ is_refused after
+          → (after : ℕ) → Good after ≡ step_after at r.count (changes_listed c.short s pre at) next
           → length m' ≡ state_size
-          → b ≡ false
           → (noticed' : Noticed) → noticed' ≡ record { named = r.named; failed = noticed.failed || not (went_at s at) }
-          → Observing s c first from m' r.count (left - 1) (at + step_size) next masks' noticed' whole
-      unfolding recorded_step
-      observing_on m' masks' r done after is b refused long e noticed' are =
+          → (left' : ℕ)
+          → left' ≡ left - 1
+          → Observing s c first from m' r.count left' (at + step_size) next masks' noticed' whole
+      unfolding recorded_step is_refused
+      observing_on m' masks' r done after is long noticed' are left' fewer =
           let seen = noticed_step own_step masks noticed masks' r.named done.observed in
-          record {
+          rw fewer
+          (record {
             before = state_after c.short s obs.before (at + step_size);
-            going = going_on_lem s c ks table readable first from obs.before m held left pre at obs.going some a told next good m' r.count done.carried after is b refused long e;
+            going = going_on_lem s c ks table readable first from obs.before m held left pre at obs.going some _ told next refl m' r.count done.carried (Good after) is false refl long refl;
             begun = begun_on masks' r.named done.observed;
             rest = one_more_lem (left - 1) masks' noticed' (omega arith) (subst (λ (n : Noticed). IsHeld (observe own_step (held_with masks noticed)) masks' n) (sym are) seen);
-          }
+          })
 
     -- ---- no step left
     pub observing_done : left ≡ 0 → IsHeld whole masks noticed

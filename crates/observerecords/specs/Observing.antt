@@ -1,7 +1,8 @@
 -- What is asked and said of a record whose steps are observed as they are looked over, in a book of either form, and of all records of a book.
-use Rattle.std.specs.Prelude.{ℕ, ◌+◌, ◌≤◌, ◌≡◌, true, false, List, length}
-use Rattle.answer.specs.declared.Answer.{Answer}
-use Rattle.answer.specs.declared.Answer.TheVariants.{Good}
+use Rattle.std.specs.Prelude.{ℕ, ◌+◌, ◌≤◌, ◌≡◌, true, false, List, length, Result, IfOk}
+use Rattle.answer.specs.Answer.{Answer, Good}
+use Rattle.answer.specs.declared.Refusal.{Refusal}
+use Rattle.answer.specs.Refusal.{answer_by}
 use Rattle.terms.specs.declared.Sections.{Sections}
 use Rattle.terms.specs.declared.Fact.{Fact}
 use Rattle.terms.specs.Schema.{Schema, schema}
@@ -85,19 +86,23 @@ pub record CanObserve (h : Sections) (s : List ℕ) (at : ℕ) (masks : List ℕ
   pub size : length s ≤ max_length
   pub near : at ≤ max_length
 
+-- what a walk comes to, as an answer
+abbrev pub answer_walked : Result Walked Refusal → Answer
+answer_walked w = answer_by (λ (x : Walked). x.value) w
+
 -- what was read: its answer and, where that is good, what is observed after it
-pub record Observes (sch : Schema) (answer : Answer) (after : Observed) (bytes : List ℕ) (w : Walked) : Type 0 where
-  pub says : w.answer ≡ answer
-  pub observes : (k : ℕ) → w.answer ≡ Good k → IsHeld after bytes w.noticed × Begun sch bytes
+pub record Observes (sch : Schema) (answer : Answer) (after : Observed) (bytes : List ℕ) (w : Result Walked Refusal) : Type 0 where
+  pub says : answer_walked w ≡ answer
+  pub observes : IfOk w (λ x. IsHeld after bytes x.noticed × Begun sch bytes)
 
 -- the record at an offset: what is held after it is made of what was held before, the record's own bytes and its offset
-abbrev pub RecordObserved : Form → Sections → List ℕ → ℕ → Observed → List ℕ → Walked → Type 0
+abbrev pub RecordObserved : Form → Sections → List ℕ → ℕ → Observed → List ℕ → Result Walked Refusal → Type 0
 RecordObserved form h s at before bytes w = Observes (schema h s) (record_at form h s at) (observed_after form (record_part s at) at before) bytes w
 
 -- ---- all records
 
 -- A number of records walked once, in file order, each looked over and observed: the answer and, where it is good, what is held at the end.
 -- Each record adds to what was held before it by its own bytes and its offset alone (`observed_after_all`).
-pub record RecordsObserved (form : Form) (h : Sections) (s : List ℕ) (n from : ℕ) (before : Observed) (bytes : List ℕ) (w : Walked) : Type 0 where
-  pub says : w.answer ≡ all_records form h s n from
-  pub observes : (m : ℕ) → w.answer ≡ Good m → IsHeld (observed_after_all form (records_at s n from) from before) bytes w.noticed
+pub record RecordsObserved (form : Form) (h : Sections) (s : List ℕ) (n from : ℕ) (before : Observed) (bytes : List ℕ) (w : Result Walked Refusal) : Type 0 where
+  pub says : answer_walked w ≡ all_records form h s n from
+  pub observes : IfOk w (λ x. IsHeld (observed_after_all form (records_at s n from) from before) bytes x.noticed)

@@ -1,53 +1,21 @@
-// What a walk over records notices beside the masks, and what it comes to.
-// Uses answer, filed for whether a step went, and the definitions of format.
-ghost use Rattle.std.specs.Prelude.{◌≡◌, false, ◌||◌, not, ◌<◌, length};
-ghost use Rattle.answer.specs.declared.Answer.TheVariants.{Good};
+// What a walk over records notices beside the masks, and what it comes to where it is not refused.
+// Uses filed for whether a step went, and the definitions of format.
+ghost use Rattle.std.specs.Prelude.{◌≡◌, ◌||◌, not, ◌<◌, length};
 ghost use Rattle.format.specs.Filed.{went_at};
 
-use answer::Answer;
-
-// What is held beside the masks: the offset of the first step that row 11 names, 0 where none is, and whether some step did not go.
-#[derive(Clone, Copy)]
+// What is held beside the masks: the offset of the first step that row 11 names, 0 where none is, as in the definitions `held_with` and `first_named`, and whether
+// some step did not go. The default is what is held before any record.
+#[derive(Clone, Copy, Default)]
 pub struct Noticed {
     pub named: usize,
     pub failed: bool,
 }
 
-// What a walk over records comes to: its answer, and what it noticed.
+// What a walk over records comes to: the value of its good answer, and what it noticed.
 #[derive(Clone, Copy)]
 pub struct Walked {
-    pub answer: Answer,
+    pub value: usize,
     pub noticed: Noticed,
-}
-
-// Before any record.
-pub fn nothing_noticed() -> Noticed
-    ensures { result ≡ record { named = 0; failed = false } }
-{
-    Noticed {
-        named: 0,
-        failed: false,
-    }
-}
-
-// A walk that came to a refusal, by which nothing is noticed.
-pub fn stopped(answer: Answer) -> Walked
-    ensures { result ≡ record { answer = answer; noticed = record { named = 0; failed = false } } }
-{
-    Walked {
-        answer,
-        noticed: nothing_noticed(),
-    }
-}
-
-// A walk that came to its end.
-pub fn ended(value: usize, noticed: Noticed) -> Walked
-    ensures { result ≡ record { answer = Good value; noticed = noticed } }
-{
-    Walked {
-        answer: Answer::Good(value),
-        noticed,
-    }
 }
 
 // What is noticed after the step at an offset, by the step that row 11 names then and whether some step before it did not go.

@@ -6,7 +6,7 @@ ghost use Rattle.limits.specs.Limits.{max_records};
 ghost use Rattle.observerecords.specs.Observing.{held_with, CanObserve, RecordObserved, RecordsObserved};
 
 use super::noticed::{Noticed, Walked};
-use answer::Answer;
+use answer::Refusal;
 use reader::Reader;
 use terms::{Head, Sections};
 
@@ -17,7 +17,7 @@ pub fn observe<'a, 'b>(
     h: Sections,
     observed: &'b mut [u8],
     noticed: Noticed,
-) -> Walked
+) -> Result<Walked, Refusal>
     requires { CanObserve h r.src.now r.at observed.old }
     ensures { RecordObserved short h r.entry.src.now r.entry.at (held_with observed.old noticed) observed.new result }
 {
@@ -32,20 +32,14 @@ pub fn observe_from(
     h: Sections,
     observed: &mut [u8],
     noticed: Noticed,
-) -> Walked
+) -> Result<Walked, Refusal>
     requires { CanObserve h s.now at observed.old }
     ensures { RecordObserved short h s.now at (held_with observed.old noticed) observed.new result }
 {
-    observe(
-        reader::moved(reader::new(s), at),
-        short,
-        h,
-        observed,
-        noticed,
-    )
+    observe(Reader::new(s).moved(at), short, h, observed, noticed)
 }
 
-// A number of records, which end the book: each looked over and observed before the next. A good answer is the count of all their steps.
+// A number of records, which end the book: each looked over and observed before the next. The value is the count of all their steps.
 pub fn records(
     s: &[u8],
     short: bool,
@@ -53,32 +47,20 @@ pub fn records(
     n: usize,
     from: usize,
     observed: &mut [u8],
-) -> Walked
+) -> Result<Walked, Refusal>
     requires { CanObserve h s.now from observed.old × (n ≤ max_records) }
     ensures { RecordsObserved short h s.now n from (held_with observed.old (record { named = 0; failed = false })) observed.new result }
 {
-    let mut left = n;
     let mut at = from;
     let mut total: usize = 0;
-    let mut noticed = super::noticed::nothing_noticed();
-    while 0 < left {
-        let w = observe_from(s, at, short, h, observed, noticed);
-        let answer = w.answer;
-        match answer {
-            Answer::Refused(k, p) => {
-                return super::noticed::stopped(Answer::Refused(k, p));
-            }
-            Answer::Good(next) => {
-                let head = Head::read(s, at);
-                noticed = w.noticed;
-                total += head.steps as usize;
-                at = next;
-            }
-        }
-        left -= 1;
+    let mut noticed = Noticed::default();
+    for _ in 0..n {
+        let w = observe_from(s, at, short, h, observed, noticed)?;
+        let head = Head::read(s, at);
+        total += head.steps as usize;
+        noticed = w.noticed;
+        at = w.value;
     }
-    Walked {
-        answer: records::book_end(s, at, total),
-        noticed,
-    }
+    let value = records::book_end(s, at, total)?;
+    Ok(Walked { value, noticed })
 }

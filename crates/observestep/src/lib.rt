@@ -3,7 +3,7 @@
 // answer, limits, and where the sets stand from observed; the contracts cite observed, format and states, and specs/Notes.antt for the parts.
 #![tactic(auto)]
 
-ghost use Rattle.std.specs.Prelude.{◌≡◌, ℕ, ◌+◌, ◌≤◌, length};
+ghost use Rattle.std.specs.Prelude.{◌≡◌, ◌+◌, ◌≤◌, IfOk, length};
 ghost use Rattle.limits.specs.Limits.{max_length, max_moves, step_size, set_size, observed_size};
 ghost use Rattle.mask.specs.Sets.{difference, empty, cardinality};
 ghost use Rattle.terms.specs.Schema.{schema};
@@ -11,13 +11,14 @@ ghost use Rattle.format.specs.Filed.{filed_step_at};
 ghost use Rattle.format.specs.Lists.{list_at, list_end};
 ghost use Rattle.format.specs.Form.{full};
 ghost use Rattle.observed.specs.Observed.{noted, nothing_seen, first_named};
-ghost use Rattle.answer.specs.declared.Answer.TheVariants.{Good};
+ghost use Rattle.answer.specs.Refusal.{answer_by};
 ghost use Rattle.states.specs.Looked.{ListLooked};
 ghost use Rattle.lifting.specs.Pairs.{no_digits};
 ghost use Rattle.stepmasks.specs.Marks.{Suited, RightForFew};
 ghost use Rattle.observestep.specs.Notes.{narrowed, widened, observed_step, IsObserved, first_sets, StepTurnable, TurnObserved};
 
-use answer::Answer;
+use answer::Refusal;
+use observed::SeenSet;
 use terms::{Move, Sections};
 
 // ---- after a step: its sets come by value, so that they share no memory with what is observed. Where a set ends is given: were it computed here, the
@@ -51,12 +52,12 @@ fn note(observed: &mut [u8], a: Move, before: [u8; 32], after: [u8; 32])
     requires { (1 ≤ a.0) × (a.0 ≤ max_moves) × (length observed.old ≡ observed_size) }
     ensures { observed.new ≡ noted a.0 before after observed.old }
 {
-    let always_before = observed::set_at(a, observed::ALWAYS_BEFORE);
-    let ever_before = observed::set_at(a, observed::EVER_BEFORE);
-    let always_after = observed::set_at(a, observed::ALWAYS_AFTER);
-    let ever_after = observed::set_at(a, observed::EVER_AFTER);
-    let added = observed::set_at(a, observed::ADDED);
-    let deleted = observed::set_at(a, observed::DELETED);
+    let always_before = observed::set_at(a, SeenSet::AlwaysBefore);
+    let ever_before = observed::set_at(a, SeenSet::EverBefore);
+    let always_after = observed::set_at(a, SeenSet::AlwaysAfter);
+    let ever_after = observed::set_at(a, SeenSet::EverAfter);
+    let added = observed::set_at(a, SeenSet::Added);
+    let deleted = observed::set_at(a, SeenSet::Deleted);
     narrow(
         observed,
         always_before,
@@ -80,7 +81,8 @@ fn note(observed: &mut [u8], a: Move, before: [u8; 32], after: [u8; 32])
     widen_by_change(observed, deleted, after, before);
 }
 
-// The offset of the first step that row 11 names, 0 for none: `named` of the steps before, and the step at `at` if it is `unbound`.
+// The offset of the first step that row 11 names: `named` of the steps before, and the step at `at` if it is `unbound`. No Option: the definition, which
+// callers' contracts cite, has 0 for none.
 fn first_named(named: usize, unbound: bool, at: usize) -> usize
     ensures { result ≡ first_named named unbound at }
 {
@@ -93,11 +95,11 @@ fn first_named(named: usize, unbound: bool, at: usize) -> usize
     0
 }
 
-// A step read once: row 8 of the list behind it and, where that is good, the offset of the first step that row 11 names, 0 for none, and in a short
-// book how many facts hold after it.
+// What is noted of a step whose list is good: where the list ends, the offset of the first step that row 11 names (`first_named`, 0 for none), and in a
+// short book how many facts hold after it.
 #[derive(Clone, Copy)]
 pub struct Noted {
-    pub answer: Answer,
+    pub next: usize,
     pub named: usize,
     pub count: usize,
 }
@@ -112,19 +114,19 @@ pub fn observe(
     t: &mut [u8],
     observed: &mut [u8],
     named: usize,
-) -> Noted
+) -> Result<Noted, Refusal>
     requires masks { (pre ≤ max_length) × (at ≤ max_length) × (length observed.old ≡ observed_size) × (t.old ≡ no_digits) }
     requires bound { (1 ≤ (filed_step_at s.now at).action.0) × ((filed_step_at s.now at).action.0 ≤ max_moves) × Suited table.now (list_at s.now pre) }
     requires lists_within { (list_end s.now pre ≤ length s.now) × (list_end s.now (at + step_size) ≤ length s.now) }
-    ensures list_looked { ListLooked s.now table.now (at + step_size) result.answer × (result.count ≡ 0) }
-    ensures good { (k : ℕ) → result.answer ≡ Good k → (t.new ≡ no_digits) × IsObserved (observed_step full s.now (list_at s.now pre) at observed.old named) observed.new result.named }
+    ensures list_looked { ListLooked s.now table.now (at + step_size) (answer_by (λ m. m.next) result) }
+    ensures good { IfOk result (λ m. (m.count ≡ 0) × (t.new ≡ no_digits) × IsObserved (observed_step full s.now (list_at s.now pre) at observed.old named) observed.new m.named) }
 {
     let step = filed::read_step(s, at);
     let post = at + limits::STEP_SIZE;
-    let bound = observed::set_at(step.action, observed::BOUND);
+    let bound = observed::set_at(step.action, SeenSet::Bound);
     let end = bound + limits::SET_SIZE;
-    let mut before = mask::empty32();
-    let mut after = mask::empty32();
+    let mut before = mask::empty();
+    let mut after = mask::empty();
     let sight = stepmasks::mark_step(
         s,
         table,
@@ -135,14 +137,13 @@ pub fn observe(
         post,
         &mut before,
         &mut after,
-    );
+    )?;
     note(observed, step.action, before, after);
-    let answer = sight.answer;
-    Noted {
-        answer,
+    Ok(Noted {
+        next: sight.next,
         named: first_named(named, sight.unbound, at),
         count: 0,
-    }
+    })
 }
 
 // What is observed of a short book after the step at `at`. `state` is the mask of the state before the step, in which `held` facts hold, and the
@@ -157,16 +158,16 @@ pub fn observe_turned(
     held: usize,
     observed: &mut [u8],
     named: usize,
-) -> Noted
+) -> Result<Noted, Refusal>
     requires { StepTurnable h s.now at state.old observed.old × (t.old ≡ no_digits) × (held ≡ cardinality state.old) × RightForFew table.now }
-    ensures list_looked { ListLooked s.now table.now (at + step_size) result.answer }
-    ensures good { (k : ℕ) → result.answer ≡ Good k → (t.new ≡ no_digits) × TurnObserved (schema h s.now) (filed_step_at s.now at) (list_at s.now (at + step_size)) at observed.old named observed.new result.named state.old state.new × (result.count ≡ cardinality state.new) }
+    ensures list_looked { ListLooked s.now table.now (at + step_size) (answer_by (λ m. m.next) result) }
+    ensures good { IfOk result (λ m. (t.new ≡ no_digits) × TurnObserved (schema h s.now) (filed_step_at s.now at) (list_at s.now (at + step_size)) at observed.old named observed.new m.named state.old state.new × (m.count ≡ cardinality state.new)) }
 {
     let step = filed::read_step(s, at);
     let list = at + limits::STEP_SIZE;
-    let bound = observed::set_at(step.action, observed::BOUND);
+    let bound = observed::set_at(step.action, SeenSet::Bound);
     let end = bound + limits::SET_SIZE;
-    let mut before = mask::empty32();
+    let mut before = mask::empty();
     grounding::mark_held(
         s,
         h,
@@ -186,14 +187,13 @@ pub fn observe_turned(
         state,
         held,
         &mut after,
-    );
+    )?;
     note(observed, step.action, before, after);
-    let answer = turned.answer;
-    Noted {
-        answer,
+    Ok(Noted {
+        next: turned.next,
         named: first_named(named, turned.unbound, at),
         count: turned.count,
-    }
+    })
 }
 
 // ---- before any record
@@ -203,9 +203,9 @@ fn first_sets(observed: &mut [u8], a: Move, atoms: [u8; 32])
     requires { (1 ≤ a.0) × (a.0 ≤ max_moves) × (length observed.old ≡ observed_size) }
     ensures { observed.new ≡ first_sets a.0 atoms observed.old }
 {
-    let before = observed::set_at(a, observed::ALWAYS_BEFORE);
-    let after = observed::set_at(a, observed::ALWAYS_AFTER);
-    let bound = observed::set_at(a, observed::BOUND);
+    let before = observed::set_at(a, SeenSet::AlwaysBefore);
+    let after = observed::set_at(a, SeenSet::AlwaysAfter);
+    let bound = observed::set_at(a, SeenSet::Bound);
     widen(observed, before, before + limits::SET_SIZE, atoms);
     widen(observed, after, after + limits::SET_SIZE, atoms);
     widen(observed, bound, bound + limits::SET_SIZE, atoms);
@@ -216,11 +216,8 @@ pub fn nothing_seen(book: &[u8], h: Sections, observed: &mut [u8])
     requires { (observed.old ≡ empty observed_size) × (h.moves.count ≤ max_moves) }
     ensures { observed.new ≡ (nothing_seen (schema h book.now)).masks }
 {
-    let count = h.moves.count as usize;
-    let mut i = 0;
-    while i < count {
-        let a = Move((i + 1) as u8);
+    for i in 0..h.moves.count as u8 {
+        let a = Move(i + 1);
         first_sets(observed, a, atoms::atom_set(book, h, a));
-        i += 1;
     }
 }

@@ -9,9 +9,7 @@ use mathlib.Core.List.{List, [], ◌∷◌, ◌++◌}
 use lib.Dec.{eqb}
 use lib.ListN.{length, get_or, length-append, get_or-append}
 use lib.Seq.{take_at, get_or-append-add}
-use Rattle.answer.specs.declared.Answer.{Answer}
-use Rattle.answer.specs.declared.Answer.TheVariants.{Good}
-use Rattle.answer.specs.Answer.{◌>>=◌}
+use Rattle.answer.specs.Answer.{Answer, Good, ◌>>=◌}
 use Rattle.truth.specs.Bools.{decide}
 use Rattle.answer.proofs.Laws.{parted}
 use Rattle.input.specs.Bytes.{byte_at, two}

@@ -2,9 +2,7 @@
 use Prim.Native.Nat.{ℕ, suc, ◌+◌}
 use mathlib.Core.Path.{◌≡◌, refl, ap, ap₂, ◌∙◌}
 use mathlib.Core.List.{List, []}
-use Rattle.answer.specs.declared.Answer.{Answer}
-use Rattle.answer.specs.declared.Answer.TheVariants.{Good}
-use Rattle.answer.specs.Answer.{◌>>=◌}
+use Rattle.answer.specs.Answer.{Answer, Good, ◌>>=◌}
 use Rattle.answer.specs.Walk.{walk}
 use Rattle.answer.proofs.Walks.{walk_induction}
 use Rattle.terms.specs.declared.Sections.{Sections}

@@ -4,7 +4,7 @@ use mathlib.Core.Path.{◌≡◌, sym, ap, ◌∙◌}
 use mathlib.Core.Bool.{Bool, false, ◌&&◌, ◌||◌}
 use mathlib.Core.List.{List}
 use lib.Dec.{eqb}
-use Rattle.answer.specs.declared.Answer.TheVariants.{Good}
+use Rattle.answer.specs.Answer.{Good}
 use Rattle.limits.specs.Limits.{observed_size, observed_sets, max_atoms}
 use Rattle.mask.proofs.Whole.{mask_of_same}
 use Rattle.terms.specs.declared.Sections.{Sections}

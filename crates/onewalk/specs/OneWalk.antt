@@ -4,9 +4,7 @@
 -- The sections are in what is held: one of the seven sets of each move (observed/specs/Observed.antt).
 use Rattle.std.specs.Prelude.{ℕ, suc, ◌+◌, ◌≤◌, ◌<◌, ◌≡◌, false, cond, not, length, take, eqb}
 use mathlib.Core.List.{List, [], ◌∷◌, ◌++◌, flatten}
-use Rattle.answer.specs.declared.Answer.{Answer}
-use Rattle.answer.specs.declared.Answer.TheVariants.{Good}
-use Rattle.answer.specs.Answer.{◌>>=◌}
+use Rattle.answer.specs.Answer.{Answer, Good, ◌>>=◌}
 use Rattle.input.specs.Bytes.{byte_at, two}
 use Rattle.output.specs.Written.{two_bytes}
 use Rattle.limits.specs.Limits.{observed_size, max_held}

@@ -4,6 +4,7 @@
 #![tactic(auto)]
 
 ghost use Rattle.std.specs.Prelude.{◌≡◌, ◌+◌, ◌*◌, ◌≤◌, length};
+ghost use Rattle.answer.specs.Refusal.{answer_of};
 ghost use Rattle.answer.specs.Walk.{walk};
 ghost use Rattle.terms.specs.Schema.{schema, typed_objects};
 ghost use Rattle.terms.specs.Facts.{no_fact};
@@ -15,69 +16,50 @@ ghost use Rattle.format.specs.Order.{object_count, start_count, goal_count, step
 ghost use Rattle.format.specs.Order.{order_object, starts_form, entries, plan_step_bad, plan_step, from_goal, from_start, order_form};
 ghost use Rattle.tables.specs.Tables.{ForRightByKind, ForRightByPlace, RightForSome, RightFrom};
 
-use answer::Answer;
+use answer::{Reason, Refusal};
 use states::FactCursor;
 use terms::{Sections, Step};
 
 // Row 15 of each object.
-fn objects(o: &[u8], kinds: u16) -> Answer
-    ensures { result ≡ walk (order_object kinds o.now) (object_count o.now) header_size }
+fn objects(o: &[u8], kinds: u16) -> Result<usize, Refusal>
+    ensures { answer_of result ≡ walk (order_object kinds o.now) (object_count o.now) header_size }
 {
-    let mut left = orderhead::object_count(o);
-    let mut at = limits::HEADER_SIZE;
-    while 0 < left {
-        if terms::out_of_range(kinds, input::byte_at(o, at) as u16) {
-            return Answer::Refused(15, at);
-        }
-        at += 1;
-        left -= 1;
-    }
-    Answer::Good(at)
+    let n = orderhead::object_count(o) as usize;
+    answer::walk_entries(Reason::OrderObject, 1, n, limits::HEADER_SIZE, |at| {
+        terms::out_of_range(kinds, input::byte_at(o, at) as u16)
+    })
 }
 
 // Row 16 of each start, which is looked at as a state of a book is: where the last one ends.
-fn starts(o: &[u8], table: &[u32; 512]) -> Answer
+fn starts(o: &[u8], table: &[u32; 512]) -> Result<usize, Refusal>
     requires { (goal_at o.now ≤ length o.now) × RightForSome table.now }
-    ensures { ForRightByPlace table.now (λ sch ob. result ≡ walk (state as_written 16 sch ob o.now (goal_at o.now)) (start_count o.now) (start_at o.now)) }
+    ensures { ForRightByPlace table.now (λ sch ob. answer_of result ≡ walk (state as_written 16 sch ob o.now (goal_at o.now)) (start_count o.now) (start_at o.now)) }
 {
     let end = orderhead::goal_at(o);
-    let mut left = orderhead::start_count(o);
     let mut at = orderhead::start_at(o);
-    while 0 < left {
-        match states::state(16, o, table, end, at) {
-            Answer::Refused(k, p) => {
-                return Answer::Refused(k, p);
-            }
-            Answer::Good(next) => {
-                at = next;
-            }
-        }
-        left -= 1;
+    for _ in 0..orderhead::start_count(o) {
+        at = states::state(o, table, end, at).map_err(|wrong| Reason::Start.at(wrong.0))?;
     }
-    Answer::Good(at)
+    Ok(at)
 }
 
 // Row 16: the starts, and no bytes left before the goal entries.
-fn starts_form(o: &[u8], table: &[u32; 512]) -> Answer
+fn starts_form(o: &[u8], table: &[u32; 512]) -> Result<usize, Refusal>
     requires { (goal_at o.now ≤ length o.now) × RightForSome table.now }
-    ensures { ForRightByPlace table.now (λ sch ob. result ≡ starts_form sch ob o.now) }
+    ensures { ForRightByPlace table.now (λ sch ob. answer_of result ≡ starts_form sch ob o.now) }
 {
-    let walked = starts(o, table);
-    if answer::is_refused(walked) {
-        return walked;
-    }
-    let last = answer::value_of(walked);
+    let last = starts(o, table)?;
     let end = orderhead::goal_at(o);
     if last < end {
-        return Answer::Refused(16, last);
+        return Err(Reason::Start.at(last));
     }
-    Answer::Good(end)
+    Ok(end)
 }
 
 // Row 17 of each goal entry: a byte, then a fact, by the cursor that looks at a state's.
-fn goal(o: &[u8], table: &[u32; 512]) -> Answer
+fn goal(o: &[u8], table: &[u32; 512]) -> Result<usize, Refusal>
     requires { steps_at o.now ≤ length o.now }
-    ensures { ForRightByPlace table.now (λ sch ob. result ≡ entries sch ob o.now (goal_count o.now) no_fact (goal_at o.now)) }
+    ensures { ForRightByPlace table.now (λ sch ob. answer_of result ≡ entries sch ob o.now (goal_count o.now) no_fact (goal_at o.now)) }
 {
     let mut c = FactCursor::new(
         limits::ENTRY_SIZE,
@@ -87,14 +69,15 @@ fn goal(o: &[u8], table: &[u32; 512]) -> Answer
     while 0 < c.left {
         let wanted = input::byte_at(o, c.at);
         if (1 < wanted) | c.bad(o, table) {
-            return Answer::Refused(17, c.at);
+            return Err(Reason::GoalEntry.at(c.at));
         }
         c = c.next(o);
     }
-    Answer::Good(c.at)
+    Ok(c.at)
 }
 
 // Row 18, of the step at an offset.
+#[tactic(auto, unfolding(tables::specs::Tables::ForRightByKind, format::specs::Order::plan_step_bad))]
 fn step_bad(book: &[u8], h: Sections, kinds: &[u32; 256], o: &[u8], at: usize) -> bool
     requires { (at ≤ far_ceiling) × (at + step_size ≤ length o.now) }
     ensures { ForRightByKind (schema h book.now) kinds.now (λ ob. result ≡ plan_step_bad (schema h book.now) ob o.now at) }
@@ -104,59 +87,51 @@ fn step_bad(book: &[u8], h: Sections, kinds: &[u32; 256], o: &[u8], at: usize) -
 }
 
 // Row 18 of each plan step.
-fn plan(book: &[u8], h: Sections, kinds: &[u32; 256], o: &[u8]) -> Answer
+fn plan(book: &[u8], h: Sections, kinds: &[u32; 256], o: &[u8]) -> Result<usize, Refusal>
     requires { steps_at o.now + step_size * step_count o.now ≤ length o.now }
-    ensures { ForRightByKind (schema h book.now) kinds.now (λ ob. result ≡ walk (plan_step (schema h book.now) ob o.now) (step_count o.now) (steps_at o.now)) }
+    ensures { ForRightByKind (schema h book.now) kinds.now (λ ob. answer_of result ≡ walk (plan_step (schema h book.now) ob o.now) (step_count o.now) (steps_at o.now)) }
 {
-    let mut left = orderhead::step_count(o);
-    let mut at = orderhead::steps_at(o);
-    while 0 < left {
-        if step_bad(book, h, kinds, o, at) {
-            return Answer::Refused(18, at);
-        }
-        at += limits::STEP_SIZE;
-        left -= 1;
-    }
-    Answer::Good(at)
+    let n = orderhead::step_count(o) as usize;
+    answer::walk_entries(
+        Reason::PlanStep,
+        limits::STEP_SIZE,
+        n,
+        orderhead::steps_at(o),
+        |at| step_bad(book, h, kinds, o, at),
+    )
 }
 
 // Rows 17 and 18.
-fn from_goal(book: &[u8], h: Sections, kinds: &[u32; 256], table: &[u32; 512], o: &[u8]) -> Answer
+fn from_goal(
+    book: &[u8],
+    h: Sections,
+    kinds: &[u32; 256],
+    table: &[u32; 512],
+    o: &[u8],
+) -> Result<usize, Refusal>
     requires { RightFrom (schema h book.now) kinds.now table.now × (steps_at o.now + step_size * step_count o.now ≤ length o.now) }
-    ensures { ForRightByKind (schema h book.now) kinds.now (λ ob. result ≡ from_goal (schema h book.now) ob o.now) }
+    ensures { ForRightByKind (schema h book.now) kinds.now (λ ob. answer_of result ≡ from_goal (schema h book.now) ob o.now) }
 {
-    let wanted = goal(o, table);
-    if answer::is_refused(wanted) {
-        return wanted;
-    }
+    goal(o, table)?;
     plan(book, h, kinds, o)
 }
 
 // Rows 16 to 18: the sections after the objects, by the tables of these. Goal entries are looked at after good starts.
-fn from_start(book: &[u8], h: Sections, o: &[u8]) -> Answer
+fn from_start(book: &[u8], h: Sections, o: &[u8]) -> Result<usize, Refusal>
     requires { (object_count o.now ≤ max_objects) × (steps_at o.now + step_size * step_count o.now ≤ length o.now) }
-    ensures { result ≡ from_start (schema h book.now) (typed_objects (order_objects o.now) o.now) o.now }
+    ensures { answer_of result ≡ from_start (schema h book.now) (typed_objects (order_objects o.now) o.now) o.now }
 {
     let kinds = tables::kinds_of(book, h, o, orderhead::objects_of(o));
     let table = tables::table_of(book, h, &kinds);
-    let begun = starts_form(o, &table);
-    if answer::is_refused(begun) {
-        return begun;
-    }
+    starts_form(o, &table)?;
     from_goal(book, h, &kinds, &table, o)
 }
 
 // Rows 14 to 18 in order: where the order ends, or the first refusal met.
-pub fn order_form(book: &[u8], h: Sections, o: &[u8]) -> Answer
-    ensures { result ≡ order_form (schema h book.now) o.now }
+pub fn order_form(book: &[u8], h: Sections, o: &[u8]) -> Result<usize, Refusal>
+    ensures { answer_of result ≡ order_form (schema h book.now) o.now }
 {
-    let head = orderhead::header(o);
-    if answer::is_refused(head) {
-        return head;
-    }
-    let listed = objects(o, h.kinds);
-    if answer::is_refused(listed) {
-        return listed;
-    }
+    orderhead::header(o)?;
+    objects(o, h.kinds)?;
     from_start(book, h, o)
 }

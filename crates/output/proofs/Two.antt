@@ -1,6 +1,6 @@
 -- A two-byte number written: as two stores, the other bytes, and the number read.
 use Prim.Native.Nat.{ℕ, ◌+◌, ◌/◌, ◌%◌, ◌≤◌, ◌<◌}
-use mathlib.Core.Path.{◌≡◌, refl, ◌∙◌}
+use mathlib.Core.Path.{◌≡◌, refl, ap₂, ◌∙◌}
 use mathlib.Core.List.{List, [], ◌∷◌}
 use native.Mathlib.Numerals.{add-one}
 use native.Mathlib.Omega.{arith}
@@ -14,8 +14,12 @@ pub length_two : (n : ℕ) → length (two_bytes n) ≡ 2
 unfolding two_bytes
 length_two n = refl
 
--- two stores are a two-byte number written
-pub two_written : (d : List ℕ) (at n : ℕ) → at + 2 ≤ length d → set (set d at (n / 256 % 256)) (at + 1) (n % 256) ≡ written d at (two_bytes n)
+-- it has the bytes of what the number leaves over 65536
+pub last_two : (n : ℕ) → n % 65536 / 256 % 256 ∷ n % 65536 % 256 ∷ [] ≡ two_bytes n
+unfolding two_bytes
+last_two n = ap₂ (λ (hi lo : ℕ). hi ∷ lo ∷ []) (omega arith) (omega arith)
+
+two_written : (d : List ℕ) (at n : ℕ) → at + 2 ≤ length d → set (set d at (n / 256 % 256)) (at + 1) (n % 256) ≡ written d at (two_bytes n)
 unfolding written two_bytes
 two_written d at n h = rw add-one (sets-eq (n / 256 % 256 ∷ n % 256 ∷ []) d at h)
 

@@ -8,17 +8,14 @@ pub fn write_bytes(part: &mut [u8], at: usize, bytes: &[u8])
     requires { at + length bytes.now ≤ length part.old }
     ensures { part.new ≡ written part.old at bytes.now }
 {
-    let mut i = 0;
-    while i < bytes.len() {
-        part[at + i] = bytes[i];
-        i += 1;
-    }
+    let end = at + bytes.len();
+    part[at..end].copy_from_slice(bytes);
 }
 
+// The number's last two bytes, high byte first.
 pub fn write_two(part: &mut [u8], at: usize, n: usize)
     requires { at + 2 ≤ length part.old }
     ensures { part.new ≡ written part.old at (two_bytes n) }
 {
-    part[at] = (n / 256 % 256) as u8;
-    part[at + 1] = (n % 256) as u8;
+    write_bytes(part, at, &((n % 65536) as u16).to_be_bytes());
 }

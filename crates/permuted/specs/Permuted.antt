@@ -2,7 +2,7 @@
 -- sheet, the same answers apart from the places of 11 and 28, and the same verdicts (`SameAnswers`). Of each form; both books are of the form given.
 use Rattle.std.specs.Prelude.{ℕ, ◌≡◌}
 use mathlib.Core.List.{List, ◌++◌, flatten, Permᴰ}
-use Rattle.answer.specs.declared.Answer.TheVariants.{Good}
+use Rattle.answer.specs.Answer.{Good}
 use Rattle.format.specs.Form.{Form}
 use Rattle.format.specs.LookOver.{look_over}
 use Rattle.format.specs.Parts.{sections_part, records_of}

@@ -2,17 +2,18 @@
 // Uses checker for the answer, whose position is not printed, lines for the text, which is proved to be jobs' plan_printed of what was read, and streams to write it.
 #![tactic(auto)]
 
-ghost use Rattle.std.specs.Prelude.{◌≡◌, take};
+ghost use Rattle.std.specs.Prelude.{◌≡◌};
 ghost use Rattle.io.specs.Counts.{IsPrefixLen};
-ghost use Rattle.answer.specs.declared.Answer.TheVariants.{Good};
+ghost use Rattle.answer.specs.Refusal.{positioned_of};
 ghost use Rattle.jobs.specs.Listing.{plan_line, plan_printed};
 
-use answer::Answer;
+use answer::CheckRefusal;
+use lines::Text;
 use std::fs::File;
 use std::rt::Files;
 use std::time::Clock;
 
-// A file that can't be read counts as empty.
+// A file that can't be read counts as empty. A length, as streams::read answers: `main`, which stays as it is, takes the part of `bytes` itself.
 fn load<R: Files + Clock>(rt: &R, path: &str, bytes: &mut [u8]) -> usize
     ensures { IsPrefixLen result bytes.new }
 {
@@ -22,36 +23,36 @@ fn load<R: Files + Clock>(rt: &R, path: &str, bytes: &mut [u8]) -> usize
     }
 }
 
-fn passes_line(steps: usize, line: &mut [u8; 128]) -> usize
-    ensures { IsPrefixLen result line.new × (take result line.new ≡ plan_line (Good steps)) }
+// The line does not say which start of the order a refusal is about.
+#[tactic(auto, unfolding(jobs::specs::Listing::plan_line))]
+fn answer_line(checked: Result<usize, CheckRefusal>) -> Text<128>
+    ensures { result ≡ plan_line (positioned_of checked).answer }
 {
-    let a = lines::put(line, 0, b"passes ");
-    let b = lines::put_decimal(line, a, steps);
-    lines::put(line, b, b"\n")
-}
-
-fn answer_line(a: Answer, line: &mut [u8; 128]) -> usize
-    ensures { IsPrefixLen result line.new × (take result line.new ≡ plan_line a) }
-{
-    match a {
-        Answer::Good(steps) => passes_line(steps, line),
-        Answer::Refused(number, place) => lines::refused_line(number, place, line),
+    let mut text = Text::new();
+    match checked {
+        Ok(steps) => {
+            text.put(b"passes ");
+            text.put_decimal(steps);
+            text.put(b"\n");
+        }
+        Err(CheckRefusal::BeforeStarts(refusal) | CheckRefusal::AtStart(_, refusal)) => {
+            lines::refused_line(refusal.reason.number(), refusal.place, &mut text)
+        }
     }
+    text
 }
 
-fn plan_line(book: &[u8], order: &[u8], line: &mut [u8; 128]) -> usize
-    ensures { IsPrefixLen result line.new × (take result line.new ≡ plan_printed book.now order.now) }
+#[tactic(auto, unfolding(jobs::specs::Listing::plan_printed))]
+fn plan_line(book: &[u8], order: &[u8]) -> Text<128>
+    ensures { result ≡ plan_printed book.now order.now }
 {
     let mut end = [0u8; limits::END_SHEET_SIZE];
-    let r = checker::check(book, false, order, &mut end);
-    let a = r.answer;
-    answer_line(a, line)
+    answer_line(checker::check(book, false, order, &mut end))
 }
 
 fn print_plan<R: Clock + Print, E: Print>(rt: &R, errors: &E, book: &[u8], order: &[u8]) {
-    let mut line = [0u8; 128];
-    let size = plan_line(book, order, &mut line);
-    streams::print(rt, errors, &line[..size], b"plan: standard output");
+    let text = plan_line(book, order);
+    streams::print(rt, errors, text.as_slice(), b"plan: standard output");
 }
 
 // One byte more than a book may have is read of each file, and no further.

@@ -7,9 +7,7 @@ use mathlib.Core.List.{List, []}
 use lib.Dec.{ltb}
 use lib.ListN.{length}
 use Rattle.limits.specs.Limits.{max_length, max_facts, step_size, state_size, near_ceiling}
-use Rattle.answer.specs.declared.Answer.{Answer}
-use Rattle.answer.specs.declared.Answer.TheVariants.{Good, Refused}
-use Rattle.answer.specs.Answer.{is_refused}
+use Rattle.answer.specs.Answer.{Answer, Good, Refused, is_refused}
 use Rattle.mask.specs.Sets.{empty, cardinality}
 use Rattle.terms.specs.declared.Fact.{Fact}
 use Rattle.terms.specs.Schema.{schema, typed_objects}

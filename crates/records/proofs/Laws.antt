@@ -4,14 +4,15 @@ use Prim.Native.Nat.{ℕ, zero, suc, ◌+◌, ◌-◌, ◌≤◌, ◌<◌}
 use mathlib.Core.Path.{◌≡◌, refl, sym, ◌∙◌}
 use mathlib.Core.Bool.{Bool, true, false}
 use mathlib.Core.List.{List}
-use lib.Dec.{eqb}
+use Rattle.std.proofs.Common.{Result, Ok, Err}
 use lib.ListN.{length}
 use native.Mathlib.Numerals.{sub-one}
 use native.Mathlib.Omega.{arith}
-use borrow.Author.Tests.{lt-ltb, le-ltb}
-use Rattle.answer.specs.declared.Answer.{Answer}
-use Rattle.answer.specs.declared.Answer.TheVariants.{Good, Refused}
-use Rattle.answer.specs.Answer.{is_refused, value_of}
+use borrow.Author.Tests.{lt-ltb, le-ltb, eq-eqb, ne_eqb}
+use Rattle.answer.specs.Answer.{Answer, Good, Refused, is_refused, value_of}
+use Rattle.answer.specs.declared.Refusal.{Refusal}
+use Rattle.answer.specs.Refusal.{refused_by, answer_of}
+use Rattle.answer.proofs.Results.{part_err, part_ok}
 use Rattle.answer.proofs.Laws.{refuse_met, refuse_unmet, bind_good, bind_refused}
 use Rattle.answer.specs.Walk.{walk}
 use Rattle.terms.specs.declared.Sections.{Sections}
@@ -69,18 +70,19 @@ module _ (form : Form) (h : Sections) (s : List ℕ) (at end : ℕ) (head : Head
       (λ first. closed at end (trajectory form (schema h s) (typed_objects (objects_of s at) s) s end (steps_in s at) first))
       a b v (rw (objects_at, read) at p) q r u)
 
-module _ (at end : ℕ) (a : Answer) (b : Bool) where
-  pub closed_stays : b ≡ is_refused a → b ≡ true → a ≡ closed at end a
+-- what a record answers, by what its trajectory's call returned
+module _ (at end : ℕ) (r : Result ℕ Refusal) where
+  pub closed_stays : (e : Refusal) → r ≡ Err e → refused_by e ≡ closed at end (answer_of r)
   unfolding closed
-  closed_stays q r = part_stays a _ a b refl q r
+  closed_stays e p = part_err _ r refl _ e p
 
-  pub closed_left : (v : ℕ) → b ≡ is_refused a → b ≡ false → v ≡ value_of a → v < end → Refused 6 at ≡ closed at end a
+  pub closed_left : (last : ℕ) → r ≡ Ok last → last < end → Refused 6 at ≡ closed at end (answer_of r)
   unfolding closed
-  closed_left v q r u l = sym (sym (part_follows a _ a b v refl q r u) ∙ refuse_met _ _ _ _ (lt-ltb _ _ l))
+  closed_left last p l = sym (part_ok _ r refl _ last p ∙ refuse_met _ _ _ _ (lt-ltb _ _ l))
 
-  pub closed_good : (v : ℕ) → b ≡ is_refused a → b ≡ false → v ≡ value_of a → end ≤ v → Good end ≡ closed at end a
+  pub closed_good : (last : ℕ) → r ≡ Ok last → end ≤ last → Good end ≡ closed at end (answer_of r)
   unfolding closed
-  closed_good v q r u l = sym (sym (part_follows a _ a b v refl q r u) ∙ refuse_unmet _ _ _ _ (le-ltb _ _ l))
+  closed_good last p l = sym (part_ok _ r refl _ last p ∙ refuse_unmet _ _ _ _ (le-ltb _ _ l))
 
 -- a head
 module _ (s : List ℕ) (at : ℕ) (b : Bool) (is : b ≡ head_bad s at) where
@@ -89,13 +91,13 @@ module _ (s : List ℕ) (at : ℕ) (b : Bool) (is : b ≡ head_bad s at) where
   head_refused e = sym (refuse_met _ _ _ _ (sym is ∙ e))
 
   module _ (head : Head) (read : head ≡ head_of s at) (right : b ≡ false) where
-    pub head_stepless : eqb head.steps 0 ≡ true → Refused 24 at ≡ record_head s at
+    pub head_stepless : head.steps ≡ 0 → Refused 24 at ≡ record_head s at
     unfolding record_head head_of objects_in steps_in length_in
-    head_stepless e = sym (refuse_unmet _ _ _ _ (sym is ∙ right) ∙ refuse_met _ _ _ _ (rw read at e))
+    head_stepless e = sym (refuse_unmet _ _ _ _ (sym is ∙ right) ∙ refuse_met _ _ _ _ (rw read at (eq-eqb _ _ e)))
 
-    pub head_right : eqb head.steps 0 ≡ false → Good (at + head.length) ≡ record_head s at
+    pub head_right : (head.steps ≡ 0 → ⊥) → Good (at + head.length) ≡ record_head s at
     unfolding record_head head_of objects_in steps_in length_in
-    head_right e = rw read (sym (refuse_unmet _ _ _ _ (sym is ∙ right) ∙ refuse_unmet _ _ _ _ (rw read at e)))
+    head_right e = rw read (sym (refuse_unmet _ _ _ _ (sym is ∙ right) ∙ refuse_unmet _ _ _ _ (rw read at (ne_eqb _ _ e))))
 
 -- a record, by its head
 module _ (form : Form) (h : Sections) (s : List ℕ) where

@@ -4,20 +4,17 @@ use Prim.Native.Nat.{ℕ, zero, suc, ◌+◌, ◌-◌, ◌≤◌, ◌<◌}
 use native.Mathlib.Numerals.{sub-one}
 use native.Mathlib.Omega.{arith}
 use mathlib.Core.Path.{◌≡◌, refl, sym, ap, ◌∙◌}
-use mathlib.Core.Bool.{Bool, true, false, ◌||◌}
+use mathlib.Core.Bool.{Bool, true, false}
 use mathlib.Core.List.{List}
 use lib.Dec.{ltb}
 use lib.ListN.{length}
 use borrow.Author.Tests.{ltb-false, lt-ltb, le-ltb}
-use Rattle.answer.specs.declared.Answer.{Answer}
-use Rattle.answer.specs.declared.Answer.TheVariants.{Good, Refused}
-use Rattle.answer.specs.Answer.{◌>>=◌, refuse, is_refused, value_of}
+use Rattle.answer.specs.Answer.{Answer, Good, Refused, ◌>>=◌, refuse, is_refused, value_of}
 use Rattle.truth.specs.Bools.{neither}
 use Rattle.answer.proofs.Laws.{refuse_met, refuse_unmet, bind_good, bind_refused, passed, parted}
-use Rattle.input.specs.Bytes.{byte_at}
 use Rattle.terms.specs.declared.Fact.{Fact}
 use Rattle.terms.specs.declared.Step.{Step}
-use Rattle.terms.specs.Schema.{Schema, TypedObjects, out_of_range}
+use Rattle.terms.specs.Schema.{Schema, TypedObjects}
 use Rattle.terms.specs.Steps.{step_bad, repeats}
 use Rattle.limits.specs.Limits.{step_size, max_facts}
 use Rattle.format.specs.Lists.{list_at}
@@ -60,14 +57,6 @@ unfolding ◌>>=◌ refuse
 rows_after (Good n) true at changes = refl
 rows_after (Good n) false at changes = refl
 rows_after (Refused k p) many at changes = refl
-
--- row 7, as the code meets it
-pub object_bad_by : (kinds : ℕ) (s : List ℕ) (end at x : ℕ) (b : Bool)
-    → x ≡ byte_at s at
-    → b ≡ out_of_range kinds x
-    → (ltb end (at + 1) || b) ≡ (cut end at 1 || out_of_range kinds (byte_at s at))
-unfolding cut
-object_bad_by kinds s end at x b p q = rw (q, p)
 
 module _ (sch : Schema) (ob : TypedObjects) (s : List ℕ) (end : ℕ) where
   -- row 9, as the code meets it

@@ -1,9 +1,7 @@
 -- Rows that looking over a record and learning from it both meet. What stands before these rows, each of the two reads in its own way.
 use Rattle.std.specs.Prelude.{ℕ, ◌+◌, ◌≤◌, ◌≡◌, Bool, false, cond, ◌&&◌, not, List, length, eqb, ltb}
 use Rattle.limits.specs.Limits.{max_length, max_facts, step_size}
-use Rattle.answer.specs.declared.Answer.{Answer}
-use Rattle.answer.specs.declared.Answer.TheVariants.{Good}
-use Rattle.answer.specs.Answer.{◌>>=◌, refuse}
+use Rattle.answer.specs.Answer.{Answer, Good, ◌>>=◌, refuse}
 use Rattle.input.specs.Bytes.{two}
 use Rattle.terms.specs.Facts.{same_facts}
 use Rattle.format.specs.Form.{Form}

@@ -4,6 +4,7 @@
 
 mod unchanged; // row 27, of a step that did not go
 
+ghost use Rattle.answer.specs.Refusal.{answer_of};
 ghost use Rattle.std.specs.Prelude.{◌≡◌, false, ◌+◌, ◌≤◌, length};
 ghost use Rattle.answer.specs.Walk.{walk};
 ghost use Rattle.terms.specs.Head.{head_of};
@@ -14,15 +15,16 @@ ghost use Rattle.format.specs.Lists.{list_at};
 ghost use Rattle.format.specs.Form.{most_listed};
 ghost use Rattle.format.specs.States.{state};
 ghost use Rattle.format.specs.Records.{head_bad, record_head, object, step_refused, steps, trajectory, closed, body, record_at};
-ghost use Rattle.answer.specs.declared.Answer.TheVariants.{Good};
+ghost use Rattle.answer.specs.Answer.{Good};
 ghost use Rattle.tables.specs.Tables.{ForRightByKind};
 ghost use Rattle.records.specs.Readable.{scope_of, Readable, step_alone, step_listed};
 ghost use Rattle.records.specs.Rows.{changes_listed, StepsListed, step_after, book_end};
 
-use answer::Answer;
+use answer::{Reason, Refusal};
 use terms::{Head, Objects, Sections};
 
 // Row 6, of a head.
+#[tactic(auto, unfolding(format::specs::Records::head_bad, format::specs::Records::objects_in, format::specs::Records::steps_in, format::specs::Records::length_in, format::specs::States::cut, terms::specs::Head::head_of))]
 fn head_bad(s: &[u8], head: Head, at: usize) -> bool
     requires { (at ≤ max_length) × (head ≡ head_of s.now at) }
     ensures { result ≡ head_bad s.now at }
@@ -36,39 +38,32 @@ fn head_bad(s: &[u8], head: Head, at: usize) -> bool
 }
 
 // The rows of a record's head, 6 and then 24: where the record ends.
-pub fn record_head(s: &[u8], head: Head, at: usize) -> Answer
+#[tactic(auto, using(crate::proofs::Laws::head_refused, crate::proofs::Laws::head_stepless, crate::proofs::Laws::head_right))]
+pub fn record_head(s: &[u8], head: Head, at: usize) -> Result<usize, Refusal>
     requires { (at ≤ max_length) × (head ≡ head_of s.now at) }
-    ensures { result ≡ record_head s.now at }
+    ensures { answer_of result ≡ record_head s.now at }
 {
-    let bad = head_bad(s, head, at);
-    let stepless = head.steps == 0;
-    if bad {
-        return Answer::Refused(6, at);
+    if head_bad(s, head, at) {
+        return Err(Reason::Record.at(at));
     }
-    if stepless {
-        return Answer::Refused(24, at);
+    if head.steps == 0 {
+        return Err(Reason::NoSteps.at(at));
     }
-    Answer::Good(at + head.length as usize)
+    Ok(at + head.length as usize)
 }
 
 // Row 7, for a number of objects.
-pub fn objects(s: &[u8], kinds: u16, end: usize, n: usize, from: usize) -> Answer
+pub fn objects(s: &[u8], kinds: u16, end: usize, n: usize, from: usize) -> Result<usize, Refusal>
     requires { (from ≤ near_ceiling) × (n ≤ 255) }
-    ensures { result ≡ walk (object kinds s.now end) n from }
+    ensures { answer_of result ≡ walk (object kinds s.now end) n from }
 {
-    let mut left = n;
-    let mut at = from;
-    while 0 < left {
-        if (end < at + 1) | terms::out_of_range(kinds, input::byte_at(s, at) as u16) {
-            return Answer::Refused(7, at);
-        }
-        at += 1;
-        left -= 1;
-    }
-    Answer::Good(at)
+    answer::walk_entries(Reason::Object, 1, n, from, |at| {
+        (end < at + 1) | terms::out_of_range(kinds, input::byte_at(s, at) as u16)
+    })
 }
 
 // Row 9.
+#[tactic(auto, using(crate::proofs::Parts::step_cut, crate::proofs::Parts::step_whole), unfolding(tables::specs::Tables::ForRightByKind))]
 fn step_refused(book: &[u8], h: Sections, kinds: &[u32; 256], end: usize, at: usize) -> bool
     requires { (end ≤ length book.now) × (at ≤ max_length) }
     ensures { ForRightByKind (schema h book.now) kinds.now (λ ob. result ≡ step_refused (schema h book.now) ob book.now end at) × (result ≡ false → at + step_size ≤ end) }
@@ -80,18 +75,24 @@ fn step_refused(book: &[u8], h: Sections, kinds: &[u32; 256], end: usize, at: us
 }
 
 // Rows 9 and 10: where the list behind the step starts.
-pub fn step_alone(book: &[u8], h: Sections, kinds: &[u32; 256], end: usize, at: usize) -> Answer
+#[tactic(auto, using(crate::proofs::Parts::alone_nine, crate::proofs::Parts::alone_ten, crate::proofs::Parts::alone_good), unfolding(tables::specs::Tables::ForRightByKind))]
+pub fn step_alone(
+    book: &[u8],
+    h: Sections,
+    kinds: &[u32; 256],
+    end: usize,
+    at: usize,
+) -> Result<usize, Refusal>
     requires { (end ≤ length book.now) × (at ≤ max_length) }
-    ensures { ForRightByKind (schema h book.now) kinds.now (λ ob. result ≡ step_alone (schema h book.now) ob book.now end at) }
+    ensures { ForRightByKind (schema h book.now) kinds.now (λ ob. answer_of result ≡ step_alone (schema h book.now) ob book.now end at) }
 {
     if step_refused(book, h, kinds, end, at) {
-        return Answer::Refused(9, at);
+        return Err(Reason::Step.at(at));
     }
-    let st = filed::read_step(book, at);
-    if st.repeats() {
-        return Answer::Refused(10, at);
+    if filed::read_step(book, at).repeats() {
+        return Err(Reason::Repeated.at(at));
     }
-    Answer::Good(at + limits::STEP_SIZE)
+    Ok(at + limits::STEP_SIZE)
 }
 
 // What a trajectory is read within: whether the book is short, its header, the record's objects, its number of steps, and where it ends.
@@ -105,47 +106,55 @@ pub struct Scope {
 }
 
 // How many facts a list after a step may have.
+#[tactic(auto, unfolding(format::specs::Form::most_listed))]
 pub fn most_listed(short: bool) -> u16
     ensures { (result ≡ most_listed short) × (result ≤ max_turns) }
 {
     if short {
-        return limits::MAX_TURNS;
+        limits::MAX_TURNS
+    } else {
+        limits::MAX_FACTS
     }
-    limits::MAX_FACTS
 }
 
 // Rows 9 and 10, then row 8 for the list after the step.
-fn step(book: &[u8], c: Scope, kinds: &[u32; 256], table: &[u32; 512], at: usize) -> Answer
+fn step(
+    book: &[u8],
+    c: Scope,
+    kinds: &[u32; 256],
+    table: &[u32; 512],
+    at: usize,
+) -> Result<usize, Refusal>
     requires { Readable book.now c kinds.now table.now × (at ≤ max_length) }
-    ensures { result ≡ step_listed c.short (schema c.h book.now) (typed_objects c.objects book.now) book.now c.end at }
+    ensures { answer_of result ≡ step_listed c.short (schema c.h book.now) (typed_objects c.objects book.now) book.now c.end at }
 {
-    let alone = step_alone(book, c.h, kinds, c.end, at);
-    if answer::is_refused(alone) {
-        return alone;
-    }
-    states::list(
-        8,
-        most_listed(c.short),
-        book,
-        table,
-        c.end,
-        answer::value_of(alone),
-    )
+    let listed = step_alone(book, c.h, kinds, c.end, at)?;
+    let next = states::list(most_listed(c.short), book, table, c.end, listed)?;
+    Ok(next)
 }
 
 // The step at an offset, once the list behind it is good, by how many facts hold after it: row 8 for too many, then row 27, else where the next step
 // starts.
-pub fn step_after(s: &[u8], short: bool, pre: usize, at: usize, held: usize, next: usize) -> Answer
+#[tactic(auto, using(crate::proofs::Parts::after_many, crate::proofs::Parts::after_changed, crate::proofs::Parts::after_kept))]
+#[inline(always)]
+pub fn step_after(
+    s: &[u8],
+    short: bool,
+    pre: usize,
+    at: usize,
+    held: usize,
+    next: usize,
+) -> Result<usize, Refusal>
     requires { StepsListed s.now short pre at }
-    ensures { result ≡ step_after at held (changes_listed short s.now pre at) next }
+    ensures { answer_of result ≡ step_after at held (changes_listed short s.now pre at) next }
 {
     if (limits::MAX_FACTS as usize) < held {
-        return Answer::Refused(8, at + limits::STEP_SIZE);
+        return Err(Reason::State.at(at + limits::STEP_SIZE));
     }
     if unchanged::changes(s, short, pre, at) {
-        return Answer::Refused(27, at);
+        return Err(Reason::FailedChange.at(at));
     }
-    Answer::Good(next)
+    Ok(next)
 }
 
 // The steps behind a record's first state, each with the state after it.
@@ -156,62 +165,53 @@ fn steps(
     table: &[u32; 512],
     first: usize,
     from: usize,
-) -> Answer
+) -> Result<usize, Refusal>
     requires { Readable book.now c kinds.now table.now × (first ≤ near_ceiling) × (from ≤ max_length) × (state (filed_fact c.short) 8 (schema c.h book.now) (typed_objects c.objects book.now) book.now c.end first ≡ Good from) }
-    ensures { result ≡ steps c.short (schema c.h book.now) (typed_objects c.objects book.now) book.now c.end c.steps (list_at book.now first) from }
+    ensures { answer_of result ≡ steps c.short (schema c.h book.now) (typed_objects c.objects book.now) book.now c.end c.steps (list_at book.now first) from }
 {
-    let mut state = mask::empty512();
+    let mut state: [u8; limits::STATE_SIZE] = mask::empty();
     let mut count = turning::carry(book, c.short, first, &mut state, 0);
-    let mut left = c.steps;
     let mut pre = first;
     let mut at = from;
-    while 0 < left {
-        match step(book, c, kinds, table, at) {
-            Answer::Refused(k, p) => {
-                return Answer::Refused(k, p);
-            }
-            Answer::Good(next) => {
-                let listed = at + limits::STEP_SIZE;
-                count = turning::carry(book, c.short, listed, &mut state, count);
-                let after = step_after(book, c.short, pre, at, count, next);
-                if answer::is_refused(after) {
-                    return after;
-                }
-                pre = listed;
-                at = next;
-            }
-        }
-        left -= 1;
+    for _ in 0..c.steps {
+        let next = step(book, c, kinds, table, at)?;
+        let listed = at + limits::STEP_SIZE;
+        count = turning::carry(book, c.short, listed, &mut state, count);
+        at = step_after(book, c.short, pre, at, count, next)?;
+        pre = listed;
     }
-    Answer::Good(at)
+    Ok(at)
 }
 
 // A state, then steps each with the state after it.
-fn trajectory(book: &[u8], c: Scope, kinds: &[u32; 256], table: &[u32; 512], at: usize) -> Answer
+fn trajectory(
+    book: &[u8],
+    c: Scope,
+    kinds: &[u32; 256],
+    table: &[u32; 512],
+    at: usize,
+) -> Result<usize, Refusal>
     requires { Readable book.now c kinds.now table.now × (at ≤ near_ceiling) }
-    ensures { result ≡ trajectory c.short (schema c.h book.now) (typed_objects c.objects book.now) book.now c.end c.steps at }
+    ensures { answer_of result ≡ trajectory c.short (schema c.h book.now) (typed_objects c.objects book.now) book.now c.end c.steps at }
 {
-    let first = states::state(8, book, table, c.end, at);
-    if answer::is_refused(first) {
-        return first;
-    }
-    steps(book, c, kinds, table, at, answer::value_of(first))
+    let first = states::state(book, table, c.end, at)?;
+    steps(book, c, kinds, table, at, first)
 }
 
 // What a record answers, by what its trajectory answers: row 6 where bytes are left behind the trajectory.
-pub fn closed(a: Answer, at: usize, end: usize) -> Answer
-    ensures { result ≡ closed at end a }
+#[tactic(auto, using(crate::proofs::Laws::closed_stays, crate::proofs::Laws::closed_left))]
+pub fn closed(trajectory: Result<usize, Refusal>, at: usize, end: usize) -> Result<usize, Refusal>
+    ensures { answer_of result ≡ closed at end (answer_of trajectory) }
 {
-    if answer::is_refused(a) {
-        return a;
+    let last = trajectory?;
+    if last < end {
+        return Err(Reason::Record.at(at));
     }
-    if answer::value_of(a) < end {
-        return Answer::Refused(6, at);
-    }
-    Answer::Good(end)
+    Ok(end)
 }
 
 // What the trajectory of the record at an offset is read within, by its head.
+#[tactic(auto, unfolding(crate::specs::Readable::scope_of))]
 pub fn scope_of(short: bool, h: Sections, head: Head, at: usize, end: usize) -> Scope
     requires { at ≤ max_length }
     ensures { result ≡ scope_of short h head at end }
@@ -229,45 +229,43 @@ pub fn scope_of(short: bool, h: Sections, head: Head, at: usize, end: usize) -> 
 }
 
 // A record whose head is right.
-fn body(s: &[u8], short: bool, h: Sections, head: Head, at: usize, end: usize) -> Answer
+fn body(
+    s: &[u8],
+    short: bool,
+    h: Sections,
+    head: Head,
+    at: usize,
+    end: usize,
+) -> Result<usize, Refusal>
     requires { (h.relations.count ≤ max_relations) × (at ≤ max_length) × (end ≤ max_length) × (end ≤ length s.now) × (head ≡ head_of s.now at) × (head.objects ≤ max_objects) }
-    ensures { result ≡ body short h s.now at end }
+    ensures { answer_of result ≡ body short h s.now at end }
 {
     let c = scope_of(short, h, head, at, end);
-    let first = objects(s, h.kinds, end, head.objects as usize, c.objects.at);
-    if answer::is_refused(first) {
-        return first;
-    }
-    let mut kinds = tables::no_kinds();
+    let first = objects(s, h.kinds, end, head.objects as usize, c.objects.at)?;
+    let mut kinds = tables::empty();
     tables::put_objects(s, h, s, c.objects, &mut kinds);
-    let mut table = tables::no_places();
+    let mut table = tables::empty();
     tables::store_places(s, h, &kinds, &mut table);
-    closed(
-        trajectory(s, c, &kinds, &table, answer::value_of(first)),
-        at,
-        end,
-    )
+    closed(trajectory(s, c, &kinds, &table, first), at, end)
 }
 
 // One record: where the next one starts.
-pub fn record_at(s: &[u8], short: bool, h: Sections, at: usize) -> Answer
+pub fn record_at(s: &[u8], short: bool, h: Sections, at: usize) -> Result<usize, Refusal>
     requires { (h.relations.count ≤ max_relations) × (length s.now ≤ max_length) × (at ≤ max_length) }
-    ensures { result ≡ record_at short h s.now at }
+    ensures { answer_of result ≡ record_at short h s.now at }
 {
     let head = Head::read(s, at);
-    let end = record_head(s, head, at);
-    if answer::is_refused(end) {
-        return end;
-    }
-    body(s, short, h, head, at, answer::value_of(end))
+    let end = record_head(s, head, at)?;
+    body(s, short, h, head, at, end)
 }
 
 // What a book answers once its last record has ended: row 6 where bytes are left, else the count of all steps.
-pub fn book_end(s: &[u8], last: usize, total: usize) -> Answer
-    ensures { result ≡ book_end s.now last total }
+#[tactic(auto, using(crate::proofs::Laws::end_left, crate::proofs::Laws::end_none))]
+pub fn book_end(s: &[u8], last: usize, total: usize) -> Result<usize, Refusal>
+    ensures { answer_of result ≡ book_end s.now last total }
 {
     if last < s.len() {
-        return Answer::Refused(6, last);
+        return Err(Reason::Record.at(last));
     }
-    Answer::Good(total)
+    Ok(total)
 }

@@ -1,14 +1,13 @@
 -- The converted book: the bytes before the records, the records, and the end renewed; and what `form_converted` answers.
 use Prim.Native.Nat.{ℕ, ◌+◌, ◌-◌, ◌≤◌, ◌<◌}
-use native.Mathlib.Nat.{zero-add}
 use native.Mathlib.Omega.{arith}
 use mathlib.Core.Path.{◌≡◌, sym, ap, ◌∙◌}
 use mathlib.Core.Bool.{not}
-use mathlib.Core.List.{List, ◌++◌, append_assoc}
+use mathlib.Core.List.{List, [], ◌++◌, append_assoc}
 use borrow.Author.Tests.{lt-ltb, le-ltb}
 use lib.ListN.{length, take, drop, length-append, length-take, length-drop}
 use lib.Seq.{take-add, drop-drop, length-take-le}
-use Rattle.answer.specs.declared.Answer.TheVariants.{Good, Refused}
+use Rattle.answer.specs.Answer.{Good, Refused}
 use Rattle.answer.proofs.Laws.{good_refused, refuse_met, refuse_unmet}
 use Rattle.output.specs.Written.{written, two_bytes}
 use Rattle.terms.specs.declared.Sections.{Sections}
@@ -17,10 +16,9 @@ use Rattle.limits.specs.Limits.{max_length, header_size}
 use Rattle.format.specs.Form.{Form}
 use Rattle.format.proofs.LookOver.{LookedOver, look_over_good}
 use Rattle.jobs.specs.Convert.{bytes_at, records_bytes, all_records_bytes, converted}
-use Rattle.appending.specs.Appended.{Appended}
 use Rattle.rendering.specs.Good.{GoodBook, GoodRecords}
 use Rattle.rendering.specs.Formed.{ConvertedFormed}
-use Rattle.appending.proofs.Appended.{append_then, append_same, append_renewed}
+use Rattle.appending.proofs.Appended.{append_then, append_renewed, over_first, over_then}
 
 module _ (form : Form) (s : List ℕ) (good : GoodBook form s) (h : Sections) (is : h ≡ sections_of s) where
   looked : LookedOver form s good.0
@@ -64,38 +62,68 @@ module _ (form : Form) (s : List ℕ) (good : GoodBook form s) (h : Sections) (i
   unfolding converted all_records_bytes
   converted_is = rw is (sym (append_assoc (take 14 s ++ two_bytes ((sections_of s).records.at + length (records_bytes (not form) s (sections_of s).records.count (sections_of s).records.at))) _ _))
 
-  module _ {from end : ℕ} {old mid new : List ℕ} (p : Appended (take h.records.at s) 0 old mid from) (q : Appended records from mid new end) where
-    drafted : Appended (take 14 s ++ old_end ++ (sections ++ records)) 0 old new end
-    drafted = rw (append_assoc (take 14 s ++ old_end) sections records) at (append_then _ records (rw front at p) q)
+  abbrev first : List ℕ
+  first = take h.records.at s
 
-    -- two bytes are renewed
-    end_two : length (two_bytes (h.records.at + length records)) ≡ length old_end
-    unfolding two_bytes
-    end_two =
-        let l = records_start in
-        simp (length-take, length-drop) (omega arith)
+  drafted_is : first ++ records ≡ take 14 s ++ old_end ++ (sections ++ records)
+  drafted_is = ap (λ (l : List ℕ). l ++ records) front ∙ append_assoc (take 14 s ++ old_end) sections records
 
-    pub formed_over : max_length < end → ConvertedFormed form s new (Refused 23 0)
-    formed_over l =
-        let t = rw converted_is at (append_same (take 14 s ++ old_end ++ (sections ++ records)) (take 14 s ++ two_bytes (h.records.at + length records) ++ (sections ++ records)) (simp length-append (omega (arith, end_two))) drafted l) in
+  -- two bytes are renewed
+  end_two : length (two_bytes (h.records.at + length records)) ≡ length old_end
+  unfolding two_bytes
+  end_two =
+      let l = records_start in
+      simp (length-take, length-drop) (omega arith)
+
+  renewed_length : length (take 14 s ++ old_end ++ (sections ++ records)) ≡ length (take 14 s ++ two_bytes (h.records.at + length records) ++ (sections ++ records))
+  renewed_length = simp length-append (omega (arith, end_two))
+
+  whole_length : length (first ++ records) ≡ length (converted (not form) s)
+  whole_length = ap length drafted_is ∙ renewed_length ∙ ap length converted_is
+
+  module _ (old : List ℕ) (empty : old ≡ []) where
+    over : (new : List ℕ) → max_length < length old + length (first ++ records) → ConvertedFormed form s new (Refused 23 0)
+    over new l =
+        let n = whole_length in
+        let z : length old ≡ 0 = ap length empty in
         record {
-          says = sym (refuse_met _ 23 0 _ (lt-ltb max_length (length (converted (not form) s)) (omega (arith, (t.over l).1))));
+          says = sym (refuse_met _ 23 0 _ (lt-ltb max_length (length (converted (not form) s)) (omega arith)));
           bytes = λ m e. good_refused m 23 0 (sym e);
         }
 
-    module _ (l : end ≤ max_length) where
-      pub formed_size : end ≡ h.records.at + length records
-      formed_size =
-          let k = records_start in
-          omega (arith, (drafted.fits l).0, length-append (take 14 s ++ old_end) (sections ++ records), length-append sections records, ap length front, length-append (take 14 s ++ old_end) sections, length-take-le h.records.at s k.1)
+    pub formed_over : (new : List ℕ) → max_length < length old + length first → ConvertedFormed form s new (Refused 23 0)
+    formed_over new l = over new (over_first first records old old l)
 
-      pub formed_good : (new' : List ℕ) → new' ≡ written new 14 (two_bytes end) → ConvertedFormed form s new' (Good end)
-      formed_good new' e =
-          let k = records_start in
-          let n : 14 ≡ 0 + length (take 14 s) = simp (length-take-le 14 s (omega arith)) (omega arith) in
-          let t = rw converted_is at (append_renewed (take 14 s) old_end (sections ++ records) (two_bytes (h.records.at + length records)) 14 drafted l (omega arith) n end_two (rw formed_size at e)) in
-          let (size, bytes) = t.fits l in
-          record {
-            says = ap Good (size ∙ zero-add (length (converted (not form) s))) ∙ sym (refuse_unmet _ 23 0 _ (le-ltb max_length (length (converted (not form) s)) (omega arith)));
-            bytes = λ m d. let z : m ≡ end = cc in rw z bytes;
-          }
+    module _ (mid : List ℕ) (p : mid ≡ old ++ first) where
+      pub formed_over_then : (new : List ℕ) → max_length < length mid + length records → ConvertedFormed form s new (Refused 23 0)
+      formed_over_then new l = over new (over_then first records old mid p l)
+
+      module _ (new : List ℕ) (q : new ≡ mid ++ records) where
+        drafted : new ≡ old ++ (first ++ records)
+        drafted = append_then first records old mid p q
+
+        drafted_length : length new ≡ length (first ++ records)
+        drafted_length =
+            let z : length old ≡ 0 = ap length empty in
+            let n : length new ≡ length old + length (first ++ records) = ap length drafted ∙ length-append old (first ++ records) in
+            omega arith
+
+        pub formed_size : length new ≡ h.records.at + length records
+        formed_size =
+            let k = records_start in
+            omega (arith, drafted_length, length-append first records, length-take-le h.records.at s k.1)
+
+        pub formed_good : (end : ℕ) → end ≡ length new → end ≤ max_length → (new' : List ℕ) → new' ≡ written new 14 (two_bytes end) → ConvertedFormed form s new' (Good end)
+        formed_good end d l new' e =
+            let k = records_start in
+            let z : length old ≡ 0 = ap length empty in
+            let n : 14 ≡ length old + length (take 14 s) = simp (length-take-le 14 s (omega arith)) (omega arith) in
+            let is : end ≡ h.records.at + length records = d ∙ formed_size in
+            let t : new' ≡ old ++ (take 14 s ++ two_bytes (h.records.at + length records) ++ (sections ++ records)) =
+            append_renewed (take 14 s) old_end (sections ++ records) (two_bytes (h.records.at + length records)) old 14 (drafted ∙ ap (λ (l : List ℕ). old ++ l) drafted_is) n end_two (rw is at e) in
+            let bytes : new' ≡ converted (not form) s = t ∙ rw empty converted_is in
+            let size : end ≡ length (converted (not form) s) = d ∙ drafted_length ∙ whole_length in
+            record {
+              says = ap Good size ∙ sym (refuse_unmet _ 23 0 _ (le-ltb max_length (length (converted (not form) s)) (omega arith)));
+              bytes = λ m _. bytes;
+            }

@@ -1,16 +1,18 @@
 -- Two lists of facts walked together: each way on of `merge_next`, and what its loop leaves.
-use Prim.Native.Nat.{ℕ, zero, suc, ◌≤◌}
+use Prim.Native.Nat.{ℕ, zero, suc, ◌+◌, ◌<◌, ◌≤◌}
 use native.Mathlib.Omega.{arith}
 use mathlib.Core.Path.{◌≡◌, refl, sym, ap, ap₂, ◌∙◌}
 use mathlib.Core.Logic.{◌⊎◌, inl, inr}
 use mathlib.Core.Bool.{true, false, ◌&&◌}
 use mathlib.Core.List.{List, [], ◌∷◌, ◌++◌, append-nil}
 use lib.Dec.{ltb}
+use lib.ListN.{length}
+use Rattle.std.specs.Prelude.{Result}
 use borrow.Author.Tests.{lt-ltb}
 use Rattle.terms.specs.declared.Fact.{Fact}
 use Rattle.truth.specs.Bools.{clash, and_in}
 use Rattle.terms.specs.Facts.{precedes, no_fact}
-use Rattle.limits.specs.Limits.{near_ceiling}
+use Rattle.limits.specs.Limits.{max_length, near_ceiling}
 use Rattle.format.specs.Lists.{list_at, list_end}
 use Rattle.format.specs.Toggled.{toggled}
 use Rattle.jobs.specs.Convert.{facts_bytes}
@@ -21,10 +23,10 @@ use Rattle.factlist.specs.declared.ListCursor.{ListCursor}
 use Rattle.factlist.specs.Rest.{rest, FactsWithin, next, Comes}
 use Rattle.factlist.proofs.Rest.{rest_none}
 use Rattle.rendering.specs.declared.Walk.{Walk}
-use Rattle.appending.specs.Appended.{past_end, Appended, AllBut}
-use Rattle.rendering.specs.Merge.{to_come, Merging, NextMerged}
+use Rattle.appending.specs.Appended.{Appended, AllBut}
+use Rattle.rendering.specs.Merge.{to_come, Merging, TurnMerged}
 use Rattle.rendering.specs.Good.{GoodList}
-use Rattle.appending.proofs.Appended.{append_none, append_then, part_none, part_one, part_then, part_all}
+use Rattle.appending.proofs.Appended.{part_none, part_next, part_then, part_over, part_last}
 
 -- a list of the book begins at an offset that can be added to
 pub list_near : {s : List ℕ} {at : ℕ} → GoodList s at → at ≤ near_ceiling
@@ -45,36 +47,48 @@ module _ (state s : List ℕ) (v : Walk) (m : Merging state s v) (f g : Fact) (a
   later = (rw b.first at m.order).1
 
   -- a fact that holds, and does not turn
-  pub merged_held : precedes f g ≡ true → (h : ListCursor) → h ≡ next v.held → (r : ℕ) (old new : List ℕ)
-      → Appended (facts_bytes (f ∷ [])) v.at old new r → NextMerged state s v old (record { held = h; turns = v.turns; at = r }) new
-  merged_held e h d r old new p =
-      let w : Walk = record { held = h; turns = v.turns; at = r } in
-      let l = a.less in
-      let same : to_come state s v ≡ f ∷ to_come state s w = both ∙ merge_before f g _ _ e later ∙ rw (d, b.first) in
-      record {
-        merging = record { held = rw d a.ahead; turns = m.turns; last = m.last; order = m.order };
-        less = rw d (omega arith);
-        appended = part_one _ (first_fact f (to_come state s w) (to_come state s v) same) p;
-      }
+  module _ (e : precedes f g ≡ true) where
+    held_first : facts_bytes (f ∷ []) ++ facts_bytes (to_come state s (record { held = next v.held; turns = v.turns })) ≡ facts_bytes (to_come state s v)
+    held_first = first_fact f _ _ (both ∙ merge_before f g _ _ e later ∙ rw b.first)
+
+    pub held_over : (old : List ℕ) → max_length < length old + length (facts_bytes (f ∷ [])) → max_length < length old + length (facts_bytes (to_come state s v))
+    held_over old h = part_over (part_none _ old) (facts_bytes (f ∷ [])) _ held_first h
+
+    pub merged_held : (h : ListCursor) → h ≡ next v.held → (old new : List ℕ) → new ≡ old ++ facts_bytes (f ∷ [])
+        → TurnMerged state s v old new (record { held = h; turns = v.turns })
+    merged_held h d old new p =
+        let l = a.less in
+        let part = part_next (part_none _ old) (facts_bytes (f ∷ [])) held_first p in
+        record {
+          merging = record { held = rw d a.ahead; turns = m.turns; last = m.last; order = m.order };
+          less = rw d (omega arith);
+          appended = rw d part;
+        }
 
   -- one that turns, and did not hold
-  pub merged_turn : precedes g f ≡ true → (h : ListCursor) → h ≡ next v.turns → (r : ℕ) (old new : List ℕ)
-      → Appended (facts_bytes (g ∷ [])) v.at old new r → NextMerged state s v old (record { held = v.held; turns = h; at = r }) new
-  merged_turn e h d r old new p =
-      let w : Walk = record { held = v.held; turns = h; at = r } in
-      let l = b.less in
-      let same : to_come state s v ≡ g ∷ to_come state s w = both ∙ merge_after f g _ _ e later ∙ rw (d, a.first) in
-      record {
-        merging = record { held = m.held; turns = rw d b.ahead; last = g; order = rw d later };
-        less = rw d (omega arith);
-        appended = part_one _ (first_fact g (to_come state s w) (to_come state s v) same) p;
-      }
+  module _ (e : precedes g f ≡ true) where
+    turn_first : facts_bytes (g ∷ []) ++ facts_bytes (to_come state s (record { held = v.held; turns = next v.turns })) ≡ facts_bytes (to_come state s v)
+    turn_first = first_fact g _ _ (both ∙ merge_after f g _ _ e later ∙ rw a.first)
+
+    pub turn_over : (old : List ℕ) → max_length < length old + length (facts_bytes (g ∷ [])) → max_length < length old + length (facts_bytes (to_come state s v))
+    turn_over old h = part_over (part_none _ old) (facts_bytes (g ∷ [])) _ turn_first h
+
+    pub merged_turn : (h : ListCursor) → h ≡ next v.turns → (old new : List ℕ) → new ≡ old ++ facts_bytes (g ∷ [])
+        → TurnMerged state s v old new (record { held = v.held; turns = h })
+    merged_turn h d old new p =
+        let l = b.less in
+        let part = part_next (part_none _ old) (facts_bytes (g ∷ [])) turn_first p in
+        record {
+          merging = record { held = m.held; turns = rw d b.ahead; last = g; order = rw d later };
+          less = rw d (omega arith);
+          appended = rw d part;
+        }
 
   -- one that held, and turns
-  pub merged_both : precedes f g ≡ false → precedes g f ≡ false → (h k : ListCursor) → h ≡ next v.held → k ≡ next v.turns → v.at ≤ past_end → (old : List ℕ)
-      → NextMerged state s v old (record { held = h; turns = k; at = v.at }) old
-  merged_both e e' h k d d' n old =
-      let w : Walk = record { held = h; turns = k; at = v.at } in
+  pub merged_both : precedes f g ≡ false → precedes g f ≡ false → (h k : ListCursor) → h ≡ next v.held → k ≡ next v.turns → (old : List ℕ)
+      → TurnMerged state s v old old (record { held = h; turns = k })
+  merged_both e e' h k d d' old =
+      let w : Walk = record { held = h; turns = k } in
       let l = a.less in
       let l' = b.less in
       let z : f ≡ g = precedes_neither f g e e' in
@@ -85,7 +99,7 @@ module _ (state s : List ℕ) (v : Walk) (m : Merging state s v) (f g : Fact) (a
       record {
         merging = record { held = rw d a.ahead; turns = rw d' b.ahead; last = g; order = rw d' later };
         less = rw (d, d') (omega arith);
-        appended = part_one [] (ap facts_bytes same) (append_none v.at old n);
+        appended = record { same = ap (λ (fs : List Fact). old ++ facts_bytes fs) same };
       }
 
 -- ---- all turns
@@ -96,9 +110,9 @@ not_both (suc a) zero e = inr refl
 not_both (suc a) (suc b) e = clash (ltb 0 (suc a) && ltb 0 (suc b)) (and_in _ _ (lt-ltb 0 (suc a) (omega arith)) (lt-ltb 0 (suc b) (omega arith))) e
 
 -- where the loop stands: of the bytes of all facts that hold afterwards, those of the facts to come are yet to be appended
-pub record Merged (state s whole : List ℕ) (w : ℕ) (old : List ℕ) (v : Walk) (new : List ℕ) : Type 0 where
+pub record Merged (state s whole old : List ℕ) (v : Walk) (new : List ℕ) : Type 0 where
   pub merging : Merging state s v
-  pub appended : AllBut (facts_bytes (to_come state s v)) whole w old new v.at
+  pub appended : AllBut (facts_bytes (to_come state s v)) whole old new
 
 only_turns : (fs ts : List Fact) → fs ≡ [] → (last : Fact) → Increasing last ts → facts_bytes fs ++ facts_bytes ts ≡ facts_bytes (toggled fs ts)
 unfolding facts_bytes
@@ -108,27 +122,34 @@ only_held : (fs ts : List Fact) → ts ≡ [] → facts_bytes fs ++ facts_bytes 
 unfolding facts_bytes
 only_held fs ts e = rw (e, toggled_nothing fs) (append-nil (facts_bytes fs))
 
-module _ (state s : List ℕ) (at w : ℕ) (old : List ℕ) where
-  pub merged_first : (p q : ListCursor) → (rest state p ≡ list_at state 0) × FactsWithin state p → (rest s q ≡ list_at s at) × FactsWithin s q → GoodList s at → w ≤ past_end
-      → Merged state s (facts_bytes (toggled (list_at state 0) (list_at s at))) w old (record { held = p; turns = q; at = w }) old
-  merged_first p q (e, a) (d, b) good h =
+module _ (state s : List ℕ) (at : ℕ) (old : List ℕ) where
+  pub merged_first : (p q : ListCursor) → (rest state p ≡ list_at state 0) × FactsWithin state p → (rest s q ≡ list_at s at) × FactsWithin s q → GoodList s at
+      → Merged state s (facts_bytes (toggled (list_at state 0) (list_at s at))) old (record { held = p; turns = q }) old
+  merged_first p q (e, a) (d, b) good =
       record {
         merging = record { held = a; turns = b; last = no_fact; order = rw d good.order };
-        appended = rw (e, d) (part_none (facts_bytes (toggled (list_at state 0) (list_at s at))) w old h);
+        appended = rw (e, d) (part_none (facts_bytes (toggled (list_at state 0) (list_at s at))) old);
       }
 
-module _ {state s whole : List ℕ} {w : ℕ} {old : List ℕ} {v : Walk} {mid : List ℕ} (m : Merged state s whole w old v mid) where
-  pub merged_next : {u : Walk} {new : List ℕ} → NextMerged state s v mid u new → Merged state s whole w old u new
+module _ {state s whole old : List ℕ} {v : Walk} {mid : List ℕ} (m : Merged state s whole old v mid) where
+  pub merged_next : {u : Walk} {new : List ℕ} → TurnMerged state s v mid new u → Merged state s whole old u new
   merged_next t = record { merging = t.merging; appended = part_then m.appended t.appended }
 
+  pub merged_over : max_length < length mid + length (facts_bytes (to_come state s v)) → max_length < length old + length whole
+  merged_over h = part_over m.appended (facts_bytes (to_come state s v)) [] (append-nil _) h
+
   -- one of the lists is at its end
-  pub merged_end : (ltb 0 v.held.left && ltb 0 v.turns.left) ≡ false → {r r' : ℕ} {new new' : List ℕ}
-      → Appended (facts_bytes (rest state v.held)) v.at mid new r → Appended (facts_bytes (rest s v.turns)) r new new' r' → Appended whole w old new' r'
-  merged_end e p q =
-      let fs = rest state v.held in
-      let ts = rest s v.turns in
-      part_all (part_then m.appended (part_one _ (append-nil _ ∙ tail (not_both _ _ e)) (append_then (facts_bytes fs) (facts_bytes ts) p q))) refl
-    where
-      tail : (v.held.left ≡ 0) ⊎ (v.turns.left ≡ 0) → facts_bytes (rest state v.held) ++ facts_bytes (rest s v.turns) ≡ facts_bytes (to_come state s v)
-      tail (inl z) = only_turns (rest state v.held) (rest s v.turns) (rest_none state v.held z) m.merging.last m.merging.order
-      tail (inr z) = only_held (rest state v.held) (rest s v.turns) (rest_none s v.turns z)
+  module _ (e : (ltb 0 v.held.left && ltb 0 v.turns.left) ≡ false) where
+    rests : facts_bytes (rest state v.held) ++ facts_bytes (rest s v.turns) ≡ facts_bytes (to_come state s v)
+    rests = tail (not_both _ _ e)
+      where
+        tail : (v.held.left ≡ 0) ⊎ (v.turns.left ≡ 0) → facts_bytes (rest state v.held) ++ facts_bytes (rest s v.turns) ≡ facts_bytes (to_come state s v)
+        tail (inl z) = only_turns (rest state v.held) (rest s v.turns) (rest_none state v.held z) m.merging.last m.merging.order
+        tail (inr z) = only_held (rest state v.held) (rest s v.turns) (rest_none s v.turns z)
+
+    pub merged_end_over : max_length < length mid + length (facts_bytes (rest state v.held)) → max_length < length old + length whole
+    merged_end_over h = part_over m.appended (facts_bytes (rest state v.held)) _ rests h
+
+    pub merged_end : {A E : Type 0} {new : List ℕ} (new' : List ℕ) (r : Result A E) → new ≡ mid ++ facts_bytes (rest state v.held)
+        → Appended (facts_bytes (rest s v.turns)) new new' r → Appended whole old new' r
+    merged_end new' r p q = part_last (part_next m.appended (facts_bytes (rest state v.held)) rests p) new' r q

@@ -5,7 +5,8 @@ use native.Mathlib.Omega.{arith}
 use mathlib.Core.Path.{◌≡◌, refl, ◌∙◌, ap}
 use mathlib.Core.Bool.{not, not-not}
 use mathlib.Core.List.{List, [], ◌∷◌, ◌++◌, append_assoc}
-use lib.ListN.{length, take, drop}
+use lib.ListN.{length, take, drop, length-append}
+use Rattle.std.specs.Prelude.{Result}
 use Rattle.answer.proofs.Walks.{walk_parted}
 use Rattle.input.specs.Bytes.{byte_at, two}
 use Rattle.output.specs.Written.{written, two_bytes}
@@ -26,11 +27,11 @@ use Rattle.jobs.specs.Convert.{list_bytes, steps_bytes, bytes_at, body_bytes, re
 use Rattle.jobs.proofs.Bytes.{part_cons, part_three}
 use Rattle.factsets.proofs.States.{list_increasing, list_few, after_none}
 use Rattle.factsets.proofs.Toggled.{toggled_none}
-use Rattle.appending.specs.Appended.{past_end, Appended, AllBut}
-use Rattle.rendering.specs.Held.{Holds, AppendedHeld}
+use Rattle.appending.specs.Appended.{Appended, AllBut}
+use Rattle.rendering.specs.Held.{Holds}
 use Rattle.rendering.specs.Good.{GoodNext, GoodTrajectory, GoodRecord, GoodRecords}
 use Rattle.rendering.specs.Formed.{trajectory_bytes}
-use Rattle.appending.proofs.Appended.{append_then, append_stays, append_same, append_renewed, part_none, part_one, part_then, part_all}
+use Rattle.appending.proofs.Appended.{append_then, appended_then, append_renewed, over_first, over_then, part_none, part_next, part_over, part_all}
 
 -- ---- from the first state on
 
@@ -44,23 +45,21 @@ module _ (form : Form) (s : List ℕ) (n at : ℕ) (good : GoodTrajectory form s
   first_bytes : toggled before (list_at s at) ≡ list_at s at
   first_bytes = rw none (toggled_none no_fact (list_at s at) good.list.order)
 
-  module _ {w next : ℕ} {old mid state : List ℕ} (p : AppendedHeld (list_bytes (toggled before (list_at s at))) (state_after form s before at) w old mid state next) where
-    first_appended : Appended (list_bytes (list_at s at)) w old mid next
-    first_appended = rw first_bytes at p.appended
+  -- the end is passed by the first state
+  pub trajectory_over : (old : List ℕ) → max_length < length old + length (list_bytes (toggled before (list_at s at))) → max_length < length old + length (trajectory_bytes form s n at)
+  unfolding trajectory_bytes
+  trajectory_over old h = over_first (list_bytes (list_at s at)) _ old old (rw first_bytes at h)
 
-    pub trajectory_over : max_length < next → Appended (trajectory_bytes form s n at) w old mid next
+  module _ (old mid state : List ℕ)
+      (p : (mid ≡ old ++ list_bytes (toggled before (list_at s at))) × Holds state × (list_at state 0 ≡ state_after form s before at)) where
+    pub first_holds : Holds state × (list_at state 0 ≡ list_at s at)
+    first_holds = (p.1, p.2 ∙ first_after)
+
+    pub trajectory_all : {A E : Type 0} (from : ℕ) → from ≡ list_end s at → (new : List ℕ) (r : Result A E)
+        → Appended (steps_bytes (not form) (recorded_steps_at form s n (list_at state 0) from)) mid new r
+        → Appended (trajectory_bytes form s n at) old new r
     unfolding trajectory_bytes
-    trajectory_over h = append_stays (list_bytes (list_at s at)) _ first_appended h
-
-    module _ (h : next ≤ max_length) where
-      pub first_holds : Holds state × (list_at state 0 ≡ list_at s at)
-      first_holds = let (holds, e) = p.holds h in (holds, e ∙ first_after)
-
-      pub trajectory_all : (from : ℕ) → from ≡ list_end s at → {end : ℕ} {new : List ℕ}
-          → Appended (steps_bytes (not form) (recorded_steps_at form s n (list_at state 0) from)) next mid new end
-          → Appended (trajectory_bytes form s n at) w old new end
-      unfolding trajectory_bytes
-      trajectory_all from d q = append_then (list_bytes (list_at s at)) _ first_appended (rw (first_holds.1, d) at q)
+    trajectory_all from d new r q = appended_then (list_bytes (list_at s at)) _ old mid new r (rw first_bytes at p.0) (rw (first_holds.1, d) at q)
 
 -- ---- a record
 
@@ -133,30 +132,45 @@ module _ (form : Form) (s : List ℕ) (at : ℕ) (g : GoodRecord form s at) wher
     unfolding record_bytes
     record_is = rw body_is
 
-    module _ {w from end : ℕ} {old mid new : List ℕ} (p : Appended (take (at + head_size + objects - at) (drop at s)) w old mid from)
-        (q : Appended (trajectory_bytes form s steps (at + head_size + objects)) from mid new end) where
-      drafted : Appended (counts ++ old_length ++ body) w old new end
-      unfolding body
-      drafted =
-          rw (append_assoc (counts ++ old_length) (bytes_at s (at + head_size) objects) (trajectory_bytes form s steps (at + head_size + objects))) at
-          (append_then _ _ (rw head_part at p) q)
+    -- the part that was copied, and what is behind it
+    abbrev head : List ℕ
+    head = take (at + head_size + objects - at) (drop at s)
 
-      record_size : end ≤ max_length → end ≡ w + (head_size + length body)
-      record_size h = omega (arith, (drafted.fits h).0)
+    abbrev tail : List ℕ
+    tail = trajectory_bytes form s steps (at + head_size + objects)
 
-      pub record_room : end ≤ max_length → w + head_size ≤ end
-      record_room h = omega (arith, record_size h)
+    drafted_is : head ++ tail ≡ counts ++ old_length ++ body
+    unfolding body
+    drafted_is = rw head_part (append_assoc (counts ++ old_length) (bytes_at s (at + head_size) objects) tail)
 
-      pub record_over : max_length < end → Appended (record_bytes (not form) s at) w old new end
-      unfolding two_bytes
-      record_over h = rw record_is at (append_same (counts ++ old_length ++ body) (counts ++ two_bytes (head_size + length body) ++ body) refl drafted h)
+    whole_length : length (head ++ tail) ≡ length (record_bytes (not form) s at)
+    unfolding two_bytes
+    whole_length = ap length drafted_is ∙ ap length record_is
 
-      pub record_renewed : end ≤ max_length → w ≤ length old → (new' : List ℕ) → new' ≡ written new (w + 2) (two_bytes (end - w)) → Appended (record_bytes (not form) s at) w old new' end
-      unfolding two_bytes
-      record_renewed h k new' e =
-          let size = record_size h in
-          let n : end - w ≡ head_size + length body = omega arith in
-          rw record_is at (append_renewed counts old_length body (two_bytes (head_size + length body)) (w + 2) drafted h k refl refl (rw n at e))
+    pub record_over : (old : List ℕ) → max_length < length old + length head → max_length < length old + length (record_bytes (not form) s at)
+    record_over old h = let n = whole_length in let o = over_first head tail old old h in omega arith
+
+    module _ (old mid : List ℕ) (p : mid ≡ old ++ head) where
+      pub record_over_then : max_length < length mid + length tail → max_length < length old + length (record_bytes (not form) s at)
+      record_over_then h = let n = whole_length in let o = over_then head tail old mid p h in omega arith
+
+      module _ (new : List ℕ) (q : new ≡ mid ++ tail) where
+        drafted : new ≡ old ++ (counts ++ old_length ++ body)
+        drafted = append_then head tail old mid p q ∙ ap (λ (l : List ℕ). old ++ l) drafted_is
+
+        record_size : length new ≡ length old + (head_size + length body)
+        record_size = let n : length new ≡ length old + length (counts ++ old_length ++ body) = ap length drafted ∙ length-append old _ in omega arith
+
+        pub record_room : length old + head_size ≤ length new
+        record_room = let n = record_size in omega arith
+
+        pub record_renewed : (new' : List ℕ) → new' ≡ written new (length old + 2) (two_bytes (length new - length old)) → new' ≡ old ++ record_bytes (not form) s at
+        unfolding two_bytes
+        record_renewed new' e =
+            let size = record_size in
+            let n : length new - length old ≡ head_size + length body = omega arith in
+            append_renewed counts old_length body (two_bytes (head_size + length body)) old (length old + 2) drafted refl refl (rw n at e)
+            ∙ ap (λ (l : List ℕ). old ++ l) record_is
 
 -- ---- records
 
@@ -181,22 +195,23 @@ module _ (form : Form) (s : List ℕ) where
   records_first (suc n) at h = rw sub-one
 
   -- a loop over records: those to come are yet to be appended
-  pub record Filing (whole : List ℕ) (w : ℕ) (old : List ℕ) (n at : ℕ) (new : List ℕ) (end : ℕ) : Type 0 where
-    pub appended : AllBut (records_bytes (not form) s n at) whole w old new end
+  pub record Filing (whole old : List ℕ) (n at : ℕ) (new : List ℕ) : Type 0 where
+    pub appended : AllBut (records_bytes (not form) s n at) whole old new
     pub good : GoodRecords form s n at
 
-  pub filing_first : (w : ℕ) (old : List ℕ) (n at : ℕ) → w ≤ past_end → GoodRecords form s n at → Filing (records_bytes (not form) s n at) w old n at old w
-  filing_first w old n at h good = record { appended = part_none _ w old h; good = good }
+  pub filing_first : (old : List ℕ) (n at : ℕ) → GoodRecords form s n at → Filing (records_bytes (not form) s n at) old n at old
+  filing_first old n at good = record { appended = part_none _ old; good = good }
 
-  module _ {whole : List ℕ} {w : ℕ} {old : List ℕ} {n at : ℕ} {mid : List ℕ} {v : ℕ} (i : Filing whole w old n at mid v) where
-    pub filing_end : n ≡ 0 → Appended whole w old mid v
+  module _ {whole old : List ℕ} {n at : ℕ} {mid : List ℕ} (i : Filing whole old n at mid) where
+    pub filing_end : n ≡ 0 → mid ≡ old ++ whole
     filing_end e = part_all i.appended (records_none n at e)
 
-    pub filing_next : 0 < n → {new : List ℕ} {r : ℕ} → Appended (record_bytes (not form) s at) v mid new r → (size : ℕ) → size ≡ two s (at + 2)
-        → Filing whole w old (n - 1) (at + size) new r
-    unfolding length_in
-    filing_next more c size d =
-        record {
-          appended = rw d (part_then i.appended (part_one _ (records_first n at more) c));
-          good = rw d (records_next n at more i.good).1;
-        }
+    module _ (more : 0 < n) where
+      pub filing_over : max_length < length mid + length (record_bytes (not form) s at) → max_length < length old + length whole
+      filing_over h = part_over i.appended (record_bytes (not form) s at) _ (records_first n at more) h
+
+      pub filing_next : (new : List ℕ) → new ≡ mid ++ record_bytes (not form) s at → (size : ℕ) → size ≡ two s (at + 2) → Filing whole old (n - 1) (at + size) new
+      unfolding length_in
+      filing_next new c size d =
+          let part = part_next i.appended (record_bytes (not form) s at) (records_first n at more) c in
+          record { appended = rw d part; good = rw d (records_next n at more i.good).1 }

@@ -5,6 +5,8 @@ use native.Mathlib.Omega.{arith}
 use mathlib.Core.Path.{◌≡◌, refl, sym, ap}
 use mathlib.Core.Bool.{true, false, not}
 use mathlib.Core.List.{List, [], ◌++◌}
+use lib.ListN.{length}
+use Rattle.std.specs.Prelude.{Result, Ok, Err}
 use Rattle.terms.specs.declared.Fact.{Fact}
 use Rattle.limits.specs.Limits.{max_length, step_size}
 use Rattle.format.specs.Filed.{filed_fact}
@@ -16,10 +18,10 @@ use Rattle.format.proofs.States.{next_good}
 use Rattle.format.proofs.Records.{step_good, step_ends, steps_parted}
 use Rattle.jobs.specs.Convert.{list_bytes, filed_step_bytes, listed, steps_bytes}
 use Rattle.factsets.proofs.States.{list_increasing}
-use Rattle.appending.specs.Appended.{past_end, Appended, AllBut}
+use Rattle.appending.specs.Appended.{AllBut}
 use Rattle.rendering.specs.Held.{Holds, AppendedHeld}
 use Rattle.rendering.specs.Good.{GoodNext, GoodSteps}
-use Rattle.appending.proofs.Appended.{append_then, part_none, part_one, part_then, part_over, part_all}
+use Rattle.appending.proofs.Appended.{append_then, over_then, part_none, part_next, part_over, part_all}
 
 -- ---- what is asked
 
@@ -79,33 +81,32 @@ module _ (form : Form) (s : List ℕ) where
 
   -- ---- a loop over steps: those to come are yet to be appended, and the facts before the next one hold
 
-  pub record Stepping (whole : List ℕ) (w : ℕ) (old : List ℕ) (n at : ℕ) (state new : List ℕ) (end : ℕ) : Type 0 where
-    pub appended : AllBut (steps_to_come n (list_at state 0) at) whole w old new end
+  pub record Stepping (whole old : List ℕ) (n at : ℕ) (state new : List ℕ) : Type 0 where
+    pub appended : AllBut (steps_to_come n (list_at state 0) at) whole old new
     pub holds : Holds state
     pub good : GoodSteps form s n (list_at state 0) at
 
-  pub stepping_first : (w : ℕ) (old state : List ℕ) (n at : ℕ) → w ≤ past_end → Holds state → GoodSteps form s n (list_at state 0) at
-      → Stepping (steps_to_come n (list_at state 0) at) w old n at state old w
-  stepping_first w old state n at h holds good = record { appended = part_none _ w old h; holds = holds; good = good }
+  pub stepping_first : (old state : List ℕ) (n at : ℕ) → Holds state → GoodSteps form s n (list_at state 0) at
+      → Stepping (steps_to_come n (list_at state 0) at) old n at state old
+  stepping_first old state n at holds good = record { appended = part_none _ old; holds = holds; good = good }
 
-  module _ {whole : List ℕ} {w : ℕ} {old : List ℕ} {n at : ℕ} {state mid : List ℕ} {v : ℕ} (i : Stepping whole w old n at state mid v) where
-    pub stepping_end : n ≡ 0 → Appended whole w old mid v
+  module _ {whole old : List ℕ} {n at : ℕ} {state mid : List ℕ} (i : Stepping whole old n at state mid) where
+    pub stepping_end : n ≡ 0 → mid ≡ old ++ whole
     stepping_end e = part_all i.appended (steps_none n (list_at state 0) at e)
 
-    module _ (more : 0 < n) {state' new : List ℕ} {r : ℕ}
-        (c : AppendedHeld (first_step (list_at state 0) at) (state_after form s (list_at state 0) (at + step_size)) v mid new state' r) where
-      others : AllBut (steps_to_come (n - 1) (state_after form s (list_at state 0) (at + step_size)) (list_end s (at + step_size))) whole w old new r
-      others = part_then i.appended (part_one _ (steps_first n (list_at state 0) at more) c.appended)
+    module _ (more : 0 < n) where
+      pub stepping_over : max_length < length mid + length (first_step (list_at state 0) at) → max_length < length old + length whole
+      stepping_over h = part_over i.appended (first_step (list_at state 0) at) _ (steps_first n (list_at state 0) at more) h
 
-      pub stepping_over : max_length < r → Appended whole w old new r
-      stepping_over h = part_over others h
-
-      pub stepping_next : r ≤ max_length → (at' : ℕ) → at' ≡ list_end s (at + step_size) → Stepping whole w old (n - 1) at' state' new r
-      stepping_next h at' d =
-          let (holds, e) = c.holds h in
-          record { appended = rw (e, d) others; holds = holds; good = rw (e, d) (steps_next n (list_at state 0) at more i.good).1 }
+      pub stepping_next : (state' new : List ℕ)
+          → (new ≡ mid ++ first_step (list_at state 0) at) × Holds state' × (list_at state' 0 ≡ state_after form s (list_at state 0) (at + step_size))
+          → (at' : ℕ) → at' ≡ list_end s (at + step_size) → Stepping whole old (n - 1) at' state' new
+      stepping_next state' new (same, holds, e) at' d =
+          let part = part_next i.appended (first_step (list_at state 0) at) (steps_first n (list_at state 0) at more) same in
+          record { appended = rw (e, d) part; holds = holds; good = rw (e, d) (steps_next n (list_at state 0) at more i.good).1 }
 
 -- bytes, then a state
-pub carried_then : (a : List ℕ) {b : List ℕ} {after : List Fact} {w v r : ℕ} {old mid new state : List ℕ}
-    → Appended a w old mid v → AppendedHeld b after v mid new state r → AppendedHeld (a ++ b) after w old new state r
-carried_then a {b} p q = record { appended = append_then a b p q.appended; holds = q.holds }
+pub carried_then : {A E : Type 0} (a b : List ℕ) (after : List Fact) (old mid new state : List ℕ) (r : Result A E)
+    → mid ≡ old ++ a → AppendedHeld b after mid new state r → AppendedHeld (a ++ b) after old new state r
+carried_then a b after old mid new state (Ok _) e p = (append_then a b old mid e p.0, p.1, p.2)
+carried_then a b after old mid new state (Err _) e p = over_then a b old mid e p

@@ -1,9 +1,7 @@
--- What forming the converted book promises: `s` the book in the form given, `new` the lent memory afterwards; and the part of a record from its
+-- What forming the converted book promises: `s` the book in the form given, `new` what is formed afterwards; and the part of a record from its
 -- first state on.
-use Rattle.std.specs.Prelude.{ℕ, ◌≡◌, not, List, ◌++◌, length, take, ltb}
-use Rattle.answer.specs.declared.Answer.{Answer}
-use Rattle.answer.specs.declared.Answer.TheVariants.{Good}
-use Rattle.answer.specs.Answer.{◌>>=◌, refuse}
+use Rattle.std.specs.Prelude.{ℕ, ◌≡◌, not, List, ◌++◌, length, ltb}
+use Rattle.answer.specs.Answer.{Answer, Good, ◌>>=◌, refuse}
 use Rattle.limits.specs.Limits.{max_length}
 use Rattle.format.specs.Form.{Form}
 use Rattle.format.specs.Lists.{list_at, list_end}
@@ -17,4 +15,4 @@ trajectory_bytes form s n at = list_bytes (list_at s at) ++ steps_bytes (not for
 pub record ConvertedFormed (form : Form) (s new : List ℕ) (r : Answer) : Type 0 where
   -- row 23, then the length of the converted book
   pub says : r ≡ (refuse (ltb max_length (length (converted (not form) s))) 23 0 >>= λ _. Good (length (converted (not form) s)))
-  pub bytes : (m : ℕ) → r ≡ Good m → take m new ≡ converted (not form) s
+  pub bytes : (m : ℕ) → r ≡ Good m → new ≡ converted (not form) s

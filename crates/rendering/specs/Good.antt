@@ -1,6 +1,6 @@
 -- What the functions ask of a book: that the part which they read is of good form, as looking over the book says.
 use Rattle.std.specs.Prelude.{ℕ, ◌≤◌, ◌≡◌, List, length}
-use Rattle.answer.specs.declared.Answer.TheVariants.{Good}
+use Rattle.answer.specs.Answer.{Good}
 use Rattle.answer.specs.Walk.{walk}
 use Rattle.terms.specs.declared.Fact.{Fact}
 use Rattle.terms.specs.Sections.{sections_of}

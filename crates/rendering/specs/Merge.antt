@@ -1,11 +1,12 @@
 -- Two lists of facts walked together, those of a state and those that turn in it: the facts of each that are left, and what is to be written of them.
-use Rattle.std.specs.Prelude.{ℕ, ◌+◌, ◌<◌, List}
+use Rattle.std.specs.Prelude.{ℕ, ◌+◌, ◌<◌, List, length, Result, Ok, Err}
 use Rattle.terms.specs.declared.Fact.{Fact}
 use Rattle.format.specs.Toggled.{toggled}
 use Rattle.jobs.specs.Convert.{facts_bytes}
 use Rattle.factsets.specs.Right.{Increasing}
 use Rattle.factlist.specs.Rest.{rest, FactsWithin}
 use Rattle.rendering.specs.declared.Walk.{Walk}
+use Rattle.limits.specs.Limits.{max_length}
 use Rattle.appending.specs.Appended.{AllBut}
 
 -- what is still to be written: the facts that are left of the state, those that are left of the list having turned in them
@@ -24,7 +25,12 @@ pub record Merging (state s : List ℕ) (v : Walk) : Type 0 where
 
 -- One turn of the loop, from v to w: fewer facts are left, and what was appended and what is still to be written at w are together what was still to
 -- be written at v.
-pub record NextMerged (state s : List ℕ) (v : Walk) (old : List ℕ) (w : Walk) (new : List ℕ) : Type 0 where
+pub record TurnMerged (state s : List ℕ) (v : Walk) (old new : List ℕ) (w : Walk) : Type 0 where
   pub merging : Merging state s w
   pub less : left w < left v
-  pub appended : AllBut (facts_bytes (to_come state s w)) (facts_bytes (to_come state s v)) v.at old new w.at
+  pub appended : AllBut (facts_bytes (to_come state s w)) (facts_bytes (to_come state s v)) old new
+
+-- or what was still to be written would pass the end
+abbrev pub NextMerged : {E : Type 0} → List ℕ → List ℕ → Walk → List ℕ → List ℕ → Result Walk E → Type 0
+NextMerged state s v old new (Ok w) = TurnMerged state s v old new w
+NextMerged state s v old new (Err _) = max_length < length old + length (facts_bytes (to_come state s v))

@@ -1,13 +1,15 @@
 // The program that prints the rules learned from a book on standard input.
-// Uses listing for the text, which is proved to be jobs' rules_printed of what was read, and streams to write it to its end.
+// Uses listing for the text, which is proved to be jobs' rules_printed of what was read, lines for the memory that it is put in, and streams to write it
+// to its end.
 #![tactic(auto)]
 
+use lines::Text;
 use std::time::Clock;
 
 fn print_rules<R: Clock + Print, E: Print>(rt: &R, errors: &E, book: &[u8]) {
-    let mut out = [0u8; listing::ROOM];
-    let size = listing::rules_listing(book, &mut out);
-    streams::print(rt, errors, &out[..size], b"rules: standard output");
+    let mut text = Text::new();
+    listing::rules_listing(book, &mut text);
+    streams::print(rt, errors, text.as_slice(), b"rules: standard output");
 }
 
 // One byte more than a book may have is read, and no further.

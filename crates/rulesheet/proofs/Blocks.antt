@@ -2,20 +2,23 @@
 use Prim.Native.Nat.{ℕ, zero, suc, ◌+◌, ◌-◌, ◌*◌, ◌≤◌}
 use native.Mathlib.Omega.{arith}
 use mathlib.Core.Path.{◌≡◌, refl, sym, ◌∙◌, ap, ap₂}
-use mathlib.Core.List.{List, [], ◌∷◌, ◌++◌, append_assoc, append-nil}
+use mathlib.Core.List.{List, ◌++◌, append_assoc, append-nil}
 use lib.ListN.{length, take, drop, length-append}
 use lib.Seq.{drop_at, drop-drop}
 use borrow.Rule.Slice.PartMut.{mid_of, put_mid}
-use Rattle.mask.specs.Sets.{difference}
 use Rattle.mask.proofs.Laws.{length_difference}
+use Rattle.std.specs.Prelude.{Option, Some, None}
+use Rattle.std.specs.Borrow.{Bor}
+use Rattle.std.specs.Option.{unwrap_or}
 use Rattle.limits.specs.Limits.{observed_size}
 use Rattle.jobs.specs.SheetBits.{needed_set, needed_not_set, added_set, removed_set}
 use Rattle.observed.specs.Observed.{always_before, ever_before, added, deleted, bound, set_at, observed_set}
 use Rattle.observed.proofs.Noted.{length_observed_set}
 use Rattle.observed.specs.Rules.{rule_set, rules_observed, sheet_observed}
 use Rattle.output.specs.Written.{written}
-use Rattle.rulesheet.specs.Sheet.{rule_sets, block}
-use Rattle.output.proofs.Written.{length_written, written_then, front_written, written_whole, written_part}
+use Rattle.rulesheet.specs.declared.Rules.{Rules}
+use Rattle.rulesheet.specs.Sheet.{rule_sets, block, source}
+use Rattle.output.proofs.Written.{written_then, front_written, written_whole, written_part}
 
 -- what is written at the front leaves the rest
 drop_behind : (l x : List ℕ) (n : ℕ) → length x ≤ n → drop n (written l 0 x) ≡ drop n l
@@ -45,16 +48,6 @@ block_by d a b c e {p} {q} {r} {t} h (f, la) (g, lb) (j, lc) (k, le) =
     k ∙ rw r' (written_then d 0 (a ++ b ++ c) e 96 (omega arith) (omega arith))
 
 module _ (l : List ℕ) where
-  pub rules_by : (a : ℕ) {pos all neg add delete : List ℕ}
-      → pos ≡ observed_set l a always_before
-      → all ≡ observed_set l a bound
-      → neg ≡ difference all (observed_set l a ever_before)
-      → add ≡ observed_set l a added
-      → delete ≡ observed_set l a deleted
-      → ◌≡◌ {A = List (List ℕ)} (pos ∷ neg ∷ add ∷ delete ∷ []) (rule_sets l a)
-  unfolding rule_sets rule_set
-  rules_by a e f g j k = rw (e, g, f, j, k)
-
   pub block_rules : (a : ℕ) → block (rule_sets l a) ≡ rules_observed l a
   unfolding block rule_sets rules_observed
   block_rules a = refl
@@ -102,10 +95,7 @@ module _ (l : List ℕ) where
   sheet_first d = refl
 
   module _ (sized : length l ≡ observed_size) (d s : List ℕ) (i : ℕ) (few : i ≤ 32) (e : s ≡ written d 0 (sheet_observed l i 1)) where
-    pub sheet_length : 128 * i ≤ length d → length s ≡ length d
-    sheet_length h = ap (λ (x : List ℕ). length x) e ∙ length_written d 0 (sheet_observed l i 1) (omega (arith, length_sheet sized i 1 (omega arith) (omega arith)))
-
-    pub sheet_turn : (r : List (List ℕ)) (at : ℕ) (m : List ℕ)
+    pub sheet_turn : (r : Rules) (at : ℕ) (m : List ℕ)
         → length s ≡ length d
         → 128 * (i + 1) ≤ length d
         → at ≡ 128 * i
@@ -116,16 +106,15 @@ module _ (l : List ℕ) where
         let next = sheet_next i 1 in
         let o : 1 + i ≡ i + 1 = omega arith in
         written_part s at (block r) m (omega arith) w
-        ∙ ap (λ (x : List (List ℕ)). written s at (block x)) g
+        ∙ ap (λ (x : Rules). written s at (block x)) g
         ∙ ap₂ (λ (x y : List ℕ). written x at y) e (block_rules (i + 1))
         ∙ written_then d 0 (sheet_observed l i 1) (rules_observed l (i + 1)) at (omega (arith, length_sheet sized i 1 (omega arith) (omega arith))) (omega arith)
         ∙ ap (λ (a : ℕ). written d 0 (sheet_observed l i 1 ++ rules_observed l a)) (sym o)
         ∙ ap (written d 0) (sym next)
 
-    pub sheet_last : (n : ℕ) → length d ≡ 128 * n → i ≤ n → n ≤ i → s ≡ sheet_observed l n 1
-    sheet_last n f h k =
-        let q : i ≡ n = omega arith in
-        e ∙ written_whole d (sheet_observed l i 1) (omega (arith, length_sheet sized i 1 (omega arith) (omega arith))) ∙ ap (λ (j : ℕ). sheet_observed l j 1) q
+  -- a sheet that is as long as its blocks is these
+  pub sheet_whole : length l ≡ observed_size → (d s : List ℕ) (n : ℕ) → n ≤ 32 → length d ≡ 128 * n → s ≡ written d 0 (sheet_observed l n 1) → s ≡ sheet_observed l n 1
+  sheet_whole sized d s n few f e = e ∙ written_whole d (sheet_observed l n 1) (omega (arith, length_sheet sized n 1 (omega arith) (omega arith)))
 
   -- ---- the sheet over what is observed itself: the sets of a move stay where no block has come to
   module _ (sized : length l ≡ observed_size) (s : List ℕ) (i : ℕ) (few : i ≤ 32) (e : s ≡ written l 0 (sheet_observed l i 1)) where
@@ -137,5 +126,14 @@ module _ (l : List ℕ) where
     unfolding rule_sets rule_set
     sets_behind = rw (set_behind always_before, set_behind bound, set_behind ever_before, set_behind added, set_behind deleted)
 
-  pub over_last : (s : List ℕ) (i n : ℕ) → s ≡ written l 0 (sheet_observed l i 1) → i ≡ n → s ≡ written l 0 (sheet_observed l n 1)
-  over_last s i n e f = e ∙ ap (λ (j : ℕ). written l 0 (sheet_observed l j 1)) f
+-- the rules that a turn of the loop reads, from what lies apart or from the sheet as it is: those of what is observed
+pub rules_kept : (apart : Option (Bor (List ℕ))) (d s : List ℕ) (i : ℕ) (here seen : Bor (List ℕ))
+    → length (source apart d) ≡ observed_size
+    → i ≤ 32
+    → s ≡ written d 0 (sheet_observed (source apart d) i 1)
+    → here.now ≡ s
+    → seen ≡ unwrap_or apart here
+    → rule_sets seen.now (i + 1) ≡ rule_sets (source apart d) (i + 1)
+rules_kept None d s i here seen sized few e is q =
+    ap (λ (x : Bor (List ℕ)). rule_sets x.now (i + 1)) q ∙ ap (λ (x : List ℕ). rule_sets x (i + 1)) is ∙ sets_behind d sized s i few e
+rules_kept (Some o) d s i here seen sized few e is q = ap (λ (x : Bor (List ℕ)). rule_sets x.now (i + 1)) q

@@ -1,2 +1,2 @@
--- Laws for the proofs of src/: the sheet (Rows).
+-- Laws for the proofs of src/: the sheet, block after block (Blocks).
 pub mod Blocks

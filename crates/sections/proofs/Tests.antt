@@ -5,9 +5,7 @@ use mathlib.Core.Bool.{Bool, true, false, ◌||◌, not}
 use mathlib.Core.List.{List}
 use lib.Dec.{eqb, ltb, leb}
 use lib.ListN.{length}
-use Rattle.answer.specs.declared.Answer.{Answer}
-use Rattle.answer.specs.declared.Answer.TheVariants.{Refused}
-use Rattle.answer.specs.Answer.{◌>>=◌, refuse, is_refused}
+use Rattle.answer.specs.Answer.{Answer, Refused, ◌>>=◌, refuse, is_refused}
 use Rattle.answer.proofs.Laws.{stays, follows}
 use Rattle.answer.specs.Walk.{walk}
 use Rattle.input.specs.Bytes.{byte_at}

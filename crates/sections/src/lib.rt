@@ -5,9 +5,10 @@
 ghost use Rattle.std.specs.Prelude.{◌≡◌, ◌+◌, ◌≤◌};
 ghost use Rattle.limits.specs.Limits.{header_size, far_ceiling};
 ghost use Rattle.answer.specs.Walk.{walk};
+ghost use Rattle.answer.specs.Refusal.{answer_of};
 ghost use Rattle.format.specs.Header.{length_bad, counts_bad, offsets_bad, parent_bad, kind_bad, relation_bad, move_bad, parent, relation, move, sections};
 
-use answer::Answer;
+use answer::{Reason, Refusal};
 use terms::Sections;
 
 // Row 1.
@@ -87,78 +88,54 @@ fn move_bad(s: &[u8], kinds: u16, at: usize) -> bool
 }
 
 // Row 21 of each parent: where the relations start, or the first one that is wrong.
-fn parents(s: &[u8], n: usize, from: usize) -> Answer
+fn parents(s: &[u8], n: usize, from: usize) -> Result<usize, Refusal>
     requires { (header_size ≤ from) × (from + n ≤ far_ceiling) }
-    ensures { result ≡ walk (parent s.now) n from }
+    ensures { answer_of result ≡ walk (parent s.now) n from }
 {
-    let mut left = n;
-    let mut at = from;
-    while 0 < left {
-        if parent_bad(s, at) {
-            return Answer::Refused(21, at);
-        }
-        at += 1;
-        left -= 1;
-    }
-    Answer::Good(at)
+    answer::walk_entries(Reason::Parent, 1, n, from, |at| parent_bad(s, at))
 }
 
 // Row 4 of each relation: where the moves start, or the first one that is wrong.
-fn relations(s: &[u8], kinds: u16, n: u16, from: u16) -> Answer
-    ensures { result ≡ walk (relation s.now kinds) n from }
+fn relations(s: &[u8], kinds: u16, n: u16, from: u16) -> Result<usize, Refusal>
+    ensures { answer_of result ≡ walk (relation s.now kinds) n from }
 {
-    let mut left = n;
-    let mut at = from as usize;
-    while 0 < left {
-        if relation_bad(s, kinds, at) {
-            return Answer::Refused(4, at);
-        }
-        at += limits::RELATION_SIZE;
-        left -= 1;
-    }
-    Answer::Good(at)
+    answer::walk_entries(
+        Reason::Relation,
+        limits::RELATION_SIZE,
+        n as usize,
+        from as usize,
+        |at| relation_bad(s, kinds, at),
+    )
 }
 
 // Row 5 of each move: where the records start, or the first one that is wrong.
-fn moves(s: &[u8], kinds: u16, n: u16, from: u16) -> Answer
-    ensures { result ≡ walk (move s.now kinds) n from }
+fn moves(s: &[u8], kinds: u16, n: u16, from: u16) -> Result<usize, Refusal>
+    ensures { answer_of result ≡ walk (move s.now kinds) n from }
 {
-    let mut left = n;
-    let mut at = from as usize;
-    while 0 < left {
-        if move_bad(s, kinds, at) {
-            return Answer::Refused(5, at);
-        }
-        at += limits::MOVE_SIZE;
-        left -= 1;
-    }
-    Answer::Good(at)
+    answer::walk_entries(
+        Reason::Move,
+        limits::MOVE_SIZE,
+        n as usize,
+        from as usize,
+        |at| move_bad(s, kinds, at),
+    )
 }
 
 // Rows 1 to 5 in order, 21 after 3, of a book with the header `h`: where the records start, or the first refusal met.
-pub fn sections(s: &[u8], h: Sections) -> Answer
-    ensures { result ≡ sections h s.now }
+pub fn sections(s: &[u8], h: Sections) -> Result<usize, Refusal>
+    ensures { answer_of result ≡ sections h s.now }
 {
     if length_bad(s) {
-        return Answer::Refused(1, 0);
+        return Err(Reason::BookLength.at(0));
     }
     if counts_bad(h) {
-        return Answer::Refused(2, 0);
+        return Err(Reason::BookCounts.at(0));
     }
     if offsets_bad(h, s.len()) {
-        return Answer::Refused(3, 0);
+        return Err(Reason::BookOffsets.at(0));
     }
-    let ranked = parents(
-        s,
-        h.relations.at as usize - limits::HEADER_SIZE,
-        limits::HEADER_SIZE,
-    );
-    if answer::is_refused(ranked) {
-        return ranked;
-    }
-    let listed = relations(s, h.kinds, h.relations.count, h.relations.at);
-    if answer::is_refused(listed) {
-        return listed;
-    }
+    let first = limits::HEADER_SIZE;
+    parents(s, h.relations.at as usize - first, first)?;
+    relations(s, h.kinds, h.relations.count, h.relations.at)?;
     moves(s, h.kinds, h.moves.count, h.moves.at)
 }

@@ -2,7 +2,7 @@
 use Prim.Native.Nat.{ℕ, zero, suc}
 use mathlib.Core.Path.{◌≡◌, refl, sym}
 use mathlib.Core.List.{List}
-use Rattle.answer.specs.declared.Answer.TheVariants.{Good}
+use Rattle.answer.specs.Answer.{Good}
 use Rattle.answer.proofs.Laws.{good_refused}
 use Rattle.format.specs.Order.{GoalEntry}
 use Rattle.jobs.specs.Check.{goal_answer}

@@ -1,9 +1,6 @@
 -- What the functions say: rows 19 and 20 from a start and from each start with the state masks, and with the lent end sheet.
 use Rattle.std.specs.Prelude.{ℕ, ◌≤◌, ◌≡◌, List, length}
-use Rattle.answer.specs.declared.Answer.{Answer}
-use Rattle.answer.specs.declared.Answer.TheVariants.{Good}
-use Rattle.answer.specs.declared.Positioned.{Positioned}
-use Rattle.answer.specs.Answer.{kept}
+use Rattle.answer.specs.Answer.{Answer, Good, Positioned, kept}
 use Rattle.answer.specs.Walk.{walk}
 use Rattle.limits.specs.Limits.{max_length}
 use Rattle.terms.specs.declared.Fact.{Fact}

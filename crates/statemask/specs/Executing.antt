@@ -1,8 +1,7 @@
 -- What it takes for masks to execute a plan as a model does over states, and what "as the model does" means.
 use Rattle.std.specs.Prelude.{ℕ, zero, suc, ◌≤◌, ◌<◌, ◌≡◌, true, false, List}
 use Rattle.limits.specs.Limits.{set_size, state_size, max_atoms, max_fact_numbers}
-use Rattle.answer.specs.declared.Answer.{Answer}
-use Rattle.answer.specs.declared.Answer.TheVariants.{Refused}
+use Rattle.answer.specs.Answer.{Answer, Refused}
 use Rattle.terms.specs.declared.Step.{Step}
 use Rattle.terms.specs.Schema.{Schema}
 use Rattle.format.specs.Order.{GoalEntry}

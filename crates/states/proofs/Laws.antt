@@ -1,11 +1,11 @@
 -- A state's rows as the code meets them, and what format/proofs/States says of facts and states, for this crate's callers.
-use Prim.Native.Nat.{ℕ, ◌+◌, ◌≤◌, ◌<◌}
+use Prim.Native.Nat.{ℕ, ◌+◌, ◌≤◌}
 use mathlib.Core.Path.{◌≡◌, refl}
 use mathlib.Core.Bool.{true, false}
 use mathlib.Core.List.{List}
 use lib.Dec.{ltb}
-use borrow.Author.Tests.{lt-ltb, le-ltb}
-use Rattle.answer.specs.declared.Answer.TheVariants.{Refused}
+use borrow.Author.Tests.{le-ltb}
+use Rattle.answer.specs.Answer.{Refused}
 use Rattle.answer.proofs.Laws.{refuse_met, refuse_unmet}
 use Rattle.input.specs.Bytes.{two}
 use Rattle.terms.specs.Schema.{Schema, TypedObjects}
@@ -14,10 +14,6 @@ use Rattle.format.specs.Filed.{as_written}
 use Rattle.format.specs.States.{cut, count_bad, facts, list}
 
 module _ (most : ℕ) (s : List ℕ) (end : ℕ) where
-  pub count_cut : (at : ℕ) → end < at + 2 → true ≡ count_bad most s end at
-  unfolding count_bad cut
-  count_cut at h = rw (lt-ltb end (at + 2) h) refl
-
   pub count_whole : (at n : ℕ) → at + 2 ≤ end → n ≡ two s at → ltb most n ≡ count_bad most s end at
   unfolding count_bad cut
   count_whole at n h e = rw (e, le-ltb end (at + 2) h) refl

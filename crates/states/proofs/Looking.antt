@@ -5,16 +5,14 @@ use mathlib.Core.Bool.{Bool, true, false, not}
 use mathlib.Core.List.{List}
 use lib.Dec.{leb}
 use native.Mathlib.Omega.{arith}
-use borrow.Author.Tests.{leb-true, le-leb, le-ltb}
-use Rattle.truth.specs.Bools.{and_out, clash}
-use Rattle.answer.specs.declared.Answer.{Answer}
-use Rattle.answer.specs.declared.Answer.TheVariants.{Good, Refused}
-use Rattle.input.specs.Bytes.{two}
+use borrow.Author.Tests.{leb-true, le-leb, le-ltb, not-true}
+use Rattle.truth.specs.Bools.{and_out}
+use Rattle.answer.specs.Answer.{Answer, Good, Refused}
 use Rattle.terms.specs.declared.Fact.{Fact}
 use Rattle.terms.specs.Schema.{Schema, TypedObjects}
 use Rattle.terms.specs.Facts.{no_fact}
 use Rattle.terms.specs.Told.{fact_key}
-use Rattle.limits.specs.Limits.{count_size, fact_size}
+use Rattle.limits.specs.Limits.{fact_size}
 use Rattle.format.specs.Filed.{as_written}
 use Rattle.format.specs.Lists.{list_end}
 use Rattle.format.specs.States.{count_bad, facts, list}
@@ -30,24 +28,12 @@ use Rattle.states.proofs.Laws.{count_whole, list_facts}
 -- ---- whether a list is whole
 
 module _ (most : ℕ) (s : List ℕ) (end at : ℕ) where
-  pub whole_not : count_bad most s end at ≡ true → false ≡ whole_list most s end at
-  unfolding whole_list
-  whole_not e = rw e
-
-  pub whole_by : (n : ℕ) → count_bad most s end at ≡ false → n ≡ two s at → leb (at + count_size + fact_size * n) end ≡ whole_list most s end at
-  unfolding whole_list list_end
-  whole_by n e q = rw (e, q)
-
   -- what it says
   pub whole_parts : whole_list most s end at ≡ true → (count_bad most s end at ≡ false) × (list_end s at ≤ end)
   unfolding whole_list
   whole_parts e =
       let (x, y) = and_out (not (count_bad most s end at)) (leb (list_end s at) end) e in
-      (go (count_bad most s end at) x, leb-true _ _ y)
-    where
-      go : (b : Bool) → not b ≡ true → b ≡ false
-      go true e = clash false e refl
-      go false e = refl
+      (not-true _ x, leb-true _ _ y)
 
 -- ---- fact by fact
 

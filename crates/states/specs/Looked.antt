@@ -1,7 +1,7 @@
 -- A list of facts that is looked over while it is read for something else: when no fact of it is cut, and what is known of the whole list when the
 -- cursor has come to one of its facts.
 use Rattle.std.specs.Prelude.{ℕ, ◌+◌, ◌*◌, ◌≤◌, ◌≡◌, Bool, ◌&&◌, not, List, leb}
-use Rattle.answer.specs.declared.Answer.{Answer}
+use Rattle.answer.specs.Answer.{Answer}
 use Rattle.input.specs.Bytes.{two}
 use Rattle.terms.specs.Facts.{no_fact}
 use Rattle.terms.specs.Told.{fact_key}

@@ -2,19 +2,24 @@
 -- For `listed`, `look_rest`, `mark_next`, `mark_step` and `mark_turned` of src/lib.rt. Uses the laws of states, Facts for what comes next.
 use Prim.Native.Nat.{ℕ, ◌+◌, ◌-◌, ◌<◌, ◌≤◌}
 use mathlib.Core.Path.{◌≡◌, refl, sym, ap, ◌∙◌}
-use mathlib.Core.Bool.{Bool, true, false, not}
+use mathlib.Core.Bool.{Bool, true, false, ◌&&◌, not}
 use mathlib.Core.List.{List, ◌∷◌}
 use native.Mathlib.Omega.{arith}
+use lib.Dec.{eqb}
 use lib.ListN.{length}
-use Rattle.truth.specs.Bools.{clash, neither}
+use borrow.Author.Tests.{eqb-true, eq-eqb}
+use Rattle.truth.specs.Bools.{clash, and_out, neither}
 use Rattle.input.specs.Bytes.{two}
 use Rattle.limits.specs.Limits.{count_size, fact_size, near_ceiling, max_fact_numbers}
 use Rattle.terms.specs.declared.Fact.{Fact}
-use Rattle.terms.specs.Facts.{fact_at, fact_bad, fact_number, same_fact, precedes, no_fact}
+use Rattle.terms.specs.Facts.{fact_at, fact_bad, fact_number, precedes, no_fact}
 use Rattle.terms.specs.Told.{suits, fact_key}
+use Rattle.answer.specs.Answer.{Refused}
+use Rattle.format.specs.Filed.{as_written}
 use Rattle.format.specs.Lists.{list_end}
+use Rattle.format.specs.States.{facts}
 use Rattle.quantify.specs.Quantify.{here, there}
-use Rattle.terms.proofs.Same.{same_fact_lem}
+use Rattle.terms.proofs.Atoms.{fact_path}
 use Rattle.factsets.proofs.Numbers.{number_below}
 use Rattle.tables.specs.Tables.{ForRightByPlace}
 use Rattle.states.specs.declared.FactCursor.{FactCursor}
@@ -25,7 +30,7 @@ use Rattle.states.proofs.Cursors.{misplaced_by}
 use Rattle.states.proofs.Looking.{looked_first, looked_next, looked_bad}
 use Rattle.factlist.specs.declared.ListCursor.{ListCursor}
 use Rattle.factlist.specs.Rest.{rest, next, FactsWithin, Comes}
-use Rattle.stepmasks.specs.Marks.{plain, RightForFew, Suited, ListAhead, Looks}
+use Rattle.stepmasks.specs.Marks.{plain, RightForFew, Suited, ListAhead}
 use Rattle.factlist.proofs.Rest.{of_list_by, comes_by}
 
 -- the cursor c' is past the fact at c
@@ -78,6 +83,20 @@ looking_known s table at c l =
 
 -- ---- one fact
 
+-- what `==` says of two facts
+abbrev Compared : Fact → Fact → Bool → Type 0
+Compared f g t = t ≡ (eqb f.relation.0 g.relation.0 && (eqb f.first.0 g.first.0 && eqb f.second.0 g.second.0))
+
+pub facts_equal : (f g : Fact) (t : Bool) → Compared f g t → t ≡ true → f ≡ g
+facts_equal f g t e h =
+    let (r, both) = and_out (eqb f.relation.0 g.relation.0) _ (sym e ∙ h) in
+    let (x, y) = and_out (eqb f.first.0 g.first.0) _ both in
+    fact_path f g (eqb-true _ _ r) (eqb-true _ _ x) (eqb-true _ _ y)
+
+pub facts_differ : (f g : Fact) (t : Bool) → Compared f g t → t ≡ false → f ≡ g → ⊥
+facts_differ f g t e h d =
+    clash t (e ∙ rw (← d, eq-eqb f.relation.0 _ refl, eq-eqb f.first.0 _ refl, eq-eqb f.second.0 _ refl)) h
+
 -- of facts that suit, those after the first do
 pub suited_next : (table : List ℕ) (f : Fact) (fs gs : List Fact) → gs ≡ f ∷ fs → Suited table gs → Suited table fs
 suited_next table f fs gs e all g m = all g (rw e (there m))
@@ -90,31 +109,24 @@ module _ (s table : List ℕ) (c : FactCursor) where
   suited_told f b l p q r sch ob right = misplaced_by sch ob s table right c f true b l p (sym q) r
 
   -- so is a fact that comes next before the step too, where all that come there suit
-  pub same_told : (d : ListCursor) (f g : Fact) (same b : Bool)
+  pub same_told : (d : ListCursor) (f g : Fact) (b : Bool)
       → Comes s d f
       → Suited table (rest s d)
-      → same ≡ same_fact f g
-      → same ≡ true
+      → f ≡ g
       → g.relation.0 < 256
       → g ≡ fact_of s c
       → b ≡ precedes c.last g
       → ForRightByPlace table (λ sch ob. not b ≡ misplaced sch ob s c)
-  same_told d f g same b next-f all is u l p r =
-      let h : f ≡ g = same_fact_lem f g (sym is ∙ u) in
-      suited_told g b l p (rw (← h) (all f (rw next-f.first here))) r
-
-  pub looks_stay : Looks s table c c false
-  looks_stay = record { on = λ _ end n from looked. looked; refused = λ e. clash false e refl }
+  same_told d f g b next-f all h l p r = suited_told g b l p (rw (← h) (all f (rw next-f.first here))) r
 
   module _ (b : Bool) (told : ForRightByPlace table (λ sch ob. b ≡ misplaced sch ob s c)) where
     module _ (some : 0 < c.left) where
-      pub looks_next : b ≡ false → (c' : FactCursor) → Moves s c c' → Looks s table c c' false
-      looks_next e c' g =
-          record { on = λ _ end n from looked. looked_next 8 s table end n from c looked some b told e c' g; refused = λ h. clash false h refl }
+      pub looks_next : b ≡ false → (c' : FactCursor) → Moves s c c' → (end n from : ℕ) → Looked 8 s table end n from c → Looked 8 s table end n from c'
+      looks_next e c' g end n from looked = looked_next 8 s table end n from c looked some b told e c' g
 
-      pub looks_wrong : b ≡ true → (c' : FactCursor) (r : Bool) → r ≡ true → Looks s table c c' r
-      looks_wrong e c' r h =
-          record { on = λ k. clash r h k; refused = λ _ end n from looked. looked_bad 8 s table end n from c looked some b told e }
+      pub looks_wrong : b ≡ true → (end n from : ℕ) → Looked 8 s table end n from c
+          → ForRightByPlace table (λ sch ob. Refused 8 c.at ≡ facts as_written 8 sch ob s end n no_fact from)
+      looks_wrong e end n from looked = looked_bad 8 s table end n from c looked some b told e
 
     -- the number of a fact that is right
     pub number_known : RightForFew table → b ≡ false → (f : Fact) → f ≡ fact_of s c → fact_number f < max_fact_numbers

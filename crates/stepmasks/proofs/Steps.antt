@@ -2,36 +2,40 @@
 -- whole states. For `mark_next` and `mark_step` of src/lib.rt. Uses Unbound for row 11, Facts and Looks for each state.
 use Prim.Native.Nat.{ℕ, ◌<◌, ◌≤◌}
 use mathlib.Core.Path.{◌≡◌, refl, sym, ap, ap₂, ◌∙◌}
-use mathlib.Core.Bool.{Bool, true, false, ◌&&◌, ◌||◌, or_assoc, or-false}
+use mathlib.Core.Bool.{Bool, true, false, ◌&&◌, ◌||◌, not, or_assoc, or-false}
 use mathlib.Core.List.{List, []}
+use Rattle.std.proofs.Common.{Option, is_some}
 use native.Mathlib.Omega.{arith}
 use borrow.Author.Tests.{ltb-false}
-use lib.Dec.{ltb, leb}
+use lib.Dec.{ltb}
 use Rattle.truth.specs.Bools.{clash, or_right}
 use Rattle.mask.specs.Sets.{empty}
 use Rattle.terms.specs.declared.Binding.{Binding}
 use Rattle.terms.specs.declared.Fact.{Fact}
-use Rattle.terms.specs.Facts.{same_fact, precedes}
+use Rattle.terms.specs.Facts.{precedes}
 use Rattle.format.specs.Lists.{list_at}
 use Rattle.observed.specs.Inverse.{marks, atoms_in, unbound, in_one_alone, some_fact, unbound_changed}
-use Rattle.terms.proofs.Same.{same_fact_lem, fact_same}
 use Rattle.states.specs.declared.FactCursor.{FactCursor}
 use Rattle.factlist.specs.declared.ListCursor.{ListCursor}
 use Rattle.stepmasks.specs.declared.Walk.{Walk}
-use Rattle.lifting.specs.Pairs.{pair_of}
+use Rattle.lifting.specs.Pairs.{lifted}
 use Rattle.factlist.specs.Rest.{rest, FactsWithin, Comes}
-use Rattle.stepmasks.specs.Marks.{plain, going_on, says, NextMarked, ListAhead, StepMarked}
-use Rattle.lifting.proofs.Pairs.{place_bound_lem, place_unbound, pair_test}
+use Rattle.stepmasks.specs.Marks.{plain, says, NextMarked, ListAhead, StepMarked}
+use Rattle.lifting.proofs.Pairs.{atom_bound, atom_unbound, atom_test}
 use Rattle.stepmasks.proofs.Unbound.{none_after, both_more, before_more, first_more, second_more}
 use Rattle.factlist.proofs.Rest.{rest_none}
 use Rattle.stepmasks.proofs.Facts.{Passes, passed_by}
 use Rattle.stepmasks.proofs.Looks.{suited_next}
 
+-- the walk that goes on from two cursors
+abbrev pub going_on : ListCursor → FactCursor → Bool → Walk
+going_on p q changed = record { pre = p; post = q; changed = changed }
+
 module _ (s atoms : List ℕ) (b : Binding) where
   -- ---- one fact more: f comes next before
   module _ (w : Walk) (f : Fact) (m n : List ℕ) (now-f : Comes s w.pre f) where
     -- a bound fact that does not come next after
-    pub marked_before : FactsWithin s (plain w.post) → (x : ℕ) → x ≡ pair_of atoms b f → x < 16 → (p : ListCursor) (m' : List ℕ) → Passes f x w.pre m p m'
+    pub marked_before : FactsWithin s (plain w.post) → (x : Option ℕ) → x ≡ lifted atoms b f → is_some x ≡ true → (p : ListCursor) (m' : List ℕ) → Passes x w.pre m p m'
         → NextMarked s atoms b w m n (going_on p w.post w.changed) m' n
     unfolding says
     marked_before a x is u p m' d =
@@ -42,20 +46,19 @@ module _ (s atoms : List ℕ) (b : Binding) where
           suited = λ table. suited_next table f (rest s p) (rest s w.pre) i.first;
           before = i.marked;
           after = refl;
-          same = ap (λ (y : Bool). w.changed || y) (rw i.first (sym (before_more atoms b f (rest s p) (rest s (plain w.post)) (place_bound_lem b f atoms x is u))));
+          same = ap (λ (y : Bool). w.changed || y) (rw i.first (sym (before_more atoms b f (rest s p) (rest s (plain w.post)) (atom_bound b f atoms x is u))));
           less = omega (arith, i.less);
         }
 
     -- g comes next after
-    module _ (g : Fact) (now-g : Comes s (plain w.post) g) (t : Bool) (is-t : t ≡ same_fact f g) where
-      pub marked_both : (x : ℕ) → x ≡ pair_of atoms b f → t ≡ true
+    module _ (g : Fact) (now-g : Comes s (plain w.post) g) where
+      pub marked_both : (x : Option ℕ) → x ≡ lifted atoms b f → f ≡ g
           → (p : ListCursor) (q : FactCursor) (m' n' : List ℕ)
-          → Passes f x w.pre m p m'
-          → Passes f x (plain w.post) n (plain q) n'
+          → Passes x w.pre m p m'
+          → Passes x (plain w.post) n (plain q) n'
           → NextMarked s atoms b w m n (going_on p q w.changed) m' n'
       unfolding says plain
-      marked_both x is u p q m' n' d e =
-          let h : f ≡ g = same_fact_lem f g (sym is-t ∙ u) in
+      marked_both x is h p q m' n' d e =
           let i = passed_by s atoms b is now-f d in
           let j = passed_by s atoms b is (rw h now-g) e in
           record {
@@ -68,17 +71,17 @@ module _ (s atoms : List ℕ) (b : Binding) where
             less = omega (arith, i.less, j.less);
           }
 
-      -- f is no bound fact and differs; r says whether it precedes g
-      module _ (u : t ≡ false) (x y : ℕ) (is : x ≡ pair_of atoms b f) (v : 16 ≤ x) (is' : y ≡ pair_of atoms b g) (r : Bool) (order : r ≡ precedes f g) where
+      -- f is no bound fact and differs; `none` says whether g is none either, and r whether f precedes g
+      module _ (apart : f ≡ g → ⊥) (x y : Option ℕ) (is : x ≡ lifted atoms b f) (v : is_some x ≡ false) (is' : y ≡ lifted atoms b g) (none r : Bool) (told : is_some y ≡ not none) (order : r ≡ precedes f g) where
         -- nor is g a bound fact, and f comes first
-        pub marked_first : FactsWithin s (plain w.post) → (leb 16 y && r) ≡ true
+        pub marked_first : FactsWithin s (plain w.post) → (none && r) ≡ true
             → (p : ListCursor) (m' : List ℕ)
-            → Passes f x w.pre m p m'
+            → Passes x w.pre m p m'
             → NextMarked s atoms b w m n (going_on p w.post true) m' n
         unfolding says
         marked_first a both p m' e =
             let i = passed_by s atoms b is now-f e in
-            let h = place_unbound b f atoms x is v in
+            let h = atom_unbound b f atoms x is v in
             record {
               ahead = i.ahead;
               ahead_after = a;
@@ -87,19 +90,19 @@ module _ (s atoms : List ℕ) (b : Binding) where
               after = refl;
               same =
                   sym (or_right w.changed _
-                  (rw (i.first, now-g.first) (sym (first_more atoms b f (rest s p) g _ r h order (leb 16 y) (pair_test b g atoms y is') both))));
+                  (rw (i.first, now-g.first) (sym (first_more atoms b f (rest s p) g _ r h order none (atom_test b g atoms y is' none told) both))));
               less = omega (arith, i.less);
             }
 
         -- g is a bound fact, or comes first
-        pub marked_after : FactsWithin s w.pre → (leb 16 y && r) ≡ false
+        pub marked_after : FactsWithin s w.pre → (none && r) ≡ false
             → (q : FactCursor) (n' : List ℕ)
-            → Passes g y (plain w.post) n (plain q) n'
-            → NextMarked s atoms b w m n (going_on w.pre q (w.changed || leb 16 y)) m n'
+            → Passes y (plain w.post) n (plain q) n'
+            → NextMarked s atoms b w m n (going_on w.pre q (w.changed || none)) m n'
         unfolding says plain
         marked_after a either q n' e =
             let j = passed_by s atoms b is' now-g e in
-            let h = place_unbound b f atoms x is v in
+            let h = atom_unbound b f atoms x is v in
             record {
               ahead = a;
               ahead_after = j.ahead;
@@ -107,10 +110,10 @@ module _ (s atoms : List ℕ) (b : Binding) where
               before = refl;
               after = j.marked;
               same =
-                  or_assoc w.changed (leb 16 y) (unbound_changed atoms b (rest s w.pre) (rest s (plain q)))
+                  or_assoc w.changed none (unbound_changed atoms b (rest s w.pre) (rest s (plain q)))
                   ∙ ap (λ (z : Bool). w.changed || z)
                   (rw (now-f.first, j.first)
-                  (second_more atoms b f _ g (rest s (plain q)) r h order (leb 16 y) (pair_test b g atoms y is') either (λ d. clash _ (fact_same f) (rw (← d) at (sym is-t ∙ u)))));
+                  (second_more atoms b f _ g (rest s (plain q)) r h order none (atom_test b g atoms y is' none told) either apart));
               less = omega (arith, j.less);
             }
 

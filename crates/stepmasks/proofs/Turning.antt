@@ -1,9 +1,9 @@
 -- The facts of a list that turn in a state and in a set of bound facts, one by one. For `mark_turned` of src/lib.rt.
 use Prim.Native.Nat.{ℕ}
 use mathlib.Core.Path.{◌≡◌, refl, sym, ap, ◌∙◌}
-use mathlib.Core.Bool.{Bool, false, ◌||◌, or-false, or_assoc}
+use mathlib.Core.Bool.{Bool, false, ◌||◌, not, or-false, or_assoc}
 use mathlib.Core.List.{List}
-use lib.Dec.{leb}
+use Rattle.std.proofs.Common.{Option, is_some}
 use lib.ListN.{length}
 use Rattle.mask.specs.Bits.{flip_bit}
 use Rattle.terms.specs.declared.Binding.{Binding}
@@ -13,9 +13,9 @@ use Rattle.quantify.specs.Quantify.{any}
 use Rattle.observed.specs.Inverse.{turn_marks, some_unbound}
 use Rattle.turning.specs.Turning.{flipped}
 use Rattle.factlist.specs.declared.ListCursor.{ListCursor}
-use Rattle.lifting.specs.Pairs.{pair_of, turned_as}
+use Rattle.lifting.specs.Pairs.{lifted, turned_as}
 use Rattle.factlist.specs.Rest.{rest, FactsWithin, next, Comes}
-use Rattle.lifting.proofs.Pairs.{pair_test, turned_as_lem}
+use Rattle.lifting.proofs.Pairs.{atom_test, turned_as_lem}
 use Rattle.factlist.proofs.Rest.{rest_none}
 
 module _ (s atoms : List ℕ) (b : Binding) where
@@ -31,25 +31,26 @@ module _ (s atoms : List ℕ) (b : Binding) where
   turns_none m n c w = record { ahead = w; long = (refl, refl); state = refl; after = refl; met = refl }
 
   module _ {m₀ n₀ : List ℕ} {c₀ : ListCursor} {m n : List ℕ} {c : ListCursor} {unbound : Bool} (w : Turns m₀ n₀ c₀ m n c unbound) where
-    pub turns_next : (f : Fact) (x : ℕ) (m' n' : List ℕ) (c' : ListCursor)
+    pub turns_next : (f : Fact) (x : Option ℕ) (m' n' : List ℕ) (c' : ListCursor) (none : Bool)
         → Comes s c f
-        → x ≡ pair_of atoms b f
+        → x ≡ lifted atoms b f
         → m' ≡ flip_bit m (fact_number f)
-        → n' ≡ turned_as n f x
+        → n' ≡ turned_as n x
         → c' ≡ next c
         → length m' ≡ length m
         → length n' ≡ length n
-        → Turns m₀ n₀ c₀ m' n' c' (unbound || leb 16 x)
+        → is_some x ≡ not none
+        → Turns m₀ n₀ c₀ m' n' c' (unbound || none)
     unfolding flipped turn_marks some_unbound any
-    turns_next f x m' n' c' e d p q o k l =
+    turns_next f x m' n' c' none e d p q o k l told =
         record {
           ahead = rw o e.ahead;
           long = (k ∙ w.long.0, l ∙ w.long.1);
           state = rw (p, o) (ap (λ (fs : List Fact). flipped fs m) (sym e.first) ∙ w.state);
           after = rw (q, o, turned_as_lem b f atoms x d n) (ap (turn_marks atoms b n) (sym e.first) ∙ w.after);
           met =
-              or_assoc unbound (leb 16 x) (some_unbound atoms b (rest s c'))
-              ∙ ap (λ (y : Bool). unbound || y) (rw (pair_test b f atoms x d, o) (ap (some_unbound atoms b) (sym e.first))) ∙ w.met;
+              or_assoc unbound none (some_unbound atoms b (rest s c'))
+              ∙ ap (λ (y : Bool). unbound || y) (rw (atom_test b f atoms x d none told, o) (ap (some_unbound atoms b) (sym e.first))) ∙ w.met;
         }
 
     pub turns_all : c.left ≡ 0 → (m ≡ flipped (rest s c₀) m₀) × (n ≡ turn_marks atoms b n₀ (rest s c₀)) × (unbound ≡ some_unbound atoms b (rest s c₀))

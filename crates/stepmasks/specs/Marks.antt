@@ -1,13 +1,14 @@
 -- A step's bound facts and row 11, in the parts that the functions compute: the facts of a list that are left, and two states walked together, the
 -- second looked over on the way. `StepMarked`, `StepTurned`, `Suited` and `RightForFew` are for callers.
 -- Uses the definitions of observed, format and states.
-use Rattle.std.specs.Prelude.{ℕ, ◌+◌, ◌<◌, ◌≤◌, ◌≡◌, Bool, true, false, ◌||◌, List, []}
+use Rattle.std.specs.Prelude.{ℕ, ◌+◌, ◌<◌, ◌≤◌, ◌≡◌, Bool, true, ◌||◌, List, [], Result, IfOk, MatchResult}
 use Rattle.terms.specs.declared.Binding.{Binding}
 use Rattle.terms.specs.declared.Fact.{Fact}
 use Rattle.terms.specs.Schema.{Schema, TypedObjects}
 use Rattle.terms.specs.Facts.{no_fact}
 use Rattle.terms.specs.Told.{suits}
-use Rattle.answer.specs.declared.Answer.TheVariants.{Good, Refused}
+use Rattle.answer.specs.declared.Refusal.{Refusal}
+use Rattle.answer.specs.Refusal.{refused_by, answer_by}
 use Rattle.limits.specs.Limits.{count_size, max_objects, max_relations}
 use Rattle.input.specs.Bytes.{two}
 use Rattle.format.specs.Filed.{as_written}
@@ -22,7 +23,7 @@ use Rattle.states.specs.Looked.{Looked}
 use Rattle.observed.specs.Inverse.{marks, atoms_in, unbound_changed, turn_marks, some_unbound}
 use Rattle.turning.specs.Turning.{flipped}
 use Rattle.stepmasks.specs.declared.Walk.{Walk}
-use Rattle.stepmasks.specs.declared.MarkedList.{MarkedList}
+use Rattle.stepmasks.specs.declared.Marked.{Marked}
 
 -- ---- the facts of a state that are looked over on the way
 
@@ -48,22 +49,18 @@ pub record ListAhead (s : List ℕ) (at : ℕ) (c : FactCursor) : Type 0 where
   pub ahead : FactsWithin s (plain c)
   pub looked : (table : List ℕ) (end : ℕ) → list_end s at ≤ end → Looked 8 s table end (two s at) (at + count_size) c
 
--- From the cursor c to c', which is c or past the fact at c. If `bad` is false, a fact that was passed is right and in order; if it is true, the list
--- is refused at the fact at c.
-pub record Looks (s table : List ℕ) (c c' : FactCursor) (bad : Bool) : Type 0 where
-  pub on : bad ≡ false → (end n from : ℕ) → Looked 8 s table end n from c → Looked 8 s table end n from c'
-  pub refused : bad ≡ true → (end n from : ℕ) → Looked 8 s table end n from c → ForRightByPlace table (λ sch ob. Refused 8 c.at ≡ facts as_written 8 sch ob s end n no_fact from)
+-- One turn from the cursor c on: a fact that was passed is right and in order, or the list is refused at the fact at c.
+abbrev pub Looks : List ℕ → List ℕ → FactCursor → Result Walk Refusal → Type 0
+Looks s table c r =
+    MatchResult r (λ w. (end n from : ℕ) → Looked 8 s table end n from c → Looked 8 s table end n from w.post)
+    (λ e. (end n from : ℕ) → Looked 8 s table end n from c → ForRightByPlace table (λ sch ob. refused_by e ≡ facts as_written 8 sch ob s end n no_fact from))
 
 -- the facts from a cursor on, looked over and marked
-pub record RestMarked (s table atoms : List ℕ) (b : Binding) (c : FactCursor) (m m' : List ℕ) (r : MarkedList) : Type 0 where
-  pub answers : (end n from : ℕ) → Looked 8 s table end n from c → ForRightByPlace table (λ sch ob. r.answer ≡ facts as_written 8 sch ob s end n no_fact from)
-  pub marked : (k : ℕ) → r.answer ≡ Good k → (m' ≡ marks atoms b m (rest s (plain c))) × (r.unbound ≡ unbound_changed atoms b [] (rest s (plain c)))
+pub record RestMarked (s table atoms : List ℕ) (b : Binding) (c : FactCursor) (m m' : List ℕ) (r : Result Marked Refusal) : Type 0 where
+  pub answers : (end n from : ℕ) → Looked 8 s table end n from c → ForRightByPlace table (λ sch ob. answer_by (λ (x : Marked). x.next) r ≡ facts as_written 8 sch ob s end n no_fact from)
+  pub marked : IfOk r (λ x. (m' ≡ marks atoms b m (rest s (plain c))) × (x.unbound ≡ unbound_changed atoms b [] (rest s (plain c))))
 
 -- ---- the facts of two states
-
--- the walk from two cursors, no fact being wrong
-abbrev pub going_on : ListCursor → FactCursor → Bool → Walk
-going_on p q changed = record { pre = p; post = q; changed = changed; bad = false }
 
 abbrev pub to_come : Walk → ℕ
 to_come w = w.pre.left + w.post.left

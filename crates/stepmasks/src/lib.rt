@@ -4,54 +4,55 @@
 // limits; the contracts cite observed and format, and specs/Marks.antt for the parts.
 #![tactic(auto)]
 
-ghost use Rattle.std.specs.Prelude.{ℕ, ◌+◌, ◌≤◌, ◌<◌, ◌≡◌, true, false, [], length};
+ghost use Rattle.std.specs.Prelude.{◌+◌, ◌≤◌, ◌<◌, ◌≡◌, IfOk, [], length};
 ghost use Rattle.limits.specs.Limits.{fact_size, set_size, state_size, near_ceiling, far_ceiling};
 ghost use Rattle.mask.specs.Sets.{empty, cardinality};
 ghost use Rattle.terms.specs.Told.{fact_key};
 ghost use Rattle.format.specs.Lists.{list_at, list_end};
-ghost use Rattle.answer.specs.declared.Answer.TheVariants.{Good};
+ghost use Rattle.answer.specs.Refusal.{answer_by};
 ghost use Rattle.states.specs.Looked.{ListLooked};
 ghost use Rattle.observed.specs.Inverse.{marks, unbound_changed};
-ghost use Rattle.lifting.specs.Pairs.{no_digits, Inverts, marked_as};
+ghost use Rattle.lifting.specs.Pairs.{no_digits, marked_as};
 ghost use Rattle.factlist.specs.Rest.{rest, next, FactsWithin};
-ghost use Rattle.stepmasks.specs.Marks.{plain, RightForFew, Suited, ListAhead, Looks, RestMarked, going_on, NextMarked, StepMarked, StepTurned};
+ghost use Rattle.stepmasks.specs.Marks.{plain, RightForFew, Suited, ListAhead, Looks, RestMarked, NextMarked, StepMarked, StepTurned};
 
-use answer::Answer;
+use answer::{Reason, Refusal};
 use factlist::ListCursor;
+use lifting::Lifting;
 use states::FactCursor;
-use terms::{Binding, Fact};
+use terms::Binding;
 
 // ---- the facts of a state
 
-// Past the next fact `f` of a list, which is marked.
-fn pass(c: ListCursor, m: &mut [u8], f: Fact, pair: usize) -> ListCursor
+// Past the next fact of a list, which is marked.
+fn pass(c: ListCursor, m: &mut [u8], atom: Option<usize>) -> ListCursor
     requires { (0 < c.left) × (c.at ≤ far_ceiling) }
-    ensures { (m.new ≡ marked_as m.old f pair) × (result ≡ next c) }
+    ensures { (m.new ≡ marked_as m.old atom) × (result ≡ next c) }
 {
-    lifting::mark(m, f, pair);
+    lifting::mark(m, atom);
     c.on()
 }
 
-// Marks the facts that are left before the step, and says whether any is no bound fact: row 11, where no facts are left after the step.
-fn mark_rest(m: &mut [u8], s: &[u8], t: &[u8], atoms: &[u8], b: Binding, from: ListCursor) -> bool
-    requires { Inverts b t.now × FactsWithin s.now from }
-    ensures { (m.new ≡ marks atoms.now b m.old (rest s.now from)) × (result ≡ unbound_changed atoms.now b [] (rest s.now from)) }
+// Marks the facts that are left before the step, and says whether any is no bound fact: row 11, where no facts are left after the step. A cursor counts
+// the facts that are left, so its loops, here and below, are no `for`: that would count them a second time.
+fn mark_rest(m: &mut [u8], s: &[u8], lift: Lifting, from: ListCursor) -> bool
+    requires { FactsWithin s.now from }
+    ensures { (m.new ≡ marks lift.entry.atoms.now lift.entry.binding m.old (rest s.now from)) × (result ≡ unbound_changed lift.entry.atoms.now lift.entry.binding [] (rest s.now from)) }
 {
     let mut c = from;
     let mut changed = false;
     while 0 < c.left {
-        let f = c.fact(s);
-        let x = lifting::pair(t, atoms, b, f);
-        c = pass(c, m, f, x);
-        changed = changed | (lifting::UNBOUND <= x);
+        let x = lift.atom(c.fact(s));
+        c = pass(c, m, x);
+        changed = changed | x.is_none();
     }
     changed
 }
 
-// A list read once: row 8 of it and, where it is good, whether a fact that is no bound fact of the step changed.
+// A list that is good, read once: where it ends, and whether a fact that is no bound fact of the step changed.
 #[derive(Clone, Copy)]
-pub struct MarkedList {
-    pub answer: Answer,
+pub struct Marked {
+    pub next: usize,
     pub unbound: bool,
 }
 
@@ -60,71 +61,37 @@ fn look_rest(
     m: &mut [u8],
     s: &[u8],
     table: &[u32; 512],
-    t: &[u8],
-    atoms: &[u8],
-    b: Binding,
+    lift: Lifting,
     from: FactCursor,
-) -> MarkedList
-    requires { Inverts b t.now × FactsWithin s.now (plain from) × (from.size ≡ fact_size) × (from.key ≡ fact_key from.last) }
-    ensures { RestMarked s.now table.now atoms.now b from m.old m.new result }
+) -> Result<Marked, Refusal>
+    requires { FactsWithin s.now (plain from) × (from.size ≡ fact_size) × (from.key ≡ fact_key from.last) }
+    ensures { RestMarked s.now table.now lift.entry.atoms.now lift.entry.binding from m.old m.new result }
 {
     let mut c = from;
     let mut changed = false;
     while 0 < c.left {
         if c.bad(s, table) {
-            return MarkedList {
-                answer: Answer::Refused(8, c.at),
-                unbound: false,
-            };
+            return Err(Reason::State.at(c.at));
         }
-        let f = c.fact(s);
+        let x = lift.atom(c.fact(s));
         c = c.next(s);
-        let x = lifting::pair(t, atoms, b, f);
-        lifting::mark(m, f, x);
-        changed = changed | (lifting::UNBOUND <= x);
+        lifting::mark(m, x);
+        changed = changed | x.is_none();
     }
-    MarkedList {
-        answer: Answer::Good(c.at),
+    Ok(Marked {
+        next: c.at,
         unbound: changed,
-    }
+    })
 }
 
 // ---- the facts of two states
 
-// The facts to come of a step's two states, those after it yet to be looked over; whether a fact that is no bound fact was seen to change; and
-// whether the last fact read after the step is wrong or out of order.
+// The facts to come of a step's two states, those after it yet to be looked over; and whether a fact that is no bound fact was seen to change.
 #[derive(Clone, Copy)]
 struct Walk {
     pre: ListCursor,
     post: FactCursor,
     changed: bool,
-    bad: bool,
-}
-
-// The walk at a fact that is wrong or out of order.
-fn wrong(w: Walk) -> Walk
-    ensures { result.bad ≡ true }
-{
-    let pre = w.pre;
-    let post = w.post;
-    Walk {
-        pre,
-        post,
-        changed: w.changed,
-        bad: true,
-    }
-}
-
-// The walk that goes on from two cursors.
-fn going_on(pre: ListCursor, post: FactCursor, changed: bool) -> Walk
-    ensures { result ≡ going_on pre post changed }
-{
-    Walk {
-        pre,
-        post,
-        changed,
-        bad: false,
-    }
 }
 
 // One fact more of a state, or of both. A fact that comes next in both is looked up once, and it suits, since it did before the step. Facts that are
@@ -135,42 +102,56 @@ fn mark_next(
     after: &mut [u8],
     s: &[u8],
     table: &[u32; 512],
-    t: &[u8],
-    atoms: &[u8],
-    b: Binding,
+    lift: Lifting,
     w: Walk,
-) -> Walk
-    requires inverts { Inverts b t.now × FactsWithin s.now w.pre × FactsWithin s.now (plain w.post) × (0 < w.pre.left) × (0 < w.post.left) }
+) -> Result<Walk, Refusal>
+    requires within { FactsWithin s.now w.pre × FactsWithin s.now (plain w.post) × (0 < w.pre.left) × (0 < w.post.left) }
     requires suited { Suited table.now (rest s.now w.pre) × (w.post.size ≡ fact_size) × (w.post.key ≡ fact_key w.post.last) }
-    ensures next_marked { result.bad ≡ false → NextMarked s.now atoms.now b w before.old after.old result before.new after.new }
-    ensures looks { Looks s.now table.now w.post result.post result.bad }
+    ensures next_marked { IfOk result (λ v. NextMarked s.now lift.entry.atoms.now lift.entry.binding w before.old after.old v before.new after.new) }
+    ensures looks { Looks s.now table.now w.post result }
 {
     let p = w.pre;
     let q = w.post;
     let f = p.fact(s);
     let g = q.fact(s);
-    let x = lifting::pair(t, atoms, b, f);
-    if f.same(g) {
+    let x = lift.atom(f);
+    if f == g {
         if !g.follows(q.last, q.key) {
-            return wrong(w);
+            return Err(Reason::State.at(q.at));
         }
         let post = q.next(s);
-        lifting::mark(after, f, x);
-        return going_on(pass(p, before, f, x), post, w.changed);
+        lifting::mark(after, x);
+        return Ok(Walk {
+            pre: pass(p, before, x),
+            post,
+            ..w
+        });
     }
-    if x < lifting::UNBOUND {
-        return going_on(pass(p, before, f, x), q, w.changed);
+    if x.is_some() {
+        return Ok(Walk {
+            pre: pass(p, before, x),
+            ..w
+        });
     }
     if q.bad(s, table) {
-        return wrong(w);
+        return Err(Reason::State.at(q.at));
     }
-    let y = lifting::pair(t, atoms, b, g);
-    if (lifting::UNBOUND <= y) & g.follows(f, f.key()) {
-        return going_on(pass(p, before, f, x), q, true);
+    let y = lift.atom(g);
+    let unbound = y.is_none();
+    if unbound & g.follows(f, f.key()) {
+        return Ok(Walk {
+            pre: pass(p, before, x),
+            changed: true,
+            ..w
+        });
     }
     let post = q.next(s);
-    lifting::mark(after, g, y);
-    going_on(p, post, w.changed | (lifting::UNBOUND <= y))
+    lifting::mark(after, y);
+    Ok(Walk {
+        post,
+        changed: w.changed | unbound,
+        ..w
+    })
 }
 
 // The facts of the list at an offset, yet to be looked over.
@@ -197,47 +178,41 @@ pub fn mark_step(
     post: usize,
     before: &mut [u8],
     after: &mut [u8],
-) -> MarkedList
+) -> Result<Marked, Refusal>
     requires lists_within { (pre ≤ near_ceiling) × (post ≤ near_ceiling) × (list_end s.now pre ≤ length s.now) × (list_end s.now post ≤ length s.now) }
     requires fresh { (t.old ≡ no_digits) × (before.old ≡ empty set_size) × (after.old ≡ empty set_size) × Suited table.now (list_at s.now pre) }
-    ensures list_looked { ListLooked s.now table.now post result.answer }
-    ensures good { (k : ℕ) → result.answer ≡ Good k → (t.new ≡ no_digits) × StepMarked atoms.now b (list_at s.now pre) (list_at s.now post) before.new after.new result.unbound }
+    ensures list_looked { ListLooked s.now table.now post (answer_by (λ m. m.next) result) }
+    ensures good { IfOk result (λ m. (t.new ≡ no_digits) × StepMarked atoms.now b (list_at s.now pre) (list_at s.now post) before.new after.new m.unbound) }
 {
     lifting::invert(t, b);
+    let lift = Lifting {
+        table: &*t,
+        atoms,
+        binding: b,
+    };
     let mut w = Walk {
         pre: ListCursor::of_list(s, pre),
         post: listed(s, post),
         changed: false,
-        bad: false,
     };
     while (0 < w.pre.left) & (0 < w.post.left) {
-        let place = w.post.at;
-        w = mark_next(before, after, s, table, t, atoms, b, w);
-        if w.bad {
-            return MarkedList {
-                answer: Answer::Refused(8, place),
-                unbound: false,
-            };
-        }
+        w = mark_next(before, after, s, table, lift, w)?;
     }
-    let p = w.pre;
-    let q = w.post;
-    let only_before = mark_rest(before, s, t, atoms, b, p);
-    let r = look_rest(after, s, table, t, atoms, b, q);
+    let only_before = mark_rest(before, s, lift, w.pre);
+    let rest = look_rest(after, s, table, lift, w.post)?;
     lifting::restore(t, b);
-    let answer = r.answer;
-    MarkedList {
-        answer,
-        unbound: w.changed | only_before | r.unbound,
-    }
+    Ok(Marked {
+        unbound: w.changed | only_before | rest.unbound,
+        ..rest
+    })
 }
 
 // ---- the facts that turn
 
-// A list of facts that turn, read once: row 8 of it and, where it is good, whether one of them is no bound fact, and how many facts hold after it.
+// A list of facts that turn that is good, read once: where it ends, whether one of them is no bound fact, and how many facts hold after it.
 #[derive(Clone, Copy)]
-pub struct TurnedList {
-    pub answer: Answer,
+pub struct Turned {
+    pub next: usize,
     pub unbound: bool,
     pub count: usize,
 }
@@ -255,34 +230,35 @@ pub fn mark_turned(
     state: &mut [u8],
     held: usize,
     after: &mut [u8],
-) -> TurnedList
+) -> Result<Turned, Refusal>
     requires { (at ≤ near_ceiling) × (list_end s.now at ≤ length s.now) × (t.old ≡ no_digits) × (length state.old ≡ state_size) × (held ≡ cardinality state.old) × RightForFew table.now }
-    ensures list_looked { ListLooked s.now table.now at result.answer }
-    ensures good { (k : ℕ) → result.answer ≡ Good k → (t.new ≡ no_digits) × StepTurned atoms.now b (list_at s.now at) state.old state.new after.old after.new result.unbound × (result.count ≡ cardinality state.new) }
+    ensures list_looked { ListLooked s.now table.now at (answer_by (λ m. m.next) result) }
+    ensures good { IfOk result (λ m. (t.new ≡ no_digits) × StepTurned atoms.now b (list_at s.now at) state.old state.new after.old after.new m.unbound × (m.count ≡ cardinality state.new)) }
 {
     lifting::invert(t, b);
+    let lift = Lifting {
+        table: &*t,
+        atoms,
+        binding: b,
+    };
     let mut c = listed(s, at);
     let mut unbound = false;
     let mut count = held;
     while 0 < c.left {
         if c.bad(s, table) {
-            return TurnedList {
-                answer: Answer::Refused(8, c.at),
-                unbound: false,
-                count: 0,
-            };
+            return Err(Reason::State.at(c.at));
         }
         let f = c.fact(s);
         c = c.next(s);
-        let x = lifting::pair(t, atoms, b, f);
+        let x = lift.atom(f);
         count = turning::turn(f, state, count);
-        lifting::turn_mark(after, f, x);
-        unbound = unbound | (lifting::UNBOUND <= x);
+        lifting::turn_mark(after, x);
+        unbound = unbound | x.is_none();
     }
     lifting::restore(t, b);
-    TurnedList {
-        answer: Answer::Good(c.at),
+    Ok(Turned {
+        next: c.at,
         unbound,
         count,
-    }
+    })
 }

@@ -2,7 +2,7 @@
 // Uses io. No contract can say what is read or written; proved is that it stays within the memory given, and that it ends.
 #![tactic(auto)]
 
-ghost use Rattle.std.specs.Prelude.{◌≤◌, ◌+◌, length, IfOk};
+ghost use Rattle.std.specs.Prelude.{◌<◌, IfOk};
 ghost use Rattle.io.specs.Counts.{IsPrefixLen};
 
 mod reason;
@@ -17,49 +17,43 @@ const MOST_PAUSES: usize = 60000;
 
 // ---- a stream that does not block
 
-// Waits a hundredth of a second.
-fn pause<C: Clock>(clock: &C) {
-    thread::sleep(clock, Duration::from_millis(10));
-}
-
 // Whether a call that failed may succeed later: the stream has or takes nothing now and does not block, or a signal came.
 fn is_temporary(error: &Error) -> bool {
     let kind = error.kind();
     kind == ErrorKind::WouldBlock || kind == ErrorKind::Interrupted
 }
 
-// ---- reading
-
-// Reads into the bytes from `done` on.
-fn read_rest<R: Read>(input: &mut R, bytes: &mut [u8], done: usize) -> std::io::Result<usize>
-    requires { done ≤ length bytes.old }
-    ensures { IfOk result (λ count. done + count ≤ length bytes.old) }
+// Where a call that failed may succeed later, waits a hundredth of a second; how many pauses may still follow.
+fn pause<C: Clock>(clock: &C, error: Error, pauses: usize) -> std::io::Result<usize>
+    ensures { IfOk result (λ left. left < pauses) }
 {
-    input.read(&mut bytes[done..])
+    if pauses == 0 || !is_temporary(&error) {
+        return Err(error);
+    }
+    thread::sleep(clock, Duration::from_millis(10));
+    Ok(pauses - 1)
 }
 
-// How many bytes were read until the input ended or `bytes` was full; 0 where a read failed, for what can't be read counts as empty.
+// ---- reading
+
+// How many bytes were read until the input ended or `bytes` was full; 0 where a read failed, for what can't be read counts as empty. A length and not
+// the part of `bytes` that was read: `main` of rules and of plan, which stay as they are, take that part themselves.
 pub fn read<C: Clock, R: Read>(clock: &C, input: &mut R, bytes: &mut [u8]) -> usize
     ensures { IsPrefixLen result bytes.new }
 {
     let mut done = 0;
     let mut pauses = MOST_PAUSES;
     while done < bytes.len() {
-        match read_rest(input, bytes, done) {
+        match input.read(&mut bytes[done..]) {
+            Ok(0) => break,
             Ok(count) => {
-                if count == 0 {
-                    return done;
-                }
                 done += count;
                 pauses = MOST_PAUSES;
             }
-            Err(error) => {
-                if pauses == 0 || !is_temporary(&error) {
-                    return 0;
-                }
-                pause(clock);
-                pauses -= 1;
-            }
+            Err(error) => match pause(clock, error, pauses) {
+                Ok(left) => pauses = left,
+                Err(_) => return 0,
+            },
         }
     }
     done
@@ -67,36 +61,18 @@ pub fn read<C: Clock, R: Read>(clock: &C, input: &mut R, bytes: &mut [u8]) -> us
 
 // ---- writing
 
-// Writes the text from `done` on; how many of those bytes were taken.
-fn write_rest<P: Print>(output: &P, text: &[u8], done: usize) -> std::io::Result<usize>
-    requires { done ≤ length text.now }
-    ensures { IfOk result (λ taken. done + taken ≤ length text.now) }
-{
-    let rest = &text[done..];
-    output.write_some(rest)
-}
-
 // An error where some of the text is not written.
 fn write_to_end<P: Clock + Print>(output: &P, text: &[u8]) -> std::io::Result<()> {
-    let mut done = 0;
+    let mut rest = text;
     let mut pauses = MOST_PAUSES;
-    while done < text.len() {
-        match write_rest(output, text, done) {
+    while !rest.is_empty() {
+        match output.write_some(rest) {
+            Ok(0) => return Err(Error::from(ErrorKind::WriteZero)),
             Ok(taken) => {
-                if 0 < taken {
-                    done += taken;
-                    pauses = MOST_PAUSES;
-                } else {
-                    return Err(Error::from(ErrorKind::WriteZero));
-                }
+                rest = &rest[taken..];
+                pauses = MOST_PAUSES;
             }
-            Err(error) => {
-                if pauses == 0 || !is_temporary(&error) {
-                    return Err(error);
-                }
-                pause(output);
-                pauses -= 1;
-            }
+            Err(error) => pauses = pause(output, error, pauses)?,
         }
     }
     Ok(())
@@ -104,11 +80,10 @@ fn write_to_end<P: Clock + Print>(output: &P, text: &[u8]) -> std::io::Result<()
 
 // A line on standard error: what failed, and the error.
 fn tell<E: Print>(errors: &E, what: &[u8], error: Error) -> std::io::Result<()> {
-    let mut text = [0u8; 256];
-    let size = reason::put(error, &mut text);
+    let mut memory = [0u8; 256];
     errors.write_all(what)?;
     errors.write_all(b": ")?;
-    errors.write_all(&text[..size])?;
+    errors.write_all(reason::text_of(error, &mut memory))?;
     errors.write_all(b"\n")
 }
 

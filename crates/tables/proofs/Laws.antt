@@ -2,11 +2,14 @@
 use Prim.Native.Nat.{ℕ, ◌+◌, ◌<◌, ◌≤◌}
 use mathlib.Core.Path.{◌≡◌, refl, sym, ap, ◌∙◌}
 use mathlib.Core.Bool.{Bool, true, false, cond, ◌&&◌, ◌||◌, not, or-false, not-not}
-use mathlib.Core.List.{List}
+use mathlib.Core.List.{List, [], ◌∷◌}
 use native.Mathlib.Omega.{arith}
-use borrow.Author.Tests.{le-leb, lt-leb, ltb-true, leb-true, ltb-false, leb-false}
-use lib.Dec.{eqb, ltb, leb}
-use Rattle.truth.specs.Bools.{clash, and_out}
+use borrow.Author.Tests.{le-leb, lt-leb}
+use lib.Dec.{eqb, leb}
+use Rattle.std.specs.Prelude.{min}
+use Rattle.std.specs.List.{list_all}
+use Rattle.std.specs.Ordering.{ord_min, nat_cmp}
+use Rattle.std.proofs.lemmas.Bool.Decides.{nat_tests}
 use Rattle.objectset.specs.declared.Asked.{Asked}
 use Rattle.objectset.specs.Sets.{member, is_in, entry}
 use Rattle.objectset.proofs.Laws.{member_none, member_one}
@@ -36,7 +39,7 @@ unfolding RightByKind RightByKindTo
 kinds_right sch ob n ks e i k x =
     i.1 k x.0 ∙ ap (λ (b : Bool). b && kind_suits sch k (ob.kind x)) (below_all ob.count n x.0 (λ l. omega arith) (λ l. omega arith))
 
-none_of : (a b c d : Bool) → not ((not a && not b) && (not c && not d)) ≡ (a || b || c || d)
+none_of : (a b c d : Bool) → not (not a && (not b && (not c && (not d && true)))) ≡ (a || b || c || d)
 none_of true b c d = refl
 none_of false true c d = refl
 none_of false false true d = refl
@@ -66,9 +69,8 @@ module _ (sch : Schema) (ob : TypedObjects) (ks : List ℕ) (right : RightByKind
   argument_in st i = place_in (leb i (sch.params st.action)) (sch.param_kind st.action (record { 0 = i })) (object_of st.binding (record { 0 = i }))
 
   pub arguments_bad : (st : Step)
-      → (let a : ℕ → ℕ → Asked = λ i kind. argument ks (sch.params st.action) i kind st.binding in
-      not ((is_in (a 1 (sch.param_kind st.action (record { 0 = 1 }))) && is_in (a 2 (sch.param_kind st.action (record { 0 = 2 }))))
-      && (is_in (a 3 (sch.param_kind st.action (record { 0 = 3 }))) && is_in (a 4 (sch.param_kind st.action (record { 0 = 4 }))))))
+      → (let a : ℕ → Asked = λ i. argument ks (sch.params st.action) i (sch.param_kind st.action (record { 0 = i })) st.binding in
+      not (list_all is_in (a 1 ∷ a 2 ∷ a 3 ∷ a 4 ∷ [])))
       ≡ (argument_bad sch ob st 1 || argument_bad sch ob st 2 || argument_bad sch ob st 3 || argument_bad sch ob st 4)
   arguments_bad st =
       rw (argument_in st 1, argument_in st 2, argument_in st 3, argument_in st 4)
@@ -100,19 +102,14 @@ module _ (sch : Schema) (ob : TypedObjects) (ks : List ℕ) (right : RightByKind
       rw ((i.1 r k).0, (i.1 r k).1, b)
       (either (out_of_range sch.relations r) _ _ _ _ _ _ (place_set_in f.relation 1 f.first) (place_set_in f.relation 2 f.second))
 
--- a walk over the relations goes on, and ends after the last of them that is a byte
-pub goes_on : (count n : ℕ) → (leb n count && ltb n 256) ≡ true → (n ≤ count) × (n < 256)
-goes_on count n g = let (l, k) = and_out _ _ g in (leb-true n count l, ltb-true n 256 k)
+-- the smaller of two numbers as code takes it
+pub min_is : (a b : ℕ) → ord_min nat_cmp a b ≡ min a b
+min_is a b = grind (arith, nat_tests)
 
-walked : (count n : ℕ) (a b : Bool) → leb n count ≡ a → ltb n 256 ≡ b → (a && b) ≡ false → (x : ℕ) → x < 256 → x ≤ count → x < n
-walked count n true true e f g x h l = clash true refl g
-walked count n true false e f g x h l = let i = ltb-false n 256 f in omega arith
-walked count n false b e f g x h l = let i = leb-false n count e in omega arith
-
+-- the last relation that is looked at is the last one, or the last one that a byte can name
 pub rows_follow : (sch : Schema) (ks : List ℕ) (n : ℕ) (t : List ℕ)
-    → n ≤ sch.relations + 1
-    → (leb n sch.relations && ltb n 256) ≡ false
+    → n ≡ min 256 (sch.relations + 1)
     → RowsTo (λ q. place_set sch ks (record { 0 = q }) 1) (λ q. place_set sch ks (record { 0 = q }) 2) n t
     → RightFrom sch ks t
 unfolding RightFrom
-rows_follow sch ks n t l g i ob right = rows_right sch ob ks right n t l (walked sch.relations n _ _ refl refl g) i
+rows_follow sch ks n t e i ob right = rows_right sch ob ks right n t (omega arith) (λ x h l. omega arith) i

@@ -1,5 +1,5 @@
 -- Two tables of sets of objects: by kind, and by relation and place. When a table is right for typed objects and a schema.
-use Rattle.std.specs.Prelude.{ℕ, ◌+◌, ◌<◌, ◌≡◌, cond, ◌&&◌, ◌||◌, not, List, eqb, leb, length}
+use Rattle.std.specs.Prelude.{ℕ, ◌+◌, ◌<◌, ◌≡◌, cond, ◌&&◌, ◌||◌, not, List, [], ◌∷◌, eqb, leb, length}
 use Rattle.input.specs.Bytes.{byte_at}
 use Rattle.objectset.specs.declared.Asked.{Asked}
 use Rattle.objectset.specs.Sets.{member, entry}
@@ -8,7 +8,6 @@ use Rattle.terms.specs.declared.Relation.{Relation}
 use Rattle.terms.specs.declared.Fact.{Fact}
 use Rattle.terms.specs.declared.Binding.{Binding}
 use Rattle.terms.specs.Steps.{object_of}
-use Rattle.tables.specs.declared.MoveEntry.{MoveEntry}
 use Rattle.terms.specs.Schema.{Schema, TypedObjects, out_of_range, kind_suits}
 use Rattle.terms.specs.Facts.{fact_bad}
 use Rattle.terms.specs.Told.{suits}
@@ -46,15 +45,8 @@ unfoldable pub ForRightByKind : Schema → List ℕ → (TypedObjects → Type 0
 ForRightByKind sch ks P = (ob : TypedObjects) → RightByKind sch ob ks → P ob
 
 -- a move's entry at an offset: how many parameters the move has, and the kinds of four
-unfoldable pub move_entry : List ℕ → ℕ → MoveEntry
-move_entry s at =
-    record {
-      params = byte_at s at;
-      first = byte_at s (at + 1);
-      second = byte_at s (at + 2);
-      third = byte_at s (at + 3);
-      fourth = byte_at s (at + 4);
-    }
+unfoldable pub move_entry : List ℕ → ℕ → List ℕ
+move_entry s at = byte_at s at ∷ byte_at s (at + 1) ∷ byte_at s (at + 2) ∷ byte_at s (at + 3) ∷ byte_at s (at + 4) ∷ []
 
 -- the object that a binding has for parameter i, which is of the kind given, and the set of objects that suit; `params` is how many parameters the
 -- move has

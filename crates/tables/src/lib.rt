@@ -20,27 +20,21 @@ fn put_object(book: &[u8], h: Sections, kinds: &mut [u32; 256], kind: u8, x: u8)
     ensures { Joined (schema h book.now) kind x kinds.old kinds.new }
 {
     let mut k = kind;
-    let mut left = limits::MAX_KINDS;
-    while 0 < left {
+    for _ in 0..limits::MAX_KINDS {
         objectset::put(kinds, k as usize, x);
         k = h.parent(book, k);
         if k == 0 {
             return;
         }
-        left -= 1;
     }
 }
 
-pub fn no_kinds() -> [u32; 256]
-    ensures { result ≡ empty 256 }
+// A table with nothing in it.
+#[tactic(auto, unfolding(mask::specs::Sets::empty))]
+pub fn empty<const N: usize>() -> [u32; N]
+    ensures { result ≡ empty N }
 {
-    [0u32; 256]
-}
-
-pub fn no_places() -> [u32; 512]
-    ensures { result ≡ empty 512 }
-{
-    [0u32; 512]
+    [0; N]
 }
 
 // Puts the objects in `s` into an empty table by kind. The table is lent, since a large one would be copied when it is returned.
@@ -48,17 +42,9 @@ pub fn put_objects(book: &[u8], h: Sections, s: &[u8], objects: Objects, kinds: 
     requires { (objects.at ≤ near_ceiling) × (objects.count < 32) × (kinds.old ≡ empty 256) }
     ensures { RightByKind (schema h book.now) (typed_objects objects s.now) kinds.new }
 {
-    let n = objects.count;
-    let mut x: u8 = 1;
-    while x <= n {
-        put_object(
-            book,
-            h,
-            kinds,
-            input::byte_at(s, objects.at + (x as usize - 1)),
-            x,
-        );
-        x += 1;
+    for x in 1..objects.count + 1 {
+        let kind = input::byte_at(s, objects.at + (x as usize - 1));
+        put_object(book, h, kinds, kind, x);
     }
 }
 
@@ -67,7 +53,7 @@ pub fn kinds_of(book: &[u8], h: Sections, s: &[u8], objects: Objects) -> [u32; 2
     requires { (objects.at ≤ near_ceiling) × (objects.count < 32) }
     ensures { RightByKind (schema h book.now) (typed_objects objects s.now) result }
 {
-    let mut kinds = no_kinds();
+    let mut kinds = empty();
     put_objects(book, h, s, objects, &mut kinds);
     kinds
 }
@@ -76,16 +62,10 @@ fn place_set(book: &[u8], h: Sections, kinds: &[u32; 256], r: Relation, i: u8) -
     ensures { result ≡ place_set (schema h book.now) kinds.now r i }
 {
     if i <= h.places(book, r) {
-        return objectset::entry(kinds, h.place_kind(book, r, i) as usize);
+        objectset::entry(kinds, h.place_kind(book, r, i) as usize)
+    } else {
+        1
     }
-    1
-}
-
-// Stores the set that suits a place.
-fn store_place(t: &mut [u32; 512], i: usize, set: u32)
-    ensures { t.new ≡ stored t.old i set }
-{
-    objectset::store(t, i, set);
 }
 
 // Stores the sets of all relations in an empty table. A fact has its relation in one byte, so relations over 255 have no entry.
@@ -93,15 +73,12 @@ pub fn store_places(book: &[u8], h: Sections, kinds: &[u32; 256], t: &mut [u32; 
     requires { t.old ≡ empty 512 }
     ensures { RightFrom (schema h book.now) kinds.now t.new }
 {
-    let n = h.relations.count as usize;
-    let mut r: usize = 1;
-    while (r <= n) & (r < 256) {
-        let number = r as u8;
-        let first = place_set(book, h, kinds, Relation(number), 1);
-        let second = place_set(book, h, kinds, Relation(number), 2);
-        store_place(t, r, first);
-        store_place(t, 256 + r, second);
-        r += 1;
+    for r in 1..256.min(h.relations.count as usize + 1) {
+        let relation = Relation(r as u8);
+        let first = place_set(book, h, kinds, relation, 1);
+        let second = place_set(book, h, kinds, relation, 2);
+        objectset::store(t, r, first);
+        objectset::store(t, 256 + r, second);
     }
 }
 
@@ -109,41 +86,21 @@ pub fn store_places(book: &[u8], h: Sections, kinds: &[u32; 256], t: &mut [u32; 
 pub fn table_of(book: &[u8], h: Sections, kinds: &[u32; 256]) -> [u32; 512]
     ensures { RightFrom (schema h book.now) kinds.now result }
 {
-    let mut t = no_places();
+    let mut t = empty();
     store_places(book, h, kinds, &mut t);
     t
 }
 
-// A move's entry in a book: how many parameters it has, and the kind of each.
-#[derive(Clone, Copy)]
-struct MoveEntry {
-    params: u8,
-    first: u8,
-    second: u8,
-    third: u8,
-    fourth: u8,
-}
-
-// An entry that lies within the book is read without a test of each byte, which saves time at every step.
-fn entry_at(book: &[u8], at: usize) -> MoveEntry
+// A move's entry in a book: how many parameters it has, and the kind of each. One that lies within the book is read without a test of each byte, which
+// saves time at every step.
+#[tactic(auto, unfolding(crate::specs::Tables::move_entry, input::specs::Bytes::byte_at))]
+fn entry_at(book: &[u8], at: usize) -> [u8; 5]
     requires { at ≤ near_ceiling }
     ensures { result ≡ move_entry book.now at }
 {
-    if book.len() < at + limits::MOVE_SIZE {
-        return MoveEntry {
-            params: input::byte_at(book, at),
-            first: input::byte_at(book, at + 1),
-            second: input::byte_at(book, at + 2),
-            third: input::byte_at(book, at + 3),
-            fourth: input::byte_at(book, at + 4),
-        };
-    }
-    MoveEntry {
-        params: book[at],
-        first: book[at + 1],
-        second: book[at + 2],
-        third: book[at + 3],
-        fourth: book[at + 4],
+    match book.get(at..).and_then(|s| s.first_chunk()) {
+        Some(entry) => *entry,
+        None => std::array::from_fn(|i| input::byte_at(book, at + i)),
     }
 }
 
@@ -153,16 +110,11 @@ fn argument(kinds: &[u32; 256], params: u8, i: u8, kind: u8, b: Binding) -> Aske
     ensures { result ≡ argument kinds.now params i kind b }
 {
     let set = objectset::entry(kinds, kind as usize);
-    let object = b.object(Param(i));
+    let object = b.object(Param(i)).0;
     if i <= params {
-        return Asked {
-            set,
-            object: object.0,
-        };
-    }
-    Asked {
-        set: 1,
-        object: object.0,
+        Asked { set, object }
+    } else {
+        Asked { set: 1, object }
     }
 }
 
@@ -173,12 +125,12 @@ pub fn step_bad(book: &[u8], h: Sections, kinds: &[u32; 256], st: Step) -> bool
     if terms::out_of_range(h.moves.count, st.action.0 as u16) {
         return true;
     }
-    let e = entry_at(book, h.move_at(st.action));
+    let [params, first, second, third, fourth] = entry_at(book, h.move_at(st.action));
     let b = st.binding;
-    !objectset::four_in(
-        argument(kinds, e.params, 1, e.first, b),
-        argument(kinds, e.params, 2, e.second, b),
-        argument(kinds, e.params, 3, e.third, b),
-        argument(kinds, e.params, 4, e.fourth, b),
-    )
+    !objectset::all_in([
+        argument(kinds, params, 1, first, b),
+        argument(kinds, params, 2, second, b),
+        argument(kinds, params, 3, third, b),
+        argument(kinds, params, 4, fourth, b),
+    ])
 }

@@ -7,33 +7,33 @@ ghost use Rattle.limits.specs.Limits.{max_length, max_params, max_atoms, fact_si
 ghost use Rattle.terms.specs.Sections.{sections_of};
 ghost use Rattle.terms.specs.Head.{head_of};
 ghost use Rattle.terms.specs.Schema.{schema, out_of_range, relation_at, move_at};
-ghost use Rattle.terms.specs.Facts.{fact_at, same_fact, precedes, no_fact, fact_number};
+ghost use Rattle.terms.specs.Facts.{fact_at, precedes, no_fact, fact_number};
 ghost use Rattle.terms.specs.Told.{suits, fact_key};
 ghost use Rattle.terms.specs.Steps.{object_of, step_at, same_pair, repeats, atom_relation, atom_first, atom_second};
 
 use objectset::Asked;
 
 // Numbers that count from 1. Each has a type of its own, so that a binding is the only way from a parameter to an object.
-#[derive(Clone, Copy)]
+#[derive(Clone, Copy, Debug, PartialEq, Eq)]
 pub struct Param(pub u8);
 
-#[derive(Clone, Copy)]
+#[derive(Clone, Copy, Debug, PartialEq, Eq)]
 pub struct Object(pub u8);
 
-#[derive(Clone, Copy)]
+#[derive(Clone, Copy, Debug, PartialEq, Eq)]
 pub struct Relation(pub u8);
 
-#[derive(Clone, Copy)]
+#[derive(Clone, Copy, Debug, PartialEq, Eq)]
 pub struct Move(pub u8);
 
 // A section of a book: how many entries, from which offset.
-#[derive(Clone, Copy)]
+#[derive(Clone, Copy, Debug, PartialEq, Eq)]
 pub struct Section {
     pub count: u16,
     pub at: u16,
 }
 
-#[derive(Clone, Copy)]
+#[derive(Clone, Copy, Debug, PartialEq, Eq)]
 pub struct Sections {
     pub kinds: u16,
     pub relations: Section,
@@ -43,7 +43,7 @@ pub struct Sections {
 }
 
 // A record's head: how many objects it has, how many steps, and how many bytes.
-#[derive(Clone, Copy)]
+#[derive(Clone, Copy, Debug, PartialEq, Eq)]
 pub struct Head {
     pub objects: u8,
     pub steps: u8,
@@ -51,31 +51,32 @@ pub struct Head {
 }
 
 // The kind bytes of the objects of a record or an order: how many, from which offset.
-#[derive(Clone, Copy)]
+#[derive(Clone, Copy, Debug, PartialEq, Eq)]
 pub struct Objects {
     pub count: u8,
     pub at: usize,
 }
 
-#[derive(Clone, Copy)]
+#[derive(Clone, Copy, Debug, PartialEq, Eq)]
 pub struct Fact {
     pub relation: Relation,
     pub first: Object,
     pub second: Object,
 }
 
-#[derive(Clone, Copy)]
+#[derive(Clone, Copy, Debug, PartialEq, Eq)]
 pub struct Binding {
     pub objects: [Object; 4],
 }
 
-#[derive(Clone, Copy)]
+#[derive(Clone, Copy, Debug, PartialEq, Eq)]
 pub struct Step {
     pub action: Move,
     pub binding: Binding,
 }
 
 impl Head {
+    #[tactic(auto, unfolding(crate::specs::Head::head_of))]
     pub fn read(s: &[u8], at: usize) -> Head
         requires { at ≤ max_length }
         ensures { result ≡ head_of s.now at }
@@ -89,33 +90,31 @@ impl Head {
 }
 
 impl Sections {
+    #[tactic(auto, unfolding(crate::specs::Sections::sections_of))]
     pub fn read(s: &[u8]) -> Sections
         ensures { result ≡ sections_of s.now }
     {
+        let section = |count, at| Section {
+            count: input::two_at(s, count),
+            at: input::two_at(s, at),
+        };
         Sections {
             kinds: input::two_at(s, 0),
-            relations: Section {
-                count: input::two_at(s, 2),
-                at: input::two_at(s, 8),
-            },
-            moves: Section {
-                count: input::two_at(s, 4),
-                at: input::two_at(s, 10),
-            },
-            records: Section {
-                count: input::two_at(s, 6),
-                at: input::two_at(s, 12),
-            },
+            relations: section(2, 8),
+            moves: section(4, 10),
+            records: section(6, 12),
             end: input::two_at(s, 14),
         }
     }
 
+    #[tactic(auto, unfolding(crate::specs::Schema::relation_at))]
     pub fn relation_at(self, r: Relation) -> usize
         ensures { (result ≡ relation_at self r) × (result ≤ near_ceiling) }
     {
         self.relations.at as usize + limits::RELATION_SIZE * index(r.0)
     }
 
+    #[tactic(auto, unfolding(crate::specs::Schema::move_at))]
     pub fn move_at(self, m: Move) -> usize
         ensures { (result ≡ move_at self m) × (result ≤ near_ceiling) }
     {
@@ -134,12 +133,14 @@ impl Sections {
     }
 
     // A relation's entry in a book: how many places it has, and the kind of one of them.
+    #[tactic(auto, unfolding(crate::specs::Schema::schema))]
     pub fn places(self, book: &[u8], r: Relation) -> u8
         ensures { result ≡ (schema self book.now).places r }
     {
         input::byte_at(book, self.relation_at(r))
     }
 
+    #[tactic(auto, unfolding(crate::specs::Schema::schema))]
     pub fn place_kind(self, book: &[u8], r: Relation, i: u8) -> u8
         ensures { result ≡ (schema self book.now).place_kind r i }
     {
@@ -147,12 +148,14 @@ impl Sections {
     }
 
     // A move's entry: how many parameters it has, and the kind of one of them.
+    #[tactic(auto, unfolding(crate::specs::Schema::schema))]
     pub fn params(self, book: &[u8], m: Move) -> u8
         ensures { result ≡ (schema self book.now).params m }
     {
         input::byte_at(book, self.move_at(m))
     }
 
+    #[tactic(auto, unfolding(crate::specs::Schema::schema))]
     pub fn param_kind(self, book: &[u8], m: Move, p: Param) -> u8
         ensures { result ≡ (schema self book.now).param_kind m p }
     {
@@ -161,6 +164,7 @@ impl Sections {
 }
 
 // The relation and the two parameters of bound fact n.
+#[tactic(auto, unfolding(crate::specs::Steps::atom_relation))]
 pub fn atom_relation(n: usize) -> Relation
     requires { n < max_atoms }
     ensures { result ≡ atom_relation n }
@@ -168,36 +172,28 @@ pub fn atom_relation(n: usize) -> Relation
     Relation((n / 16 + 1) as u8)
 }
 
+#[tactic(auto, unfolding(crate::specs::Steps::atom_first))]
 pub fn atom_first(n: usize) -> Param
     ensures { result ≡ atom_first n }
 {
     Param((n / 4 % 4 + 1) as u8)
 }
 
+#[tactic(auto, unfolding(crate::specs::Steps::atom_second))]
 pub fn atom_second(n: usize) -> Param
     ensures { result ≡ atom_second n }
 {
     Param((n % 4 + 1) as u8)
 }
 
-// What `index` subtracts from n: 1, or 0 if n is 0. Compiled, that is shorter than a choice between 0 and n - 1, and each fact that turns asks it
-// three times.
-fn one_at_most(n: u8) -> usize
-    ensures { (result ≤ n) × (n - result ≡ n - 1) }
-{
-    if n == 0 {
-        return 0;
-    }
-    1
-}
-
-// A number from 1 as one from 0.
+// A number from 1 as one from 0. As a usize: subtracted as bytes, the three numbers of a fact go through vector registers.
 pub fn index(n: u8) -> usize
     ensures { (result ≡ n - 1) × (result ≤ 254) }
 {
-    n as usize - one_at_most(n)
+    (n as usize).saturating_sub(1)
 }
 
+#[tactic(auto, unfolding(crate::specs::Schema::out_of_range))]
 pub fn out_of_range(count: u16, n: u16) -> bool
     ensures { result ≡ out_of_range count n }
 {
@@ -206,6 +202,7 @@ pub fn out_of_range(count: u16, n: u16) -> bool
 
 impl Fact {
     // A fact whose bytes are all there: no offset is tested, which saves time in a loop over facts.
+    #[tactic(auto, unfolding(crate::specs::Facts::fact_at, input::specs::Bytes::byte_at))]
     pub fn read(s: &[u8], at: usize) -> Fact
         requires { (at ≤ far_ceiling) × (at + fact_size ≤ length s.now) }
         ensures { result ≡ fact_at s.now at }
@@ -218,6 +215,7 @@ impl Fact {
     }
 
     // Before the first fact of a list stands this one.
+    #[tactic(auto, unfolding(crate::specs::Facts::no_fact))]
     pub fn none() -> Fact
         ensures { result ≡ no_fact }
     {
@@ -229,11 +227,12 @@ impl Fact {
     }
 
     // Suit: the table tells which objects its places may have.
+    #[tactic(auto, unfolding(crate::specs::Told::suits, objectset::specs::Sets::is_in))]
     pub fn suits(self, table: &[u32; 512]) -> bool
         ensures { result ≡ suits table.now self }
     {
         let r = self.relation.0 as usize;
-        objectset::two_in(
+        objectset::all_in([
             Asked {
                 set: objectset::entry(table, r),
                 object: self.first.0,
@@ -242,25 +241,19 @@ impl Fact {
                 set: objectset::entry(table, 256 + r),
                 object: self.second.0,
             },
-        )
-    }
-
-    pub fn same(self, other: Fact) -> bool
-        ensures { result ≡ same_fact self other }
-    {
-        (self.relation.0 == other.relation.0)
-            & (self.first.0 == other.first.0)
-            & (self.second.0 == other.second.0)
+        ])
     }
 
     // Its number in a state's mask.
+    #[tactic(auto, unfolding(crate::specs::Facts::fact_number))]
     pub fn number(self) -> usize
         ensures { result ≡ fact_number self }
     {
         256 * index(self.relation.0) + 16 * index(self.first.0) + index(self.second.0)
     }
 
-    // Its bytes as one number: facts stand in the order of their keys.
+    // Its bytes as one number: facts stand in the order of their keys. With u32::from_be_bytes a loop over facts takes a fifth longer.
+    #[tactic(auto, unfolding(crate::specs::Told::fact_key))]
     pub fn key(self) -> u32
         ensures { result ≡ fact_key self }
     {
@@ -277,18 +270,18 @@ impl Fact {
 }
 
 impl Binding {
+    #[tactic(auto, unfolding(crate::specs::Steps::object_of))]
     pub fn object(self, p: Param) -> Object
         requires { p.0 ≤ max_params }
         ensures { result ≡ object_of self p }
     {
-        let objects = self.objects;
-        let i = index(p.0);
-        objects[i]
+        self.objects[index(p.0)]
     }
 }
 
 impl Step {
     // A step whose bytes are there.
+    #[tactic(auto, unfolding(crate::specs::Steps::step_at, input::specs::Bytes::byte_at))]
     pub fn read(s: &[u8], at: usize) -> Step
         requires { (at ≤ far_ceiling) × (at + step_size ≤ length s.now) }
         ensures { result ≡ step_at s.now at }
@@ -306,6 +299,7 @@ impl Step {
         }
     }
 
+    #[tactic(auto, unfolding(crate::specs::Steps::same_pair))]
     fn same_pair(self, i: u8, j: u8) -> bool
         requires { (i ≤ max_params) × (j ≤ max_params) }
         ensures { result ≡ same_pair self i j }
@@ -317,6 +311,7 @@ impl Step {
     }
 
     // Row 10.
+    #[tactic(auto, unfolding(crate::specs::Steps::repeats))]
     pub fn repeats(self) -> bool
         ensures { result ≡ repeats self }
     {

@@ -21,7 +21,7 @@ use Rattle.format.specs.Toggled.{toggle, toggled}
 use Rattle.format.specs.Form.{Form, most_listed, state_after}
 use Rattle.format.specs.States.{list}
 use Rattle.format.proofs.States.{list_ends}
-use Rattle.answer.specs.declared.Answer.TheVariants.{Good}
+use Rattle.answer.specs.Answer.{Good}
 use Rattle.quantify.specs.Quantify.{Mem, here, there, any}
 use Rattle.factsets.specs.Holding.{holding}
 use Rattle.factsets.specs.Right.{Increasing}

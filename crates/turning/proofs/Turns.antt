@@ -1,6 +1,5 @@
 -- A loop that turns the facts of a list, one turn at a time.
-use Prim.Native.Nat.{ℕ, zero, suc, ◌+◌, ◌-◌, ◌≤◌, ◌<◌}
-use native.Mathlib.Numerals.{sub-one}
+use Prim.Native.Nat.{ℕ, suc, ◌+◌, ◌-◌, ◌*◌, ◌≤◌, ◌<◌}
 use native.Mathlib.Omega.{arith}
 use mathlib.Core.Path.{◌≡◌, refl, ◌∙◌}
 use mathlib.Core.List.{List, [], ◌∷◌}
@@ -16,34 +15,51 @@ use Rattle.format.specs.Lists.{facts_at}
 use Rattle.quantify.specs.Quantify.{here, there}
 use Rattle.turning.specs.Turning.{flipped, Numbered}
 
-pub flipped_none : (s : List ℕ) (n at : ℕ) (m : List ℕ) → n ≡ 0 → flipped (facts_at s n at) m ≡ m
-unfolding flipped facts_at
-flipped_none s n at m e = rw e
+-- of n facts from an offset those after the first i
+abbrev pub left_of : List ℕ → ℕ → ℕ → ℕ → List Fact
+left_of s n at i = facts_at s (n - i) (at + fact_size * i)
 
-pub flipped_more : (s : List ℕ) (n at : ℕ) (f : Fact) (m m' : List ℕ)
-    → 0 < n
-    → f ≡ fact_at s at
-    → m' ≡ flip_bit m (fact_number f)
-    → flipped (facts_at s (n - 1) (at + fact_size)) m' ≡ flipped (facts_at s n at) m
-unfolding flipped facts_at
-flipped_more s zero at f m m' h p q = absurd (omega arith)
-flipped_more s (suc n) at f m m' h p q = rw (sub-one, q, p)
+module _ (s : List ℕ) (n at : ℕ) where
+  pub left_first : left_of s n at 0 ≡ facts_at s n at
+  left_first =
+      let p : n - 0 ≡ n = omega arith in
+      let q : at + fact_size * 0 ≡ at = omega arith in
+      rw (p, q)
+
+  pub left_none : (i : ℕ) → n ≤ i → left_of s n at i ≡ []
+  unfolding facts_at
+  left_none i h =
+      let p : n - i ≡ 0 = omega arith in
+      rw p
+
+  -- the fact at i, and those after it
+  pub left_more : (i : ℕ) (f : Fact) → i < n → f ≡ fact_at s (at + fact_size * i) → left_of s n at i ≡ f ∷ left_of s n at (i + 1)
+  unfolding facts_at
+  left_more i f h e =
+      let p : n - i ≡ suc (n - (i + 1)) = omega arith in
+      let q : at + fact_size * (i + 1) ≡ at + fact_size * i + fact_size = omega arith in
+      rw (p, q, e)
 
 pub length_flipped : (fs : List Fact) (m : List ℕ) → length (flipped fs m) ≡ length m
 unfolding flipped
 length_flipped [] m = refl
 length_flipped (f ∷ fs) m = length_flipped fs (flip_bit m (fact_number f)) ∙ length_flip_bit m (fact_number f)
 
--- the first fact that is left has a bit, and so have the others
-pub numbered_first : (s : List ℕ) (n at : ℕ) (f : Fact) → 0 < n → f ≡ fact_at s at → Numbered (facts_at s n at) → fact_number f < max_fact_numbers
-unfolding facts_at
-numbered_first s zero at f h p k = absurd (omega arith)
-numbered_first s (suc n) at f h p k = rw p (k (fact_at s at) here)
+-- the first of some facts turned, and then the others
+pub flipped_more : (fs gs : List Fact) (f : Fact) (m m' : List ℕ) → fs ≡ f ∷ gs → m' ≡ flip_bit m (fact_number f) → flipped gs m' ≡ flipped fs m
+unfolding flipped
+flipped_more fs gs f m m' p q = rw (p, q)
 
-pub numbered_rest : (s : List ℕ) (n at : ℕ) → 0 < n → Numbered (facts_at s n at) → Numbered (facts_at s (n - 1) (at + fact_size))
-unfolding facts_at
-numbered_rest s zero at h k = absurd (omega arith)
-numbered_rest s (suc n) at h k = rw sub-one (λ f m. k f (there m))
+pub flipped_none : (fs : List Fact) (m : List ℕ) → fs ≡ [] → flipped fs m ≡ m
+unfolding flipped
+flipped_none fs m e = rw e
+
+-- if they all have bits, the first has, and the others
+pub numbered_first : (fs gs : List Fact) (f : Fact) → fs ≡ f ∷ gs → Numbered fs → fact_number f < max_fact_numbers
+numbered_first fs gs f p k = k f (rw p here)
+
+pub numbered_rest : (fs gs : List Fact) (f : Fact) → fs ≡ f ∷ gs → Numbered fs → Numbered gs
+numbered_rest fs gs f p k g m = k g (rw p (there m))
 
 -- one fact turned: how many hold
 module _ (m : List ℕ) (n count : ℕ) (bytes : Bytes m) (long : length m ≡ state_size) (low : n < max_fact_numbers) (told : count ≡ cardinality m) where

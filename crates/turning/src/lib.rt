@@ -29,13 +29,10 @@ fn turn_list(s: &[u8], from: usize, state: &mut [u8], held: usize) -> usize
     requires { (length state.old ≡ state_size) × Turnable s.now from × (held ≡ cardinality state.old) }
     ensures { (state.new ≡ flipped (list_at s.now from) state.old) × (result ≡ cardinality state.new) }
 {
-    let mut left = input::two_at(s, from);
-    let mut at = from + limits::COUNT_SIZE;
+    let first = from + limits::COUNT_SIZE;
     let mut count = held;
-    while 0 < left {
-        count = turn(Fact::read(s, at), state, count);
-        at += limits::FACT_SIZE;
-        left -= 1;
+    for i in 0..input::two_at(s, from) as usize {
+        count = turn(Fact::read(s, first + limits::FACT_SIZE * i), state, count);
     }
     count
 }

@@ -4,10 +4,7 @@ use mathlib.Core.Path.{◌≡◌, refl, sym, ap, ap₂, ◌∙◌}
 use mathlib.Core.Logic.{◌⊎◌, inl, inr}
 use mathlib.Core.Bool.{Bool, true, false}
 use mathlib.Core.List.{List}
-use Rattle.answer.specs.declared.Answer.{Answer}
-use Rattle.answer.specs.declared.Answer.TheVariants.{Good, Refused}
-use Rattle.answer.specs.declared.Positioned.{Positioned}
-use Rattle.answer.specs.Answer.{◌>>=◌, first_refused, number, place, unpositioned, then_at, kept}
+use Rattle.answer.specs.Answer.{Answer, Good, Refused, Positioned, ◌>>=◌, first_refused, number, place, unpositioned, then_at, kept}
 use Rattle.answer.proofs.Laws.{bind_refused}
 use Rattle.truth.specs.Bools.{clash, decide}
 use Rattle.quantify.specs.Quantify.{any}

@@ -5,8 +5,7 @@ use mathlib.Core.Bool.{Bool, not}
 use mathlib.Core.List.{List}
 use lib.Dec.{eqb}
 use lib.ListN.{length}
-use Rattle.answer.specs.declared.Answer.TheVariants.{Good}
-use Rattle.answer.specs.Answer.{◌>>=◌, refuse}
+use Rattle.answer.specs.Answer.{Good, ◌>>=◌, refuse}
 use Rattle.answer.specs.Table.{among, impossible_rows, is_impossible, book_offset_rows, is_book_offset}
 use Rattle.limits.specs.Limits.{rule_size}
 use Rattle.format.specs.Form.{Form}

@@ -6,9 +6,7 @@ use mathlib.Core.Bool.{Bool, false, ◌||◌, not}
 use mathlib.Core.List.{List}
 use native.Mathlib.Omega.{arith}
 use lib.Dec.{ltb}
-use Rattle.answer.specs.declared.Answer.{Answer}
-use Rattle.answer.specs.declared.Answer.TheVariants.{Good, Refused}
-use Rattle.answer.specs.Answer.{◌>>=◌, refuse}
+use Rattle.answer.specs.Answer.{Answer, Good, Refused, ◌>>=◌, refuse}
 use Rattle.answer.proofs.Laws.{bind_cong}
 use Rattle.answer.specs.Walk.{walk}
 use Rattle.input.specs.Bytes.{byte_at, two}

@@ -1,9 +1,7 @@
 -- Two good books that hold the same transitions (steps, with their states), each in its form, get the same sheet, the same answers apart from the
 -- places of 11 and 28, and the same verdicts. `s` is of form `F`, `t` of form `G`. A book and its converted twin are such books.
 use Rattle.std.specs.Prelude.{ℕ, ◌≤◌, ◌≡◌, ◌↔◌, Bool, false, ◌&&◌, not, List, length}
-use Rattle.answer.specs.declared.Answer.{Answer}
-use Rattle.answer.specs.declared.Answer.TheVariants.{Good}
-use Rattle.answer.specs.Answer.{number, place}
+use Rattle.answer.specs.Answer.{Answer, Good, number, place}
 use Rattle.answer.specs.Table.{is_impossible, is_book_offset}
 use Rattle.limits.specs.Limits.{max_length}
 use Rattle.terms.specs.Agree.{SameSchema}

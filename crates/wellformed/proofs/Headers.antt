@@ -2,7 +2,7 @@
 use Prim.Native.Nat.{ℕ, ◌≤◌}
 use mathlib.Core.Path.{◌≡◌}
 use mathlib.Core.List.{List}
-use Rattle.answer.specs.declared.Answer.TheVariants.{Good}
+use Rattle.answer.specs.Answer.{Good}
 use Rattle.terms.specs.Schema.{schema}
 use Rattle.terms.specs.Sections.{sections_of}
 use Rattle.terms.specs.Typing.{RightSchema}

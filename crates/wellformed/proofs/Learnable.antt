@@ -4,7 +4,7 @@ use mathlib.Core.Path.{◌≡◌, refl, sym, ◌∙◌}
 use mathlib.Core.Logic.{◌⊎◌, inl, inr}
 use mathlib.Core.Bool.{Bool, true, false}
 use mathlib.Core.List.{List}
-use Rattle.answer.specs.declared.Answer.TheVariants.{Good, Refused}
+use Rattle.answer.specs.Answer.{Good, Refused}
 use Rattle.truth.specs.Bools.{clash, decide, neither}
 use Rattle.answer.proofs.Laws.{bind_good, bind_refused, good_refused}
 use Rattle.answer.specs.Table.{among, impossible_rows, is_impossible}

@@ -1,6 +1,6 @@
 -- What good form says of the records of a book: none is without a step.
 use Rattle.std.specs.Prelude.{ℕ, ◌≤◌, ◌≡◌, List, length}
-use Rattle.answer.specs.declared.Answer.TheVariants.{Good}
+use Rattle.answer.specs.Answer.{Good}
 use Rattle.format.specs.Form.{Form}
 use Rattle.format.specs.Records.{steps_in}
 use Rattle.format.specs.LookOver.{look_over}

@@ -9,4 +9,4 @@ unfolding move_at
 kinds_of-requires c = (omega arith, omega arith)
 
 pub returns : goal.returns
-returns c = params_right _ _ _ _ _ (rw (← c.params.ensures) c.clamped-count.ensures) (omega arith) c.kinds_of.ensures
+returns c = params_right _ _ _ _ _ (rw (← c.params.ensures) c.min-count.ensures) (omega arith) c.kinds_of.ensures

@@ -4,7 +4,7 @@ use Rattle.changeover.proofs.Laws.{says_by}
 use Rattle.changeover.proofs.changeover_add.Goals as goal
 
 pub pack-requires : goal.pack-requires
-pack-requires c = rw c.add.ensures.says (add_fits _ _ _ _)
+pack-requires c = rw c.add.ensures.says ((add_fits _ _ _ _).0, (add_fits _ _ _ _).2)
 
 pub returns : goal.returns
 returns c = let a = c.add.ensures in

@@ -3,9 +3,9 @@ use Rattle.changeover.proofs.Bounds.{check_fits, check_elsewhere}
 use Rattle.changeover.proofs.Laws.{says_at}
 use Rattle.changeover.proofs.changeover_check.Goals as goal
 
-pub pack-requires : goal.pack-requires
-pack-requires c = rw c.check-r.ensures.says (check_fits _ _ _ _)
+pub pack_checked-requires : goal.pack_checked-requires
+pack_checked-requires c = rw c.check.ensures.says (check_fits _ _ _ _)
 
 pub returns : goal.returns
-returns c = let a = c.check-r.ensures in
-    rw (← c.is_short.ensures) (record { answer = says_at _ _ _ a.says (check_fits _ _ _ _) c.pack.ensures; elsewhere = check_elsewhere _ _ _ _; end = a.bytes })
+returns c = let a = c.check.ensures in
+    rw (← c.is_short.ensures) (record { answer = says_at _ _ _ a.says (check_fits _ _ _ _) c.pack_checked.ensures; elsewhere = check_elsewhere _ _ _ _; end = a.bytes })

@@ -4,7 +4,7 @@ use Rattle.changeover.proofs.Laws.{says_by}
 use Rattle.changeover.proofs.changeover_learn.Goals as goal
 
 pub pack-requires : goal.pack-requires
-pack-requires c = rw c.learn.ensures.says (learn_fits _ _ _)
+pack-requires c = rw c.learn.ensures.says ((learn_fits _ _ _).0, (learn_fits _ _ _).2)
 
 pub returns : goal.returns
 returns c = let a = c.learn.ensures in

@@ -4,7 +4,7 @@ use Rattle.changeover.proofs.Laws.{says_by}
 use Rattle.changeover.proofs.changeover_to_short.Goals as goal
 
 pub pack-requires : goal.pack-requires
-pack-requires c = rw c.convert.ensures.says (convert_fits _ _ _)
+pack-requires c = rw c.convert.ensures.says ((convert_fits _ _ _).0, (convert_fits _ _ _).2)
 
 pub returns : goal.returns
 returns c = let a = c.convert.ensures in

@@ -1,5 +1,5 @@
 -- `conflicts::unbound_answer` meets its contract: both cases of the definition.
-use borrow.Author.Rules.{rules}
+use Rattle.std.proofs.Common.{rules}
 use Rattle.observed.specs.Rules.{unbound_answer}
 use Rattle.conflicts.proofs.Refusals.{unbound_named}
 use Rattle.conflicts.proofs.unbound_answer.Goals as goal
@@ -9,5 +9,4 @@ unfolding unbound_answer
 returns-then-named-eq0 c = search rules
 
 pub returns : goal.returns
-unfolding unbound_answer
-returns c = unbound_named _ c.if-named-eq0.false
+returns c = rw c.at.ensures (unbound_named _ c.if-named-eq0.false)

@@ -5,9 +5,7 @@ use Rattle.failedsteps.specs.Asked.{BookAsked, StepsAsked}
 use Rattle.failedsteps.proofs.Going.{Going}
 use Rattle.failedsteps.proofs.steps.Given as goal
 
-abbrev pub invariant-loop-left : goal.invariant-loop-left
-invariant-loop-left l =
-    (book : BookAsked l.h l.s l.observed) × (ask : StepsAsked l.short l.h l.s l.n l.first) × (before : List Fact) × Going l.short l.h l.s l.observed l.n l.first book ask before l.state l.held l.left l.pre l.at
-
-abbrev pub decreases-loop-left : goal.decreases-loop-left
-decreases-loop-left l = l.left
+abbrev pub invariant-loop : goal.invariant-loop
+invariant-loop l =
+    (book : BookAsked l.h l.s l.observed) × (ask : StepsAsked l.short l.h l.s l.n l.first) × (before : List Fact)
+    × Going l.short l.h l.s l.observed l.n l.first book ask before l.state l.held l.counter l.pre l.at

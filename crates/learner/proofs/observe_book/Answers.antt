@@ -1,40 +1,31 @@
 -- `observe_book` meets its contract: each return by the rows before it.
 use mathlib.Core.Path.{◌∙◌}
+use Rattle.std.proofs.lemmas.Result.{err_from_is_err_and}
 use Rattle.wellformed.proofs.Headers.{moves_few}
 use Rattle.observestep.proofs.Start.{nothing_sized}
-use Rattle.learner.proofs.Book.{moves_own, at_form, formed, observes, at_unbound, at_conflict, at_refuted, at_end}
+use Rattle.learner.proofs.Book.{moves_own, at_form, formed, at_unbound, at_conflict, at_refuted, at_end}
 use Rattle.learner.proofs.observe_book.Goals as goal
 
-pub returns-then-is_refused : goal.returns-then-is_refused
-returns-then-is_refused c = at_form _ _ _ _ c.observe_form-w.ensures _ c.is_refused.ensures c.if-is_refused.true
+pub returns-in_err-w : goal.returns-in_err-w
+returns-in_err-w c = let p = err_from_is_err_and c.from_residual.result c.from_residual.ensures.1 in
+    rw (p.1, p.2) (at_form _ _ _ c.in_err-w.field-0.0 c.in_err-w.ensures)
 
-pub returns-then-is_refused-2 : goal.returns-then-is_refused-2
-returns-then-is_refused-2 c = at_unbound _ _ _ _ c.observe_form-w.ensures _ c.is_refused.ensures c.if-is_refused.false
-    _ _ c.unbound_answer-b.ensures c.is_refused-2.ensures c.if-is_refused-2.true
+pub returns-in_err-unbound_answer : goal.returns-in_err-unbound_answer
+returns-in_err-unbound_answer c = let p = err_from_is_err_and c.from_residual-in_err-unbound_answer.result c.from_residual-in_err-unbound_answer.ensures.1 in
+    rw (p.1, p.2) (at_unbound _ _ _ _ c.in_ok-w.ensures c.in_err-unbound_answer.field-0.0 c.in_err-unbound_answer.ensures)
 
-pub conflict_among-c-requires : goal.conflict_among-c-requires
-conflict_among-c-requires c = let p = c.requires in
-    (c.observe_form-w.auto.observed ∙ nothing_sized _ p.1, rw (moves_own _ _ p.0) (moves_few _ _ _ (formed _ _ _ _ c.observe_form-w.ensures _ c.is_refused.ensures c.if-is_refused.false)))
+pub conflict_among-requires : goal.conflict_among-requires
+conflict_among-requires c = let p = c.requires in
+    (c.observe_form.auto.observed ∙ nothing_sized _ p.1, rw (moves_own _ _ p.0) (moves_few _ _ _ (formed _ _ _ _ c.in_ok-w.ensures)))
 
-pub returns-then-is_refused-3 : goal.returns-then-is_refused-3
-returns-then-is_refused-3 c = at_conflict _ _ _ _ c.observe_form-w.ensures _ c.is_refused.ensures c.if-is_refused.false
-    _ _ c.unbound_answer-b.ensures c.is_refused-2.ensures c.if-is_refused-2.false
-    _ c.requires.0 _ _ c.conflict_among-c.ensures c.is_refused-3.ensures c.if-is_refused-3.true
+pub returns-in_err-conflict_among : goal.returns-in_err-conflict_among
+returns-in_err-conflict_among c = let p = err_from_is_err_and c.from_residual-in_err-conflict_among.result c.from_residual-in_err-conflict_among.ensures.1 in
+    rw (p.1, p.2) (at_conflict _ _ _ _ c.in_ok-w.ensures c.in_ok-unbound_answer.ensures _ c.requires.0 c.in_err-conflict_among.field-0.0 c.in_err-conflict_among.ensures)
 
-pub refutation-d-requires : goal.refutation-d-requires
-refutation-d-requires c = let p = c.requires in
-    let good = formed _ _ _ _ c.observe_form-w.ensures _ c.is_refused.ensures c.if-is_refused.false in
-    let held = observes _ _ _ _ c.observe_form-w.ensures _ c.is_refused.ensures c.if-is_refused.false in
-    (p.0, (_, good), held.masks, held.failed)
-
-pub returns-then-is_refused-4 : goal.returns-then-is_refused-4
-returns-then-is_refused-4 c = at_refuted _ _ _ _ c.observe_form-w.ensures _ c.is_refused.ensures c.if-is_refused.false
-    _ _ c.unbound_answer-b.ensures c.is_refused-2.ensures c.if-is_refused-2.false
-    _ c.requires.0 _ _ c.conflict_among-c.ensures c.is_refused-3.ensures c.if-is_refused-3.false
-    _ _ c.refutation-d.ensures c.is_refused-4.ensures c.if-is_refused-4.true
+pub returns-in_err-refutation : goal.returns-in_err-refutation
+returns-in_err-refutation c = let p = err_from_is_err_and c.from_residual-in_err-refutation.result c.from_residual-in_err-refutation.ensures.1 in
+    rw (p.1, p.2)
+    (at_refuted _ _ _ _ c.in_ok-w.ensures c.in_ok-unbound_answer.ensures _ c.requires.0 c.in_ok-conflict_among.ensures c.in_err-refutation.field-0.0 c.in_err-refutation.ensures)
 
 pub returns : goal.returns
-returns c = at_end _ _ _ _ c.observe_form-w.ensures _ c.is_refused.ensures c.if-is_refused.false
-    _ _ c.unbound_answer-b.ensures c.is_refused-2.ensures c.if-is_refused-2.false
-    _ c.requires.0 _ _ c.conflict_among-c.ensures c.is_refused-3.ensures c.if-is_refused-3.false
-    _ _ c.refutation-d.ensures c.is_refused-4.ensures c.if-is_refused-4.false
+returns c = at_end _ _ _ _ c.in_ok-w.ensures c.in_ok-unbound_answer.ensures _ c.requires.0 c.in_ok-conflict_among.ensures c.in_ok-refutation.ensures

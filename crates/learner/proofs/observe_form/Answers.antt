@@ -4,7 +4,7 @@ use mathlib.Core.List.{List}
 use Prim.Native.Nat.{ℕ}
 use lib.ListN.{length}
 use native.Mathlib.Omega.{arith}
-use Rattle.answer.proofs.Turns.{is_good}
+use Rattle.std.proofs.lemmas.Result.{err_from_is_err_and}
 use Rattle.format.proofs.Header.{sections_good}
 use Rattle.format.proofs.Typing.{schema_right}
 use Rattle.observed.specs.Observed.{observed_set}
@@ -12,16 +12,15 @@ use Rattle.observed.proofs.Observe.{seen_nothing}
 use Rattle.learner.proofs.Book.{at_sections, at_records}
 use Rattle.learner.proofs.observe_form.Goals as goal
 
-pub returns-then-is_refused : goal.returns-then-is_refused
-returns-then-is_refused c = rw c.stopped.ensures (at_sections _ _ _ c.requires.0 _ _ _ c.sections-a.ensures c.is_refused.ensures c.if-is_refused.true)
+pub returns-in_err-sections : goal.returns-in_err-sections
+returns-in_err-sections c = let p = err_from_is_err_and c.from_residual.result c.from_residual.ensures.1 in
+    rw (p.1, p.2) (at_sections _ _ _ c.requires.0 _ c.in_err-sections.field-0.0 c.in_err-sections.ensures)
 
 pub nothing_seen-requires : goal.nothing_seen-requires
-nothing_seen-requires c = let e = sym c.sections-a.ensures ∙ is_good _ (sym c.is_refused.ensures ∙ c.if-is_refused.false) in
-    (c.requires.1, (sections_good _ _ _ e).counts.moves)
+nothing_seen-requires c = (c.requires.1, (sections_good _ _ _ (sym c.in_ok-sections.ensures)).counts.moves)
 
 pub records-requires : goal.records-requires
-records-requires c = let e = sym c.sections-a.ensures ∙ is_good _ (sym c.is_refused.ensures ∙ c.if-is_refused.false) in
-    let g = sections_good _ _ _ e in
+records-requires c = let g = sections_good _ _ _ (sym c.in_ok-sections.ensures) in
     let seen = c.nothing_seen.ensures in (
       record {
         known = g.counts.relations;
@@ -35,5 +34,4 @@ records-requires c = let e = sym c.sections-a.ensures ∙ is_good _ (sym c.is_re
     )
 
 pub returns : goal.returns
-returns c = at_records _ _ _ c.requires.0 _ _ _ _ _ c.sections-a.ensures c.is_refused.ensures c.if-is_refused.false
-    c.nothing_seen.ensures c.records.ensures
+returns c = at_records _ _ _ c.requires.0 _ _ _ _ c.in_ok-sections.ensures c.nothing_seen.ensures c.records.ensures

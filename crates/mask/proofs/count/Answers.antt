@@ -1,33 +1,12 @@
--- `mask::count` meets its contract. The invariant: what is counted and the size of the rest make the whole size; each byte has at most 8 ones.
-use native.Mathlib.Omega.{arith}
-use lib.Count.{ones-le}
-use Rattle.mask.proofs.Turns.{cardinality_turn, cardinality_all}
+-- `mask::count` meets its contract: the sum of the ones of each byte is the size.
+use Rattle.std.proofs.Common.{◌≡◌, ◌∙◌, rules, arith}
+use Rattle.std.specs.List.{sum_by}
+use lib.Count.{ones}
+use Rattle.mask.proofs.Flips.{cardinality_most}
+use Rattle.mask.proofs.Turns.{cardinality_sum}
 use Rattle.mask.proofs.count.Goals as goal
 
-pub loop-i-init : goal.loop-i-init
-loop-i-init c = omega arith
-
-pub bounds-m-i : goal.bounds-m-i
-bounds-m-i c = omega arith
-
-pub overflow_cast-n : goal.overflow_cast-n
-overflow_cast-n c = omega (arith, ones-le 8 _ (c.shared_slice_known-1.given c.loop-i.i).fits)
-
-pub overflow_add-n : goal.overflow_add-n
-overflow_add-n c = omega (arith, ones-le 8 _ (c.shared_slice_known-1.given c.loop-i.i).fits)
-
-pub overflow_add-i : goal.overflow_add-i
-overflow_add-i c = omega arith
-
-pub loop-i-smaller : goal.loop-i-smaller
-loop-i-smaller c = omega arith
-
-pub loop-i-preserved : goal.loop-i-preserved
-loop-i-preserved c = omega (
-  arith,
-  ones-le 8 _ (c.shared_slice_known-1.given c.loop-i.i).fits,
-  cardinality_turn c.args.m.now c.loop-i.i c.loop-i-test.true,
-)
-
 pub returns : goal.returns
-returns c = omega (arith, cardinality_all c.args.m.now c.loop-i.i c.loop-i-test.false)
+returns c = let m = c.args.m.now in
+    let size : c.sum.result ≡ sum_by ones m = search rules in
+    (size ∙ cardinality_sum m, omega (arith, cardinality_sum m, cardinality_most m (λ i. (c.type_inv.m i).fits)))

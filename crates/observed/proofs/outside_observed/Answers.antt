@@ -4,4 +4,4 @@ use Rattle.observed.proofs.Sets.{difference_by}
 use Rattle.observed.proofs.outside_observed.Goals as goal
 
 pub returns : goal.returns
-returns c = difference_by _ _ _ _ _ (omega arith) c.empty32.ensures c.observed_set.ensures c.union_difference32.ensures
+returns c = difference_by _ _ _ _ _ (omega arith) c.empty.ensures c.observed_set.ensures c.union_difference.ensures

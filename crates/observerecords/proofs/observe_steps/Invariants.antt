@@ -1,6 +1,6 @@
 -- `observerecords::observe_steps` meets its contract: the steps that are left answer as all do, and observed after those before come to the whole.
+use Prim.Native.Nat.{◌-◌}
 use mathlib.Core.Path.{◌≡◌}
-use lib.ListN.{length}
 use Rattle.format.specs.Lists.{list_at}
 use Rattle.format.specs.Decode.{recorded_steps_at}
 use Rattle.observed.specs.Observed.{observe_all}
@@ -9,11 +9,7 @@ use Rattle.observerecords.specs.Observing.{held_with}
 use Rattle.observerecords.proofs.Steps.{Observing}
 use Rattle.observerecords.proofs.observe_steps.Given as goal
 
-abbrev pub invariant-loop-left : goal.invariant-loop-left
-invariant-loop-left l =
-    Observing l.s l.c l.first l.from l.state l.held l.left l.pre l.at l.observed l.found (observe_all (recorded_steps_at l.c.short l.s l.c.steps (list_at l.s l.first) l.from) (held_with l.initial.observed l.initial.found))
+abbrev pub invariant-loop : goal.invariant-loop
+invariant-loop l =
+    Observing l.s l.c l.first l.from l.state l.held (l.c.steps - l.counter) l.pre l.at l.observed l.found (observe_all (recorded_steps_at l.c.short l.s l.c.steps (list_at l.s l.first) l.from) (held_with l.initial.observed l.initial.found))
     × (l.t ≡ no_digits)
-    × (length l.observed ≡ length l.initial.observed)
-
-abbrev pub decreases-loop-left : goal.decreases-loop-left
-decreases-loop-left l = l.left

@@ -1,31 +1,27 @@
 -- `observerecords::observe_trajectory` meets its contract, by what `states::state` and `observe_steps` say.
-use mathlib.Core.Path.{sym, ◌∙◌}
+use mathlib.Core.Path.{sym}
 use native.Mathlib.Omega.{arith}
+use Rattle.std.proofs.lemmas.Result.{err_from_is_err_and}
+use Rattle.answer.proofs.Laws.{bind_refused}
 use Rattle.format.specs.Filed.{filed_fact}
+use Rattle.format.specs.Records.{trajectory}
 use Rattle.format.proofs.States.{list_within}
-use Rattle.answer.proofs.Turns.{is_good}
-use Rattle.records.proofs.Parts.{trajectory_stays}
 use Rattle.tables.specs.Tables.{ForRightByPlace}
-use Rattle.observerecords.proofs.Record.{stays_observes, trajectory_observes}
+use Rattle.observerecords.proofs.Record.{refused_observes, trajectory_observes}
 use Rattle.observerecords.proofs.observe_trajectory.Goals as goal
 
-pub returns-then-is_refused : goal.returns-then-is_refused
-unfolding ForRightByPlace
-returns-then-is_refused c = let p = c.requires in
-    rw c.stopped.ensures
-    (stays_observes _ _ _ _ _ _ _ c.is_refused.ensures c.if-is_refused.true
-    (trajectory_stays _ _ _ _ _ _ _ _ _ (c.state-first.ensures _ _ p.0.readable.table) c.is_refused.ensures c.if-is_refused.true))
+pub returns-in_err-from : goal.returns-in_err-from
+unfolding ForRightByPlace filed_fact trajectory
+returns-in_err-from c = let p = err_from_is_err_and c.from_residual.result c.from_residual.ensures.1 in
+    rw (p.1, p.2) (refused_observes _ _ _ _ _ (sym (bind_refused _ _ _ _ (sym (c.in_err-from.ensures 8 _ _ c.requires.0.readable.table)))))
 
-pub observe_steps-requires : goal.observe_steps-requires
+pub observe_steps-requires-clause-first_state : goal.observe_steps-requires-clause-first_state
 unfolding ForRightByPlace filed_fact
-observe_steps-requires c = let p = c.requires in
-    let good = sym (c.state-first.ensures _ _ p.0.readable.table) ∙ is_good _ (sym c.is_refused.ensures ∙ c.if-is_refused.false) in
+observe_steps-requires-clause-first_state c = let p = c.requires in
+    let good = sym (c.in_ok-from.ensures 8 _ _ p.0.readable.table) in
     let w = list_within _ _ _ _ _ _ _ _ _ good in
-    let v = c.value_of.ensures in
-    let n = p.0.readable.near in record { observable = (p.0, p.1); first_state = (p.2, omega arith, rw v good) }
+    let n = p.0.readable.near in (p.2, omega arith, good)
 
 pub returns : goal.returns
 unfolding ForRightByPlace filed_fact
-returns c = let p = c.requires in
-    let good = sym (c.state-first.ensures _ _ p.0.readable.table) ∙ is_good _ (sym c.is_refused.ensures ∙ c.if-is_refused.false) in
-    trajectory_observes _ _ _ _ _ _ _ _ _ _ _ (rw c.value_of.ensures good) c.observe_steps.ensures
+returns c = trajectory_observes _ _ _ _ _ _ _ _ _ _ _ (sym (c.in_ok-from.ensures 8 _ _ c.requires.0.readable.table)) c.observe_steps.ensures

@@ -1,34 +1,22 @@
 -- `observerecords::pass_list` meets its contract: the list behind the step, and what it does to the state.
-use mathlib.Core.Path.{refl, sym, ap, ◌∙◌}
-use native.Mathlib.Omega.{arith}
-use Rattle.truth.specs.Bools.{clash}
-use Rattle.answer.specs.Answer.{is_refused}
-use Rattle.answer.proofs.Laws.{refused_good}
-use Rattle.answer.proofs.Turns.{is_good}
+use mathlib.Core.Path.{sym}
+use Rattle.std.proofs.lemmas.Result.{err_from_is_err_and}
 use Rattle.format.specs.Filed.{filed_fact}
 use Rattle.tables.specs.Tables.{ForRightByPlace}
 use Rattle.observerecords.proofs.Ready.{list_turns}
 use Rattle.observerecords.proofs.pass_list.Goals as goal
 
-pub overflow_add-listed : goal.overflow_add-listed
-overflow_add-listed c = let p = c.requires in
-    omega (arith, p.1, p.0.1.readable.near)
-
-pub list-looked-requires : goal.list-looked-requires
-list-looked-requires c = let p = c.requires in
-    (c.most_listed-most.ensures.1, p.0.1.readable.within, omega (arith, p.1, p.0.1.readable.near))
-
-pub returns-then-is_refused : goal.returns-then-is_refused
+pub returns-in_err-next-clause-answer_value : goal.returns-in_err-next-clause-answer_value
 unfolding ForRightByPlace filed_fact
-returns-then-is_refused c = let p = c.requires in record { answer_value = (rw c.most_listed-most.ensures.0 at (c.list-looked.ensures _ _ p.0.1.readable.table), refl); good = λ k e. clash _ (sym c.is_refused.ensures ∙ c.if-is_refused.true) (ap is_refused e ∙ refused_good k) }
+returns-in_err-next-clause-answer_value c = let p = err_from_is_err_and c.from_residual.result c.from_residual.ensures.1 in
+    rw (p.1, p.2) (rw c.most_listed-most.ensures.0 at (c.in_err-next.ensures 8 _ _ c.requires.0.1.readable.table))
 
-pub carry-requires : goal.carry-requires
+pub carry-count-requires : goal.carry-count-requires
 unfolding ForRightByPlace
-carry-requires c = let p = c.requires in
-    let listed = rw c.most_listed-most.ensures.0 at (c.list-looked.ensures _ _ p.0.1.readable.table) in
-    let good = sym listed ∙ is_good _ (sym c.is_refused.ensures ∙ c.if-is_refused.false) in
+carry-count-requires c = let p = c.requires in
+    let good = sym (rw c.most_listed-most.ensures.0 at (c.in_ok-next.ensures 8 _ _ p.0.1.readable.table)) in
     (p.2, λ short. (list_turns _ _ _ _ p.0.1 _ _ p.1 good, p.3 short))
 
-pub returns : goal.returns
+pub returns-clause-answer_value : goal.returns-clause-answer_value
 unfolding ForRightByPlace filed_fact
-returns c = let p = c.requires in record { answer_value = (rw c.most_listed-most.ensures.0 at (c.list-looked.ensures _ _ p.0.1.readable.table), refl); good = λ _ e. c.carry.ensures.1 }
+returns-clause-answer_value c = rw c.most_listed-most.ensures.0 at (c.in_ok-next.ensures 8 _ _ c.requires.0.1.readable.table)

@@ -3,10 +3,6 @@ use native.Mathlib.Omega.{arith}
 use Rattle.observestep.proofs.Sets.{noted_by}
 use Rattle.observestep.proofs.note.Goals as goal
 
-pub widen_by_change-requires-2 : goal.widen_by_change-requires-2
-widen_by_change-requires-2 c = let p = c.requires in
-    omega (arith, p.2)
-
 pub returns : goal.returns
 returns c = noted_by _ _ _ _ _ _ _ _ _ _ _ _ _ _ _ _ c.requires
     c.set_at-always_before.ensures.0 c.set_at-ever_before.ensures.0 c.set_at-always_after.ensures.0

@@ -1,5 +1,4 @@
 -- `observestep::nothing_seen` meets its contract: the moves up to i have their first sets.
-use Prim.Native.Nat.{◌-◌, ◌≤◌}
 use mathlib.Core.Path.{◌≡◌}
 use lib.ListN.{length}
 use Rattle.limits.specs.Limits.{observed_size}
@@ -8,7 +7,4 @@ use Rattle.observestep.proofs.Start.{Holds, first}
 use Rattle.observestep.proofs.nothing_seen.Given as goal
 
 abbrev pub invariant-loop-i : goal.invariant-loop-i
-invariant-loop-i l = (l.i ≤ l.count) × Holds (first (schema l.h l.book) l.i) l.observed × (length l.initial.observed ≡ observed_size)
-
-abbrev pub decreases-loop-i : goal.decreases-loop-i
-decreases-loop-i l = l.count - l.i
+invariant-loop-i l = Holds (first (schema l.h l.book) l.i) l.observed × (length l.initial.observed ≡ observed_size)

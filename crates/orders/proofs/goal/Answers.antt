@@ -25,8 +25,9 @@ bad-requires c = let i = c.loop-c.invariant in
 pub returns-then-wanted-bad : goal.returns-then-wanted-bad
 unfolding ForRightByPlace
 returns-then-wanted-bad c sch ob right = let l = c.loop-c in
-    chain_refused (goal_chain sch ob _) (l.invariant.4 sch ob right) c.loop-c-test.true
-    (entry_bad_by _ _ _ _ _ _ l.invariant.0 c.byte_at-wanted.ensures (c.bad.ensures sch ob right)) c.if-wanted-bad.true
+    rw c.at.ensures
+    (chain_refused (goal_chain sch ob _) (l.invariant.4 sch ob right) c.loop-c-test.true
+    (entry_bad_by _ _ _ _ _ _ l.invariant.0 c.byte_at-wanted.ensures (c.bad.ensures sch ob right)) c.if-wanted-bad.true)
 
 pub next-c-requires : goal.next-c-requires
 next-c-requires c = let i = c.loop-c.invariant in

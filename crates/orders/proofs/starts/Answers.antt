@@ -1,33 +1,49 @@
 -- `starts` meets its contract: the starts still left answer as all of them do, and each ends before the goal entries.
-use mathlib.Core.Path.{sym, ◌∙◌}
-use native.Mathlib.Omega.{arith}
-use Rattle.answer.proofs.Turns.{turn_none, turn_refused, turn_good}
+use Rattle.std.proofs.Common.{◌≡◌, ◌-◌, ◌+◌, ◌∙◌, refl, rules, arith}
+use Rattle.std.proofs.lemmas.Result.{err_from_is_err_and}
+use Rattle.answer.specs.Refusal.{answer_of}
+use Rattle.answer.proofs.Results.{ok_is, turn_err, turn_ok}
+use Rattle.answer.proofs.Turns.{turn_none}
+use Rattle.terms.specs.Schema.{Schema, TypedObjects}
+use Rattle.format.specs.Filed.{as_written}
+use Rattle.format.specs.States.{state}
+use Rattle.format.specs.Order.{start_count, goal_at}
 use Rattle.format.proofs.States.{list_within}
-use Rattle.tables.specs.Tables.{ForRightByPlace, RightForSome}
-use Rattle.orders.proofs.Tests.{walk_same}
+use Rattle.tables.specs.Tables.{ForRightByPlace, RightByPlace, RightForSome}
+use Rattle.orders.proofs.Tests.{as_start}
 use Rattle.orders.proofs.starts.Goals as goal
+use Rattle.orders.proofs.starts.Goals.{After-map_err}
 
-pub loop-left-init : goal.loop-left-init
+pub loop-init : goal.loop-init
 unfolding ForRightByPlace
-loop-left-init c = let end = c.goal_at-end.ensures in
-    let at = c.start_at-at.ensures in
-    (end.0, omega arith, omega arith, λ sch ob right. rw end.0 (walk_same _ _ _ _ _ c.start_count-left.ensures at.0))
+loop-init c = let left : start_count c.args.o.now - 0 ≡ start_count c.args.o.now = omega arith in
+    (omega arith, λ sch ob right. rw (left, c.start_at-at.ensures.0) refl)
 
-pub returns-in-Refused : goal.returns-in-Refused
+pub state-requires : goal.state-requires
+state-requires c = omega arith
+
+-- what the start that is looked at comes to
+looked : (c : After-map_err) (sch : Schema) (ob : TypedObjects) → RightByPlace sch ob c.args.table.now
+    → answer_of c.map_err.result ≡ state as_written 16 sch ob c.args.o.now (goal_at c.args.o.now) c.loop.at
 unfolding ForRightByPlace
-returns-in-Refused c sch ob right = turn_refused _ _ _ _ _ _ _ (c.loop-left.invariant.3 sch ob right) c.loop-left-test.true (c.state.ensures sch ob right) c.in-Refused.is
+looked c sch ob right = as_start _ _ _ c.map_err.ensures.cases (λ w e q. search rules) ∙ rw c.goal_at-end.ensures.0 at (c.state.ensures 16 sch ob right)
 
-pub loop-left-preserved : goal.loop-left-preserved
+pub returns-in_err-at : goal.returns-in_err-at
+unfolding ForRightByPlace
+returns-in_err-at c sch ob right = let p = err_from_is_err_and c.from_residual.result c.from_residual.ensures.1 in
+    rw (p.1, p.2)
+    (turn_err _ _ _ _ (c.loop.invariant.1 sch ob right) (omega arith) _ (looked (goal.at.returns-in_err-at c).After-map_err sch ob right) _ c.in_err-at.was)
+
+pub loop-preserved : goal.loop-preserved
 unfolding ForRightByPlace RightForSome
-loop-left-preserved c = let e = c.in-Good.is in
+loop-preserved c = let l = (goal.at.loop-preserved c).After-map_err in
     let (sch₁, ob₁, right₁) = c.requires.1 in
-    let w = list_within _ _ 16 sch₁ ob₁ _ _ _ _ (sym (c.state.ensures sch₁ ob₁ right₁) ∙ e) in (
-      c.loop-left.invariant.0,
-      c.loop-left.invariant.1,
+    let w = list_within _ _ 16 sch₁ ob₁ _ _ _ _ (ok_is _ _ (looked l sch₁ ob₁ right₁) _ c.in_ok-at.was) in
+    let left : start_count c.args.o.now - (c.loop.counter + 1) ≡ start_count c.args.o.now - c.loop.counter - 1 = omega arith in (
       omega arith,
-      λ sch ob right. turn_good _ _ _ _ _ _ (c.loop-left.invariant.3 sch ob right) c.loop-left-test.true (c.state.ensures sch ob right) e,
+      λ sch ob right. rw left (turn_ok _ _ _ _ (c.loop.invariant.1 sch ob right) (omega arith) _ (looked l sch ob right) _ c.in_ok-at.was),
     )
 
 pub returns : goal.returns
 unfolding ForRightByPlace
-returns c sch ob right = turn_none _ _ _ _ (c.loop-left.invariant.3 sch ob right) (omega arith)
+returns c sch ob right = turn_none _ _ _ _ (c.loop.invariant.1 sch ob right) (omega arith)

@@ -1,11 +1,6 @@
--- `write_two` meets its contract.
-use native.Mathlib.Omega.{arith}
-use lib.ListN.{length-set}
-use Rattle.output.proofs.Two.{two_written}
+-- `write_two` meets its contract: the last two bytes of the number.
+use Rattle.output.proofs.Two.{last_two}
 use Rattle.output.proofs.write_two.Goals as goal
 
-pub bounds-part-at-2 : goal.bounds-part-at-2
-bounds-part-at-2 c = simp length-set (omega arith)
-
 pub returns : goal.returns
-returns c = two_written _ _ _ c.requires
+returns c = rw (c.to_be_bytes.ensures, last_two) at c.write_bytes.ensures

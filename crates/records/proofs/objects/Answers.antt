@@ -1,25 +1,13 @@
--- `objects` meets its contract: the objects still left answer as all of them do.
-use mathlib.Core.Path.{refl}
-use native.Mathlib.Omega.{arith}
-use Rattle.records.proofs.Parts.{object_bad_by}
-use Rattle.format.proofs.Records.{object_entry}
-use Rattle.answer.proofs.Turns.{turn_none}
-use Rattle.answer.proofs.Entries.{entry_refused, entry_good}
+-- `objects` meets its contract: entries of one size.
+use mathlib.Core.Bool.{◌||◌}
+use borrow.Author.Rules.{rules}
+use Rattle.answer.specs.Walk.{entry}
+use Rattle.input.specs.Bytes.{byte_at}
+use Rattle.terms.specs.Schema.{out_of_range}
+use Rattle.format.specs.States.{cut}
+use Rattle.format.specs.Records.{object}
 use Rattle.records.proofs.objects.Goals as goal
 
-pub loop-left-init : goal.loop-left-init
-loop-left-init c = (omega arith, refl)
-
-pub returns-then-end-at : goal.returns-then-end-at
-returns-then-end-at c = entry_refused _ _ 7 1 (object_entry _ _ _) _ _ _ _ c.loop-left.invariant.1 c.loop-left-test.true
-    (object_bad_by _ _ _ _ _ _ c.byte_at.ensures c.out_of_range.ensures) c.if-end-at.true
-
-pub loop-left-preserved : goal.loop-left-preserved
-loop-left-preserved c = (
-  omega arith,
-  entry_good _ _ 7 1 (object_entry _ _ _) _ _ _ _ c.loop-left.invariant.1 c.loop-left-test.true
-      (object_bad_by _ _ _ _ _ _ c.byte_at.ensures c.out_of_range.ensures) c.if-end-at.false,
-)
-
 pub returns : goal.returns
-returns c = turn_none _ _ _ _ c.loop-left.invariant.1 (omega arith)
+unfolding object entry cut
+returns c = c.walk_entries.ensures (λ at. cut c.args.end at 1 || out_of_range c.args.kinds (byte_at c.args.s.now at)) (λ at b p. search rules)

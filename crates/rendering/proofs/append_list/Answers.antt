@@ -1,34 +1,11 @@
 -- `append_list` meets its contract: the count is the number of facts that were appended.
 use borrow.Author.Rules.{rules}
 use native.Mathlib.Omega.{arith}
+use Rattle.std.proofs.lemmas.Result.{err_from_is_err_and}
 use Rattle.format.specs.Lists.{list_end}
 use Rattle.rendering.proofs.Bytes.{part_size}
-use Rattle.rendering.proofs.Lists.{list_room, list_over, list_counted}
+use Rattle.rendering.proofs.Lists.{list_over, list_over_then, list_counted}
 use Rattle.rendering.proofs.append_list.Goals as goal
-
-pub returns-then-end-gt-MAX_LENGTH : goal.returns-then-end-gt-MAX_LENGTH
-unfolding list_end
-returns-then-end-gt-MAX_LENGTH c = let a = c.args in
-    list_over _ _ (part_size a.book.now a.at 2 (omega arith)) c.append-from.ensures c.append_turned-end.ensures c.if-end-gt-MAX_LENGTH.true
-
-pub overflow_sub-end : goal.overflow_sub-end
-unfolding list_end
-overflow_sub-end c = let a = c.args in
-    omega (arith, list_room _ _ (part_size a.book.now a.at 2 (omega arith)) c.append-from.ensures c.append_turned-end.ensures c.if-end-gt-MAX_LENGTH.false)
-
-pub write_two-requires : goal.write_two-requires
-unfolding list_end
-write_two-requires c = let a = c.args in
-    omega (arith, list_room _ _ (part_size a.book.now a.at 2 (omega arith)) c.append-from.ensures c.append_turned-end.ensures c.if-end-gt-MAX_LENGTH.false)
-
-pub returns : goal.returns
-unfolding list_end
-returns c = let a = c.args in
-    let u = part_size a.book.now a.at 2 (omega arith) in
-    let p = c.append-from.ensures in
-    let q = c.append_turned-end.ensures in
-    let l = list_room _ _ u p q c.if-end-gt-MAX_LENGTH.false in
-    list_counted _ _ u p q c.if-end-gt-MAX_LENGTH.false (omega arith) _ c.write_two.ensures
 
 pub overflow_add-first : goal.overflow_add-first
 unfolding list_end
@@ -37,3 +14,21 @@ overflow_add-first c = search rules
 pub slice_bounds-append-end : goal.slice_bounds-append-end
 unfolding list_end
 slice_bounds-append-end c = search rules
+
+pub returns-in_err-append : goal.returns-in_err-append
+unfolding list_end
+returns-in_err-append c = let a = c.args in
+    let p = err_from_is_err_and c.from_residual.result c.from_residual.ensures.1 in
+    rw p.1 (list_over _ _ _ (part_size a.book.now a.at 2 (omega arith)) c.in_err-append.ensures)
+
+pub returns-in_err-append_turned : goal.returns-in_err-append_turned
+unfolding list_end
+returns-in_err-append_turned c = let a = c.args in
+    let p = err_from_is_err_and c.from_residual-in_err-append_turned.result c.from_residual-in_err-append_turned.ensures.1 in
+    rw p.1 (list_over_then _ _ _ (part_size a.book.now a.at 2 (omega arith)) _ c.in_ok-append.ensures c.in_err-append_turned.ensures)
+
+pub returns : goal.returns
+unfolding list_end
+returns c = let a = c.args in
+    let u = part_size a.book.now a.at 2 (omega arith) in
+    list_counted _ _ _ _ _ u c.in_ok-append.ensures c.in_ok-append_turned.ensures _ (rw (c.len-start.ensures.0, c.len-from.ensures.0, c.len-end.ensures.0) at c.renew_two.ensures)

@@ -1,33 +1,35 @@
 -- `append_state` meets its contract: the list that was written is read again, or the book's list is.
 use native.Mathlib.Omega.{arith}
-use mathlib.Core.Path.{◌∙◌}
-use Rattle.rendering.proofs.Lists.{list_back, list_within, carried_over, after_short, after_full, few_short, few_full, carried_by}
+use mathlib.Core.Path.{ap, ◌∙◌}
+use lib.ListN.{length}
+use Rattle.std.proofs.lemmas.Result.{err_from_is_err_and}
+use Rattle.rendering.proofs.Lists.{list_back, list_within, after_short, after_full, few_short, few_full, carried_by}
 use Rattle.rendering.proofs.append_state.Goals as goal
 
-pub returns-then-end-gt-MAX_LENGTH : goal.returns-then-end-gt-MAX_LENGTH
-returns-then-end-gt-MAX_LENGTH c = carried_over c.append_list-end.ensures c.if-end-gt-MAX_LENGTH.true
+pub returns-in_err-append_list : goal.returns-in_err-append_list
+returns-in_err-append_list c = let p = err_from_is_err_and c.from_residual.result c.from_residual.ensures.1 in
+    rw p.1 c.in_err-append_list.ensures
 
 pub hold-requires : goal.hold-requires
 hold-requires c = let p = c.requires in
-    let a = c.append_list-end.ensures in
-    let few = few_short _ _ _ _ p.3 c.if-short.true in
-    let n = (a.fits c.if-end-gt-MAX_LENGTH.false).0 in
-    let back = list_back _ a c.if-end-gt-MAX_LENGTH.false (omega arith) few in
-    let end = list_within _ a c.if-end-gt-MAX_LENGTH.false (omega arith) few in
-    (p.2.long, omega arith, omega arith, rw back few)
+    let few = few_short _ _ _ _ p.1 c.if-short.true in
+    let back = list_back _ _ _ c.in_ok-append_list.ensures few _ c.bytes.ensures.0 _ c.len-start.ensures.0 in
+    let end = list_within _ _ _ c.in_ok-append_list.ensures few _ c.bytes.ensures.0 _ c.len-start.ensures.0 in
+    let same = ap length c.bytes.ensures.0 in
+    (p.0.long, omega arith, omega arith, rw back few)
 
 pub returns-then-short : goal.returns-then-short
 returns-then-short c = let p = c.requires in
-    let a = c.append_list-end.ensures in
-    let few = few_short _ _ _ _ p.3 c.if-short.true in
-    let n = (a.fits c.if-end-gt-MAX_LENGTH.false).0 in
-    let back = list_back _ a c.if-end-gt-MAX_LENGTH.false (omega arith) few in
-    carried_by _ _ _ _ p.3 _ (after_short _ _ _ _ c.if-short.true) a (omega arith) (c.hold.ensures ∙ back)
+    let few = few_short _ _ _ _ p.1 c.if-short.true in
+    let back = list_back _ _ _ c.in_ok-append_list.ensures few _ c.bytes.ensures.0 _ c.len-start.ensures.0 in
+    let (holds, is) = carried_by _ _ _ _ p.1 _ (after_short _ _ _ _ c.if-short.true) (omega arith) (c.hold.ensures ∙ back) in
+    (c.in_ok-append_list.ensures, holds, is)
 
 pub hold-requires-2 : goal.hold-requires-2
 hold-requires-2 c = let p = c.requires in
-    (p.2.long, p.3.list.within, p.3.list.near, few_full _ _ _ _ p.3 c.if-short.false)
+    (p.0.long, p.1.list.within, p.1.list.near, few_full _ _ _ _ p.1 c.if-short.false)
 
 pub returns : goal.returns
 returns c = let p = c.requires in
-    carried_by _ _ _ _ p.3 _ (after_full _ _ _ _ c.if-short.false) c.append_list-end.ensures (omega arith) c.hold-2.ensures
+    let (holds, is) = carried_by _ _ _ _ p.1 _ (after_full _ _ _ _ c.if-short.false) (omega arith) c.hold-2.ensures in
+    (c.in_ok-append_list.ensures, holds, is)

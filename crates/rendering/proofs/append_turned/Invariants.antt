@@ -1,7 +1,4 @@
 -- `append_turned` meets its contract: a loop of turns, then what is left of either list.
-use mathlib.Core.Path.{◌≡◌}
-use lib.ListN.{length}
-use Rattle.limits.specs.Limits.{max_length}
 use Rattle.format.specs.Lists.{list_at}
 use Rattle.format.specs.Toggled.{toggled}
 use Rattle.jobs.specs.Convert.{facts_bytes}
@@ -10,8 +7,7 @@ use Rattle.rendering.proofs.Merge.{Merged}
 use Rattle.rendering.proofs.append_turned.Given as goal
 
 abbrev pub invariant-loop-v : goal.invariant-loop-v
-invariant-loop-v l =
-    Merged l.state l.book (facts_bytes (toggled (list_at l.state 0) (list_at l.book l.at))) l.w l.initial.new l.v l.new × (length l.new ≡ max_length)
+invariant-loop-v l = Merged l.state l.book (facts_bytes (toggled (list_at l.state 0) (list_at l.book l.at))) l.initial.new l.v l.new
 
 abbrev pub decreases-loop-v : goal.decreases-loop-v
 decreases-loop-v l = left l.v

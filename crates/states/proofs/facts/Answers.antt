@@ -14,21 +14,13 @@ pub loop-c-init : goal.loop-c-init
 unfolding ForRightByPlace
 loop-c-init c = let e = c.new-c.ensures in
     let u = c.uncut-whole.ensures in
-    (e.3, e.4, omega arith, omega arith, u.1, λ sch ob right. chain_same (facts_chain as_written _ sch ob _ _) e.0 (omega arith) e.2)
-
-pub bad-requires : goal.bad-requires
-bad-requires c = let i = c.loop-c.invariant in
-    record { whole = omega arith; within = omega arith; near = omega arith; key = i.1 }
+    (e.3, e.4, omega arith, omega arith, u.1, λ number sch ob right. chain_same (facts_chain as_written number sch ob _ _) e.0 (omega arith) e.2)
 
 pub returns-then-bad : goal.returns-then-bad
 unfolding ForRightByPlace
-returns-then-bad c sch ob right = let l = c.loop-c in
-    chain_refused (facts_chain as_written _ sch ob _ _) (l.invariant.5 sch ob right) (omega arith)
+returns-then-bad c number sch ob right = let l = c.loop-c in
+    chain_refused (facts_chain as_written number sch ob _ _) (l.invariant.5 number sch ob right) (omega arith)
     (fact_whole sch ob _ _ _ _ l.invariant.0 (omega arith) (c.bad.ensures sch ob right)) c.if-bad.true
-
-pub next-c-requires : goal.next-c-requires
-next-c-requires c = let i = c.loop-c.invariant in
-    (record { whole = omega arith; within = omega arith; near = omega arith; key = i.1 }, omega arith)
 
 pub loop-c-preserved : goal.loop-c-preserved
 unfolding ForRightByPlace
@@ -40,17 +32,17 @@ loop-c-preserved c = let l = c.loop-c in
       omega arith,
       omega arith,
       l.invariant.4,
-      λ sch ob right.
-          chain_same (facts_chain as_written _ sch ob _ _) p (omega arith) (e.2 ∙ fact_of_lem sch ob _ _ _ (omega arith))
-          ∙ chain_good (facts_chain as_written _ sch ob _ _) (l.invariant.5 sch ob right) (omega arith)
+      λ number sch ob right.
+          chain_same (facts_chain as_written number sch ob _ _) p (omega arith) (e.2 ∙ fact_of_lem sch ob _ _ _ (omega arith))
+          ∙ chain_good (facts_chain as_written number sch ob _ _) (l.invariant.5 number sch ob right) (omega arith)
           (fact_whole sch ob _ _ _ _ l.invariant.0 (omega arith) (c.bad.ensures sch ob right)) c.if-bad.false,
     )
 
 pub returns-then-whole-n : goal.returns-then-whole-n
 unfolding ForRightByPlace
-returns-then-whole-n c sch ob right = let short = c.uncut-whole.ensures.2 c.if-whole-n.true in
-    chain_refused (facts_chain as_written _ sch ob _ _) (c.loop-c.invariant.5 sch ob right) (omega arith) (fact_cut sch ob _ _ _ _ (omega arith)) refl
+returns-then-whole-n c number sch ob right = let short = c.uncut-whole.ensures.2 c.if-whole-n.true in
+    chain_refused (facts_chain as_written number sch ob _ _) (c.loop-c.invariant.5 number sch ob right) (omega arith) (fact_cut sch ob _ _ _ _ (omega arith)) refl
 
 pub returns : goal.returns
 unfolding ForRightByPlace
-returns c sch ob right = chain_none (facts_chain as_written _ sch ob _ _) (c.loop-c.invariant.5 sch ob right) (omega arith)
+returns c number sch ob right = chain_none (facts_chain as_written number sch ob _ _) (c.loop-c.invariant.5 number sch ob right) (omega arith)

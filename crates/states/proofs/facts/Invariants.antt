@@ -1,5 +1,5 @@
 -- `facts` meets its contract: facts still left at the cursor, and those that are cut behind them, answer as all of them do.
-use Prim.Native.Nat.{◌+◌, ◌-◌, ◌*◌, ◌≤◌}
+use Prim.Native.Nat.{ℕ, ◌+◌, ◌-◌, ◌*◌, ◌≤◌}
 use mathlib.Core.Path.{◌≡◌}
 use Rattle.terms.specs.Facts.{no_fact}
 use Rattle.terms.specs.Told.{fact_key}
@@ -16,7 +16,7 @@ invariant-loop-c l =
     × (l.c.at + fact_size * l.c.left ≡ l.from + fact_size * l.whole)
     × (l.c.left ≤ l.whole)
     × (fact_size * l.whole ≤ l.end - l.from)
-    × ForRightByPlace l.table (λ sch ob. facts as_written l.number sch ob l.t l.end (l.c.left + (l.n - l.whole)) l.c.last l.c.at ≡ facts as_written l.number sch ob l.t l.end l.n no_fact l.from)
+    × ((number : ℕ) → ForRightByPlace l.table (λ sch ob. facts as_written number sch ob l.t l.end (l.c.left + (l.n - l.whole)) l.c.last l.c.at ≡ facts as_written number sch ob l.t l.end l.n no_fact l.from))
 
 abbrev pub decreases-loop-c : goal.decreases-loop-c
 decreases-loop-c l = l.c.left

@@ -2,7 +2,6 @@
 use mathlib.Core.Path.{◌≡◌}
 use lib.ListN.{length}
 use Rattle.format.specs.Lists.{list_at}
-use Rattle.lifting.specs.Pairs.{Inverts}
 use Rattle.factlist.specs.Rest.{rest}
 use Rattle.stepmasks.specs.Marks.{Suited, to_come}
 use Rattle.stepmasks.proofs.Looks.{Looking}
@@ -12,7 +11,6 @@ use Rattle.stepmasks.proofs.mark_step.Given as goal
 abbrev pub invariant-loop-w : goal.invariant-loop-w
 invariant-loop-w l =
     Stands l.s l.atoms l.b (list_at l.s l.pre) (list_at l.s l.post) l.w l.before l.after
-    × Inverts l.b l.t
     × (length l.before ≡ length l.initial.before)
     × (length l.after ≡ length l.initial.after)
     × Suited l.table (rest l.s l.w.pre)

@@ -8,6 +8,6 @@ pub returns-then-i-params : goal.returns-then-i-params
 unfolding argument
 returns-then-i-params c = rw (← c.entry-set.ensures, ← c.object-object.ensures, le-leb _ _ c.if-i-params.true) refl
 
-pub returns : goal.returns
+pub returns-else-i-params : goal.returns-else-i-params
 unfolding argument
-returns c = rw (← c.entry-set.ensures, ← c.object-object.ensures, lt-leb _ _ c.if-i-params.false) refl
+returns-else-i-params c = rw (← c.entry-set.ensures, ← c.object-object.ensures, lt-leb _ _ c.if-i-params.false) refl

@@ -14,12 +14,12 @@ unfolding ForRightByKind step_bad schema move_entry
 returns c ob right = rw (
   ← c.out_of_range.ensures,
   c.if-out_of_range.false,
-  c.four_in.ensures,
+  c.all_in.ensures,
   c.argument-4.ensures,
   c.argument-3.ensures,
   c.argument-2.ensures,
   c.argument.ensures,
-  c.entry_at-e.ensures,
+  c.entry_at.ensures,
   c.move_at.ensures.0,
 )
     (arguments_bad _ ob _ right _)

@@ -3,9 +3,6 @@ use native.Mathlib.Omega.{arith}
 use Rattle.factlist.proofs.Rest.{comes_by}
 use Rattle.factlist.proofs.ListCursor.fact.Goals as goal
 
-pub read-requires : goal.read-requires
-read-requires c = (omega arith, omega arith)
-
 pub returns : goal.returns
 returns c = let p = c.requires in
     comes_by _ _ _ p.0 p.1 c.read.ensures
