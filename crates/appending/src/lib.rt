@@ -54,6 +54,13 @@ impl Draft {
         }
     }
 
+    // Nothing is formed any more.
+    pub fn clear(&mut self)
+        ensures { self.new ≡ [] }
+    {
+        self.len = 0;
+    }
+
     pub fn len(&self) -> usize
         ensures { (result ≡ length self.now) × (result ≤ max_length) }
     {

@@ -3,7 +3,6 @@
 #![tactic(auto)]
 
 ghost use Rattle.std.specs.Prelude.{◌≡◌};
-ghost use Rattle.io.specs.Counts.{IsPrefixLen};
 ghost use Rattle.answer.specs.Refusal.{positioned_of};
 ghost use Rattle.jobs.specs.Listing.{plan_line, plan_printed};
 
@@ -13,13 +12,11 @@ use std::fs::File;
 use std::rt::Files;
 use std::time::Clock;
 
-// A file that can't be read counts as empty. A length, as streams::read answers: `main`, which stays as it is, takes the part of `bytes` itself.
-fn load<R: Files + Clock>(rt: &R, path: &str, bytes: &mut [u8]) -> usize
-    ensures { IsPrefixLen result bytes.new }
-{
+// A file that can't be read counts as empty.
+fn load<'a, R: Files + Clock>(rt: &R, path: &str, memory: &'a mut [u8]) -> &'a [u8] {
     match File::open(rt, path) {
-        Ok(mut file) => streams::read(rt, &mut file, bytes),
-        Err(_) => 0,
+        Ok(mut file) => streams::read(rt, &mut file, memory),
+        Err(_) => &memory[..0],
     }
 }
 
@@ -67,7 +64,7 @@ fn main(rt: HostRuntime) {
     }
     let mut book = [0u8; limits::MAX_LENGTH + 1];
     let mut order = [0u8; limits::MAX_LENGTH + 1];
-    let b = load(&rt, "book", &mut book);
-    let o = load(&rt, "order", &mut order);
-    print_plan(&rt, &errors, &book[..b], &order[..o]);
+    let book = load(&rt, "book", &mut book);
+    let order = load(&rt, "order", &mut order);
+    print_plan(&rt, &errors, book, order);
 }

@@ -245,11 +245,12 @@ fn append_records(
 
 const END_AT: usize = 14;
 
-// The book in the other form, its length being the answer; `short` says that the book is short. The bytes before the records stay, but for the end.
+// The book in the other form, its length being the answer, whatever was formed before; `short` says that the book is short. The bytes before the records stay, but for the end.
 pub fn form_converted(new: &mut Draft, book: &[u8], short: bool) -> Result<usize, Refusal>
-    requires { (new.old ≡ []) × GoodBook short book.now }
+    requires { GoodBook short book.now }
     ensures { ConvertedFormed short book.now new.new (answer_of result) }
 {
+    new.clear();
     let mut state = [0u8; HELD_SIZE];
     let h = Sections::read(book);
     let at = h.records.at as usize;

@@ -22,7 +22,7 @@ fn main(rt: HostRuntime) {
     ) {
         return;
     }
-    let mut input = [0u8; limits::MAX_LENGTH + 1];
-    let size = streams::read(&rt, &mut rt.stdin(), &mut input);
-    print_rules(&rt, &errors, &input[..size]);
+    let mut memory = [0u8; limits::MAX_LENGTH + 1];
+    let book = streams::read(&rt, &mut rt.stdin(), &mut memory);
+    print_rules(&rt, &errors, book);
 }

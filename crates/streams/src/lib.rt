@@ -36,9 +36,14 @@ fn pause<C: Clock>(clock: &C, error: Error, pauses: usize) -> std::io::Result<us
 
 // ---- reading
 
-// How many bytes were read until the input ended or `bytes` was full; 0 where a read failed, for what can't be read counts as empty. A length and not
-// the part of `bytes` that was read: `main` of rules and of plan, which stay as they are, take that part themselves.
-pub fn read<C: Clock, R: Read>(clock: &C, input: &mut R, bytes: &mut [u8]) -> usize
+// The bytes that were read until the input ended or the memory was full; none where a read failed, for what can't be read counts as empty.
+pub fn read<'a, C: Clock, R: Read>(clock: &C, input: &mut R, memory: &'a mut [u8]) -> &'a [u8] {
+    let size = fill(clock, input, memory);
+    &memory[..size]
+}
+
+// How many bytes of the memory were read.
+fn fill<C: Clock, R: Read>(clock: &C, input: &mut R, bytes: &mut [u8]) -> usize
     ensures { IsPrefixLen result bytes.new }
 {
     let mut done = 0;

@@ -1,7 +1,7 @@
--- `streams::read` ends: each turn gives a byte or takes a pause.
+-- `streams::fill` ends: each turn gives a byte or takes a pause.
 use Rattle.std.proofs.Common.{length, ◌-◌, ◌≤◌, ◌+◌, ◌*◌}
 use Rattle.streams.specs.declared.TheConstants.{MOST_PAUSES}
-use Rattle.streams.proofs.read.Given as goal
+use Rattle.streams.proofs.fill.Given as goal
 
 abbrev pub invariant-loop-done : goal.invariant-loop-done
 invariant-loop-done g l = (l.done ≤ length l.initial.bytes) × (l.pauses ≤ MOST_PAUSES)
