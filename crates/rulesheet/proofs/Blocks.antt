@@ -16,7 +16,6 @@ use Rattle.observed.specs.Observed.{always_before, ever_before, added, deleted, 
 use Rattle.observed.proofs.Noted.{length_observed_set}
 use Rattle.observed.specs.Rules.{rule_set, rules_observed, sheet_observed}
 use Rattle.output.specs.Written.{written}
-use Rattle.rulesheet.specs.declared.Rules.{Rules}
 use Rattle.rulesheet.specs.Sheet.{rule_sets, block, source}
 use Rattle.output.proofs.Written.{written_then, front_written, written_whole, written_part}
 
@@ -95,7 +94,7 @@ module _ (l : List ℕ) where
   sheet_first d = refl
 
   module _ (sized : length l ≡ observed_size) (d s : List ℕ) (i : ℕ) (few : i ≤ 32) (e : s ≡ written d 0 (sheet_observed l i 1)) where
-    pub sheet_turn : (r : Rules) (at : ℕ) (m : List ℕ)
+    pub sheet_turn : (r : List (List ℕ)) (at : ℕ) (m : List ℕ)
         → length s ≡ length d
         → 128 * (i + 1) ≤ length d
         → at ≡ 128 * i
@@ -106,7 +105,7 @@ module _ (l : List ℕ) where
         let next = sheet_next i 1 in
         let o : 1 + i ≡ i + 1 = omega arith in
         written_part s at (block r) m (omega arith) w
-        ∙ ap (λ (x : Rules). written s at (block x)) g
+        ∙ ap (λ (x : List (List ℕ)). written s at (block x)) g
         ∙ ap₂ (λ (x y : List ℕ). written x at y) e (block_rules (i + 1))
         ∙ written_then d 0 (sheet_observed l i 1) (rules_observed l (i + 1)) at (omega (arith, length_sheet sized i 1 (omega arith) (omega arith))) (omega arith)
         ∙ ap (λ (a : ℕ). written d 0 (sheet_observed l i 1 ++ rules_observed l a)) (sym o)

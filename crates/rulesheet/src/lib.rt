@@ -18,31 +18,23 @@ use terms::Move;
 // ---- the rules of a move
 
 // The four sets of a move: needed to hold, needed not to hold, added, removed.
-#[derive(Clone, Copy)]
-pub struct Rules {
-    pub pre_pos: [u8; 32],
-    pub pre_neg: [u8; 32],
-    pub add: [u8; 32],
-    pub delete: [u8; 32],
-}
-
 #[tactic(auto, unfolding(crate::specs::Sheet::rule_sets, observed::specs::Rules::rule_set))]
-pub fn rules_of(observed: &[u8], m: Move) -> Rules
+pub fn rules_of(observed: &[u8], m: Move) -> [[u8; 32]; 4]
     requires { MoveObserved observed.now m.0 }
     ensures { result ≡ rule_sets observed.now m.0 }
 {
     let bound = observed::observed_set(observed, m, SeenSet::Bound);
-    Rules {
-        pre_pos: observed::observed_set(observed, m, SeenSet::AlwaysBefore),
-        pre_neg: observed::outside_observed(bound, observed, m, SeenSet::EverBefore),
-        add: observed::observed_set(observed, m, SeenSet::Added),
-        delete: observed::observed_set(observed, m, SeenSet::Deleted),
-    }
+    [
+        observed::observed_set(observed, m, SeenSet::AlwaysBefore),
+        observed::outside_observed(bound, observed, m, SeenSet::EverBefore),
+        observed::observed_set(observed, m, SeenSet::Added),
+        observed::observed_set(observed, m, SeenSet::Deleted),
+    ]
 }
 
 // ---- the sheet
 
-// One of the four sets of a block. A set by value: its length is known here, and its contract says it to callers that have it in a struct.
+// One of the four sets of a block. A set by value: its length is known here, and its contract says it to callers that have it in an array.
 fn write_set(part: &mut [u8], which: RuleSet, set: [u8; 32])
     requires { set_size * place_of which + set_size ≤ length part.old }
     ensures { (part.new ≡ written part.old (set_size * place_of which) set) × (length set ≡ set_size) }
@@ -50,14 +42,15 @@ fn write_set(part: &mut [u8], which: RuleSet, set: [u8; 32])
     output::write_bytes(part, limits::SET_SIZE * which.place(), &set);
 }
 
-fn write_rules(part: &mut [u8], rules: Rules)
+fn write_rules(part: &mut [u8], rules: [[u8; 32]; 4])
     requires { rule_size ≤ length part.old }
     ensures { part.new ≡ written part.old 0 (block rules) }
 {
-    write_set(part, RuleSet::PrePos, rules.pre_pos);
-    write_set(part, RuleSet::PreNeg, rules.pre_neg);
-    write_set(part, RuleSet::Add, rules.add);
-    write_set(part, RuleSet::Delete, rules.delete);
+    let [pre_pos, pre_neg, add, delete] = rules;
+    write_set(part, RuleSet::PrePos, pre_pos);
+    write_set(part, RuleSet::PreNeg, pre_neg);
+    write_set(part, RuleSet::Add, add);
+    write_set(part, RuleSet::Delete, delete);
 }
 
 // The blocks of all moves, one after the other from the first byte on. What is observed lies apart, or the sheet is written over it: a block is
