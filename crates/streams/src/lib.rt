@@ -2,7 +2,7 @@
 // Uses io. No contract can say what is read or written; proved is that it stays within the memory given, and that it ends.
 #![tactic(auto)]
 
-ghost use Rattle.std.specs.Prelude.{◌<◌, IfOk};
+ghost use Rattle.std.specs.Prelude.{◌<◌, ◌≤◌, length, IfOk};
 ghost use Rattle.io.specs.Counts.{IsPrefixLen};
 
 mod reason;
@@ -37,7 +37,9 @@ fn pause<C: Clock>(clock: &C, error: Error, pauses: usize) -> std::io::Result<us
 // ---- reading
 
 // The bytes that were read until the input ended or the memory was full; none where a read failed, for what can't be read counts as empty.
-pub fn read<'a, C: Clock, R: Read>(clock: &C, input: &mut R, memory: &'a mut [u8]) -> &'a [u8] {
+pub fn read<'a, C: Clock, R: Read>(clock: &C, input: &mut R, memory: &'a mut [u8]) -> &'a [u8]
+    ensures { length result.now ≤ length memory.old }
+{
     let size = fill(clock, input, memory);
     &memory[..size]
 }
