@@ -1,18 +1,37 @@
--- Bytes written into a list: as one copy, one run after another, and through a part that was lent. Uses lib's lists and `paste` alone.
-use Prim.Native.Nat.{ℕ, ◌+◌, ◌-◌, ◌≤◌}
+-- Bytes written into a list: by a loop, one run after another, and through a part that was lent. Uses lib's lists and `paste` alone.
+use Prim.Native.Nat.{ℕ, ◌+◌, ◌-◌, ◌≤◌, ◌<◌}
 use native.Mathlib.Nat.{zero-add}
+use native.Mathlib.Numerals.{add-one}
 use native.Mathlib.Omega.{arith}
 use mathlib.Core.Path.{◌≡◌, sym, ◌∙◌, ap, ap₂}
 use mathlib.Core.List.{List, ◌++◌, append_assoc, append-nil}
-use lib.ListN.{length, take, drop, length-append, length-drop, drop_of_length-le}
-use lib.Seq.{paste, length-take-le, take-length, drop-drop, drop_at, take_at, take_all, take-append_seam, take-append-le, drop-append-add, drop-append-le}
+use lib.ListN.{length, get_or, set, take, drop, length-append, length-drop, drop_of_length-le}
+use lib.Seq.{paste, paste-zero, paste-suc, length-take-le, take-length, drop-drop, drop_at, take_at, take_all, take-append_seam, take-append-le, drop-append-add, drop-append-le}
 use borrow.Rule.Slice.PartMut.{mid_of, put_mid, mid_len}
 use Rattle.output.specs.Written.{written}
 
 -- `written`, as a copy of the whole run
-pub paste_all : (d : List ℕ) (at : ℕ) (s : List ℕ) → paste d at s (length s) ≡ written d at s
+paste_all : (d : List ℕ) (at : ℕ) (s : List ℕ) → paste d at s (length s) ≡ written d at s
 unfolding written
 paste_all d at s = rw take-length
+
+-- the first i elements of a run
+unfoldable pub copied : List ℕ → ℕ → List ℕ → ℕ → List ℕ
+copied d at s i = paste d at s i
+
+pub copied_first : (d : List ℕ) (at : ℕ) (s : List ℕ) → d ≡ copied d at s 0
+unfolding copied
+copied_first d at s = paste-zero d at s
+
+pub copied_next : (l d : List ℕ) (at : ℕ) (s : List ℕ) (i : ℕ) → at + length s ≤ length d → i < length s → l ≡ copied d at s i → set l (at + i) (get_or s i 0) ≡ copied d at s (i + 1)
+unfolding copied
+copied_next l d at s i h k e = rw (e, add-one) (paste-suc d at s i 0 (omega arith) k)
+
+pub copied_last : (d : List ℕ) (at : ℕ) (s : List ℕ) (i : ℕ) → i ≤ length s → length s ≤ i → copied d at s i ≡ written d at s
+unfolding copied
+copied_last d at s i h k =
+    let e : i ≡ length s = omega arith in
+    rw e (paste_all d at s)
 
 pub length_written : (d : List ℕ) (at : ℕ) (s : List ℕ) → at + length s ≤ length d → length (written d at s) ≡ length d
 unfolding written

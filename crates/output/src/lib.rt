@@ -4,12 +4,15 @@
 ghost use Rattle.std.specs.Prelude.{◌≡◌, ◌+◌, ◌≤◌, length};
 ghost use Rattle.output.specs.Written.{written, two_bytes};
 
+// By a loop, of which the compiler makes memcpy. The library's `copy_from_slice` would make memmove, and the header promises that the archive needs memcpy
+// and memset alone.
 pub fn write_bytes(part: &mut [u8], at: usize, bytes: &[u8])
     requires { at + length bytes.now ≤ length part.old }
     ensures { part.new ≡ written part.old at bytes.now }
 {
-    let end = at + bytes.len();
-    part[at..end].copy_from_slice(bytes);
+    for i in 0..bytes.len() {
+        part[at + i] = bytes[i];
+    }
 }
 
 // The number's last two bytes, high byte first.
