@@ -2,7 +2,7 @@
 // Uses checker for the answer, whose position is not printed, lines for the text, which is proved to be jobs' plan_printed of what was read, and streams to write it.
 #![tactic(auto)]
 
-ghost use Rattle.std.specs.Prelude.{◌≡◌};
+ghost use Rattle.std.specs.Prelude.{◌≡◌, ◌≤◌, length};
 ghost use Rattle.answer.specs.Refusal.{positioned_of};
 ghost use Rattle.jobs.specs.Listing.{plan_line, plan_printed};
 
@@ -13,7 +13,9 @@ use std::rt::Files;
 use std::time::Clock;
 
 // A file that can't be read counts as empty.
-fn load<'a, R: Files + Clock>(rt: &R, path: &str, memory: &'a mut [u8]) -> &'a [u8] {
+fn load<'a, R: Files + Clock>(rt: &R, path: &str, memory: &'a mut [u8]) -> &'a [u8]
+    ensures { length result.now ≤ length memory.old }
+{
     match File::open(rt, path) {
         Ok(mut file) => streams::read(rt, &mut file, memory),
         Err(_) => &memory[..0],

@@ -44,8 +44,8 @@ pub fn read<'a, C: Clock, R: Read>(clock: &C, input: &mut R, memory: &'a mut [u8
     &memory[..size]
 }
 
-// How many bytes of the memory were read.
-fn fill<C: Clock, R: Read>(clock: &C, input: &mut R, bytes: &mut [u8]) -> usize
+// Reads into the memory until the input ends or the memory is full; how many bytes were read, 0 where a read failed.
+pub fn fill<C: Clock, R: Read>(clock: &C, input: &mut R, bytes: &mut [u8]) -> usize
     ensures { IsPrefixLen result bytes.new }
 {
     let mut done = 0;
