@@ -2,7 +2,7 @@
 // Uses answer, limits, output, terms, and the definitions of jobs.
 #![tactic(auto)]
 
-ghost use Rattle.std.specs.Prelude.{◌≡◌, [], ◌∷◌, ◌+◌, ◌≤◌, length};
+ghost use Rattle.std.specs.Prelude.{◌≡◌, [], ◌∷◌, ◌+◌, ◌≤◌, length, take};
 ghost use Rattle.answer.specs.declared.Reason.TheVariants.{TooLong};
 ghost use Rattle.limits.specs.Limits.{max_length};
 ghost use Rattle.output.specs.Written.{written, two_bytes};
@@ -52,6 +52,14 @@ impl Draft {
             bytes: [0; limits::MAX_LENGTH],
             len: 0,
         }
+    }
+
+    // The book that is formed at the front of memory that the caller has.
+    pub fn of(bytes: [u8; limits::MAX_LENGTH], len: usize) -> Draft
+        requires { len ≤ max_length }
+        ensures { result ≡ take len bytes }
+    {
+        Draft { bytes, len }
     }
 
     // Nothing is formed any more.

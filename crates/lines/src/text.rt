@@ -1,5 +1,5 @@
 // Text put together in fixed memory: bytes, and how many of them are text so far. Contracts see the text as the list of its bytes.
-ghost use Rattle.std.specs.Prelude.{◌≡◌, ◌++◌, ◌+◌, ◌≤◌, [], length};
+ghost use Rattle.std.specs.Prelude.{◌≡◌, ◌++◌, ◌+◌, ◌≤◌, [], length, take};
 ghost use Rattle.jobs.specs.Listing.{decimal, space};
 
 use std::marker::Model;
@@ -29,6 +29,14 @@ impl<const N: usize> Text<N> {
             bytes: [0; N],
             len: 0,
         }
+    }
+
+    // The text that stands at the front of memory that the caller has.
+    pub fn of(bytes: [u8; N], len: usize) -> Text<N>
+        requires { len ≤ N }
+        ensures { result ≡ take len bytes.entry }
+    {
+        Text { bytes, len }
     }
 
     pub fn clear(&mut self)
