@@ -79,17 +79,25 @@ append_renewed a u b v old at p e f g =
 -- ---- a run in part
 
 pub part_none : (whole old : List ℕ) → AllBut whole whole old old
-part_none whole old = record { same = refl }
+part_none whole old = record { front = []; split = refl; appended = sym (append-nil old) }
 
 module _ {rest whole old mid : List ℕ} (p : AllBut rest whole old mid) where
+  part_whole : mid ++ rest ≡ old ++ whole
+  part_whole = ap (λ (l : List ℕ). l ++ rest) p.appended ∙ append_assoc old p.front rest ∙ ap (λ (l : List ℕ). old ++ l) p.split
+
   whole_length : length mid + length rest ≡ length old + length whole
-  whole_length = sym (length-append mid rest) ∙ ap length p.same ∙ length-append old whole
+  whole_length = sym (length-append mid rest) ∙ ap length part_whole ∙ length-append old whole
 
   pub part_next : (a : List ℕ) {more new : List ℕ} → a ++ more ≡ rest → new ≡ mid ++ a → AllBut more whole old new
-  part_next a {more} e f = record { same = ap (λ (l : List ℕ). l ++ more) f ∙ append_assoc mid a more ∙ ap (λ (l : List ℕ). mid ++ l) e ∙ p.same }
+  part_next a {more} e f =
+      record {
+        front = p.front ++ a;
+        split = append_assoc p.front a more ∙ ap (λ (l : List ℕ). p.front ++ l) e ∙ p.split;
+        appended = f ∙ ap (λ (l : List ℕ). l ++ a) p.appended ∙ append_assoc old p.front a;
+      }
 
   pub part_then : {more new : List ℕ} → AllBut more rest mid new → AllBut more whole old new
-  part_then q = record { same = q.same ∙ p.same }
+  part_then q = part_next q.front q.split q.appended
 
   pub part_over : (a more : List ℕ) → a ++ more ≡ rest → max_length < length mid + length a → max_length < length old + length whole
   part_over a more e h =
@@ -98,9 +106,9 @@ module _ {rest whole old mid : List ℕ} (p : AllBut rest whole old mid) where
       omega arith
 
   pub part_all : rest ≡ [] → mid ≡ old ++ whole
-  part_all e = sym (append-nil mid) ∙ ap (λ (l : List ℕ). mid ++ l) (sym e) ∙ p.same
+  part_all e = sym (append-nil mid) ∙ ap (λ (l : List ℕ). mid ++ l) (sym e) ∙ part_whole
 
   -- by the result of the last append
   pub part_last : {A E : Type 0} (new : List ℕ) (r : Result A E) → Appended rest mid new r → Appended whole old new r
-  part_last new (Ok _) q = q ∙ p.same
+  part_last new (Ok _) q = q ∙ part_whole
   part_last new (Err _) q = let m = whole_length in omega arith

@@ -9,4 +9,6 @@ Appended bytes old new (Err _) = max_length < length old + length bytes
 
 -- the bytes of `whole` were appended, but for those of `rest` at its end
 pub record AllBut (rest whole old new : List ℕ) : Type 0 where
-  pub same : new ++ rest ≡ old ++ whole
+  pub front : List ℕ
+  pub split : front ++ rest ≡ whole
+  pub appended : new ≡ old ++ front

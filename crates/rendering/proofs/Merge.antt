@@ -12,7 +12,7 @@ use borrow.Author.Tests.{lt-ltb}
 use Rattle.terms.specs.declared.Fact.{Fact}
 use Rattle.truth.specs.Bools.{clash, and_in}
 use Rattle.terms.specs.Facts.{precedes, no_fact}
-use Rattle.limits.specs.Limits.{max_length, near_ceiling}
+use Rattle.limits.specs.Limits.{max_length, fact_size, near_ceiling}
 use Rattle.format.specs.Lists.{list_at, list_end}
 use Rattle.format.specs.Toggled.{toggled}
 use Rattle.jobs.specs.Convert.{facts_bytes}
@@ -24,7 +24,7 @@ use Rattle.factlist.specs.Rest.{rest, FactsWithin, next, Comes}
 use Rattle.factlist.proofs.Rest.{rest_none}
 use Rattle.rendering.specs.declared.Walk.{Walk}
 use Rattle.appending.specs.Appended.{Appended, AllBut}
-use Rattle.rendering.specs.Merge.{to_come, Merging, TurnMerged}
+use Rattle.rendering.specs.Merge.{to_come, Merging, TurnMerged, TurnOver}
 use Rattle.rendering.specs.Good.{GoodList}
 use Rattle.appending.proofs.Appended.{part_none, part_next, part_then, part_over, part_last}
 
@@ -39,6 +39,10 @@ first_fact : (f : Fact) (fs gs : List Fact) → gs ≡ f ∷ fs → facts_bytes 
 unfolding facts_bytes
 first_fact f fs gs e = rw e
 
+one_fact : (f : Fact) → length (facts_bytes (f ∷ [])) ≤ fact_size
+unfolding facts_bytes
+one_fact f = omega arith
+
 module _ (state s : List ℕ) (v : Walk) (m : Merging state s v) (f g : Fact) (a : Comes state v.held f) (b : Comes s v.turns g) where
   both : to_come state s v ≡ toggled (f ∷ rest state (next v.held)) (g ∷ rest s (next v.turns))
   both = ap₂ toggled a.first b.first
@@ -51,38 +55,40 @@ module _ (state s : List ℕ) (v : Walk) (m : Merging state s v) (f g : Fact) (a
     held_first : facts_bytes (f ∷ []) ++ facts_bytes (to_come state s (record { held = next v.held; turns = v.turns })) ≡ facts_bytes (to_come state s v)
     held_first = first_fact f _ _ (both ∙ merge_before f g _ _ e later ∙ rw b.first)
 
-    pub held_over : (old : List ℕ) → max_length < length old + length (facts_bytes (f ∷ [])) → max_length < length old + length (facts_bytes (to_come state s v))
-    held_over old h = part_over (part_none _ old) (facts_bytes (f ∷ [])) _ held_first h
+    held_merging : Merging state s (record { held = next v.held; turns = v.turns })
+    held_merging = record { held = a.ahead; turns = m.turns; last = m.last; order = m.order }
+
+    pub held_over : (old : List ℕ) → max_length < length old + length (facts_bytes (f ∷ [])) → TurnOver state s v old
+    held_over old h =
+        let l = a.less in
+        record { w = record { held = next v.held; turns = v.turns }; merging = held_merging; less = omega arith; front = facts_bytes (f ∷ []); split = held_first; one = one_fact f; over = h }
 
     pub merged_held : (h : ListCursor) → h ≡ next v.held → (old new : List ℕ) → new ≡ old ++ facts_bytes (f ∷ [])
         → TurnMerged state s v old new (record { held = h; turns = v.turns })
     merged_held h d old new p =
         let l = a.less in
         let part = part_next (part_none _ old) (facts_bytes (f ∷ [])) held_first p in
-        record {
-          merging = record { held = rw d a.ahead; turns = m.turns; last = m.last; order = m.order };
-          less = rw d (omega arith);
-          appended = rw d part;
-        }
+        record { merging = rw d held_merging; less = rw d (omega arith); appended = rw d part }
 
   -- one that turns, and did not hold
   module _ (e : precedes g f ≡ true) where
     turn_first : facts_bytes (g ∷ []) ++ facts_bytes (to_come state s (record { held = v.held; turns = next v.turns })) ≡ facts_bytes (to_come state s v)
     turn_first = first_fact g _ _ (both ∙ merge_after f g _ _ e later ∙ rw a.first)
 
-    pub turn_over : (old : List ℕ) → max_length < length old + length (facts_bytes (g ∷ [])) → max_length < length old + length (facts_bytes (to_come state s v))
-    turn_over old h = part_over (part_none _ old) (facts_bytes (g ∷ [])) _ turn_first h
+    turn_merging : Merging state s (record { held = v.held; turns = next v.turns })
+    turn_merging = record { held = m.held; turns = b.ahead; last = g; order = later }
+
+    pub turn_over : (old : List ℕ) → max_length < length old + length (facts_bytes (g ∷ [])) → TurnOver state s v old
+    turn_over old h =
+        let l = b.less in
+        record { w = record { held = v.held; turns = next v.turns }; merging = turn_merging; less = omega arith; front = facts_bytes (g ∷ []); split = turn_first; one = one_fact g; over = h }
 
     pub merged_turn : (h : ListCursor) → h ≡ next v.turns → (old new : List ℕ) → new ≡ old ++ facts_bytes (g ∷ [])
         → TurnMerged state s v old new (record { held = v.held; turns = h })
     merged_turn h d old new p =
         let l = b.less in
         let part = part_next (part_none _ old) (facts_bytes (g ∷ [])) turn_first p in
-        record {
-          merging = record { held = m.held; turns = rw d b.ahead; last = g; order = rw d later };
-          less = rw d (omega arith);
-          appended = rw d part;
-        }
+        record { merging = rw d turn_merging; less = rw d (omega arith); appended = rw d part }
 
   -- one that held, and turns
   pub merged_both : precedes f g ≡ false → precedes g f ≡ false → (h k : ListCursor) → h ≡ next v.held → k ≡ next v.turns → (old : List ℕ)
@@ -99,7 +105,7 @@ module _ (state s : List ℕ) (v : Walk) (m : Merging state s v) (f g : Fact) (a
       record {
         merging = record { held = rw d a.ahead; turns = rw d' b.ahead; last = g; order = rw d' later };
         less = rw (d, d') (omega arith);
-        appended = record { same = ap (λ (fs : List Fact). old ++ facts_bytes fs) same };
+        appended = record { front = []; split = ap facts_bytes same; appended = sym (append-nil old) };
       }
 
 -- ---- all turns
@@ -135,8 +141,8 @@ module _ {state s whole old : List ℕ} {v : Walk} {mid : List ℕ} (m : Merged 
   pub merged_next : {u : Walk} {new : List ℕ} → TurnMerged state s v mid new u → Merged state s whole old u new
   merged_next t = record { merging = t.merging; appended = part_then m.appended t.appended }
 
-  pub merged_over : max_length < length mid + length (facts_bytes (to_come state s v)) → max_length < length old + length whole
-  merged_over h = part_over m.appended (facts_bytes (to_come state s v)) [] (append-nil _) h
+  pub merged_over : TurnOver state s v mid → max_length < length old + length whole
+  merged_over t = part_over m.appended t.front (facts_bytes (to_come state s t.w)) t.split t.over
 
   -- one of the lists is at its end
   module _ (e : (ltb 0 v.held.left && ltb 0 v.turns.left) ≡ false) where

@@ -1,12 +1,12 @@
 -- Two lists of facts walked together, those of a state and those that turn in it: the facts of each that are left, and what is to be written of them.
-use Rattle.std.specs.Prelude.{ℕ, ◌+◌, ◌<◌, List, length, Result, Ok, Err}
+use Rattle.std.specs.Prelude.{ℕ, ◌+◌, ◌<◌, ◌≤◌, ◌≡◌, List, ◌++◌, length, Result, Ok, Err}
 use Rattle.terms.specs.declared.Fact.{Fact}
 use Rattle.format.specs.Toggled.{toggled}
 use Rattle.jobs.specs.Convert.{facts_bytes}
 use Rattle.factsets.specs.Right.{Increasing}
 use Rattle.factlist.specs.Rest.{rest, FactsWithin}
 use Rattle.rendering.specs.declared.Walk.{Walk}
-use Rattle.limits.specs.Limits.{max_length}
+use Rattle.limits.specs.Limits.{max_length, fact_size}
 use Rattle.appending.specs.Appended.{AllBut}
 
 -- what is still to be written: the facts that are left of the state, those that are left of the list having turned in them
@@ -30,7 +30,17 @@ pub record TurnMerged (state s : List ℕ) (v : Walk) (old new : List ℕ) (w : 
   pub less : left w < left v
   pub appended : AllBut (facts_bytes (to_come state s w)) (facts_bytes (to_come state s v)) old new
 
--- or what was still to be written would pass the end
-abbrev pub NextMerged : {E : Type 0} → List ℕ → List ℕ → Walk → List ℕ → List ℕ → Result Walk E → Type 0
-NextMerged state s v old new (Ok w) = TurnMerged state s v old new w
-NextMerged state s v old new (Err _) = max_length < length old + length (facts_bytes (to_come state s v))
+-- A turn that fails: what it appends, which is no more than a fact, would pass the end. The walk would then be at w.
+pub record TurnOver (state s : List ℕ) (v : Walk) (old : List ℕ) : Type 0 where
+  pub w : Walk
+  pub merging : Merging state s w
+  pub less : left w < left v
+  pub front : List ℕ
+  pub split : front ++ facts_bytes (to_come state s w) ≡ facts_bytes (to_come state s v)
+  pub one : length front ≤ fact_size
+  pub over : max_length < length old + length front
+
+-- a turn that is good, or one that fails
+abbrev pub NextMerged : {A E : Type 0} → List ℕ → List ℕ → Walk → List ℕ → Walk → List ℕ → Result A E → Type 0
+NextMerged state s v old w new (Ok _) = TurnMerged state s v old new w
+NextMerged state s v old w new (Err _) = TurnOver state s v old

@@ -52,10 +52,11 @@ struct Walk {
 
 // One fact more of a list, or of both. Facts stand in order, so of two that differ the one that precedes is in its list alone: it is written. A fact
 // that comes next in both lists is left out.
+// The walk goes on in place: one that is answered is copied at each fact.
 #[inline(always)]
-fn merge_next(new: &mut Draft, state: &[u8], book: &[u8], v: Walk) -> Result<Walk, PastEnd>
-    requires { Merging state.now book.now v × (0 < v.held.left) × (0 < v.turns.left) }
-    ensures { NextMerged state.now book.now v new.old new.new result }
+fn merge_next(new: &mut Draft, state: &[u8], book: &[u8], v: &mut Walk) -> Result<(), PastEnd>
+    requires { Merging state.now book.now v.old × (0 < v.old.held.left) × (0 < v.old.turns.left) }
+    ensures { NextMerged state.now book.now v.old new.old v.new new.new result }
 {
     let p = v.held;
     let q = v.turns;
@@ -63,22 +64,17 @@ fn merge_next(new: &mut Draft, state: &[u8], book: &[u8], v: Walk) -> Result<Wal
     let g = q.fact(book);
     if g.follows(f, f.key()) {
         new.append_fact(f)?;
-        return Ok(Walk {
-            held: p.on(),
-            turns: q,
-        });
+        v.held = p.on();
+        return Ok(());
     }
     if f.follows(g, g.key()) {
         new.append_fact(g)?;
-        return Ok(Walk {
-            held: p,
-            turns: q.on(),
-        });
+        v.turns = q.on();
+        return Ok(());
     }
-    Ok(Walk {
-        held: p.on(),
-        turns: q.on(),
-    })
+    v.held = p.on();
+    v.turns = q.on();
+    Ok(())
 }
 
 // The facts of the state that do not stand in the book's list, and those of the list that are not in the state.
@@ -91,7 +87,7 @@ fn append_turned(new: &mut Draft, state: &[u8], book: &[u8], at: usize) -> Resul
         turns: ListCursor::of_list(book, at),
     };
     while (0 < v.held.left) & (0 < v.turns.left) {
-        v = merge_next(new, state, book, v)?;
+        merge_next(new, state, book, &mut v)?;
     }
     let p = v.held;
     let q = v.turns;

@@ -8,6 +8,7 @@ use Rattle.terms.specs.Schema.{Schema, TypedObjects}
 use Rattle.terms.specs.Facts.{no_fact}
 use Rattle.terms.specs.Told.{suits}
 use Rattle.answer.specs.declared.Refusal.{Refusal}
+use Rattle.answer.specs.Answer.{Refused}
 use Rattle.answer.specs.Refusal.{refused_by, answer_by}
 use Rattle.limits.specs.Limits.{count_size, max_objects, max_relations}
 use Rattle.input.specs.Bytes.{two}
@@ -49,11 +50,11 @@ pub record ListAhead (s : List ℕ) (at : ℕ) (c : FactCursor) : Type 0 where
   pub ahead : FactsWithin s (plain c)
   pub looked : (table : List ℕ) (end : ℕ) → list_end s at ≤ end → Looked 8 s table end (two s at) (at + count_size) c
 
--- One turn from the cursor c on: a fact that was passed is right and in order, or the list is refused at the fact at c.
-abbrev pub Looks : List ℕ → List ℕ → FactCursor → Result Walk Refusal → Type 0
-Looks s table c r =
-    MatchResult r (λ w. (end n from : ℕ) → Looked 8 s table end n from c → Looked 8 s table end n from w.post)
-    (λ e. (end n from : ℕ) → Looked 8 s table end n from c → ForRightByPlace table (λ sch ob. refused_by e ≡ facts as_written 8 sch ob s end n no_fact from))
+-- One turn from the cursor c to c': a fact that was passed is right and in order, or the list is refused by 8 at the fact at c.
+abbrev pub Looks : {A : Type 0} → List ℕ → List ℕ → FactCursor → Result A Refusal → FactCursor → Type 0
+Looks s table c r c' =
+    MatchResult r (λ _. (end n from : ℕ) → Looked 8 s table end n from c → Looked 8 s table end n from c')
+    (λ e. (refused_by e ≡ Refused 8 c.at) × ((end n from : ℕ) → Looked 8 s table end n from c → ForRightByPlace table (λ sch ob. refused_by e ≡ facts as_written 8 sch ob s end n no_fact from)))
 
 -- the facts from a cursor on, looked over and marked
 pub record RestMarked (s table atoms : List ℕ) (b : Binding) (c : FactCursor) (m m' : List ℕ) (r : Result Marked Refusal) : Type 0 where

@@ -97,41 +97,39 @@ struct Walk {
 // One fact more of a state, or of both. A fact that comes next in both is looked up once, and it suits, since it did before the step. Facts that are
 // no bound facts are merged by key: they stand in order, so of two that differ the one with the smaller key is in its list alone, and the other is
 // compared with those that follow. Bound facts are passed as they come: they are compared as sets, and to ask for their order costs time.
+// The walk goes on in place. Which bound fact a fact is, is asked behind the comparison: asked before it, the answer is held through it, and learning a
+// dense book took an eighth more instructions.
 fn mark_next(
     before: &mut [u8],
     after: &mut [u8],
     s: &[u8],
     table: &[u32; 512],
     lift: Lifting,
-    w: Walk,
-) -> Result<Walk, Refusal>
-    requires within { FactsWithin s.now w.pre × FactsWithin s.now (plain w.post) × (0 < w.pre.left) × (0 < w.post.left) }
-    requires suited { Suited table.now (rest s.now w.pre) × (w.post.size ≡ fact_size) × (w.post.key ≡ fact_key w.post.last) }
-    ensures next_marked { IfOk result (λ v. NextMarked s.now lift.entry.atoms.now lift.entry.binding w before.old after.old v before.new after.new) }
-    ensures looks { Looks s.now table.now w.post result }
+    w: &mut Walk,
+) -> Result<(), Refusal>
+    requires within { FactsWithin s.now w.old.pre × FactsWithin s.now (plain w.old.post) × (0 < w.old.pre.left) × (0 < w.old.post.left) }
+    requires suited { Suited table.now (rest s.now w.old.pre) × (w.old.post.size ≡ fact_size) × (w.old.post.key ≡ fact_key w.old.post.last) }
+    ensures next_marked { IfOk result (λ _. NextMarked s.now lift.entry.atoms.now lift.entry.binding w.old before.old after.old w.new before.new after.new) }
+    ensures looks { Looks s.now table.now w.old.post result w.new.post }
 {
     let p = w.pre;
     let q = w.post;
     let f = p.fact(s);
     let g = q.fact(s);
-    let x = lift.atom(f);
     if f == g {
         if !g.follows(q.last, q.key) {
             return Err(Reason::State.at(q.at));
         }
-        let post = q.next(s);
+        let x = lift.atom(f);
+        w.post = q.next(s);
         lifting::mark(after, x);
-        return Ok(Walk {
-            pre: pass(p, before, x),
-            post,
-            ..w
-        });
+        w.pre = pass(p, before, x);
+        return Ok(());
     }
+    let x = lift.atom(f);
     if x.is_some() {
-        return Ok(Walk {
-            pre: pass(p, before, x),
-            ..w
-        });
+        w.pre = pass(p, before, x);
+        return Ok(());
     }
     if q.bad(s, table) {
         return Err(Reason::State.at(q.at));
@@ -139,19 +137,14 @@ fn mark_next(
     let y = lift.atom(g);
     let unbound = y.is_none();
     if unbound & g.follows(f, f.key()) {
-        return Ok(Walk {
-            pre: pass(p, before, x),
-            changed: true,
-            ..w
-        });
+        w.pre = pass(p, before, x);
+        w.changed = true;
+        return Ok(());
     }
-    let post = q.next(s);
+    w.post = q.next(s);
     lifting::mark(after, y);
-    Ok(Walk {
-        post,
-        changed: w.changed | unbound,
-        ..w
-    })
+    w.changed |= unbound;
+    Ok(())
 }
 
 // The facts of the list at an offset, yet to be looked over.
@@ -196,7 +189,7 @@ pub fn mark_step(
         changed: false,
     };
     while (0 < w.pre.left) & (0 < w.post.left) {
-        w = mark_next(before, after, s, table, lift, w)?;
+        mark_next(before, after, s, table, lift, &mut w)?;
     }
     let only_before = mark_rest(before, s, lift, w.pre);
     let rest = look_rest(after, s, table, lift, w.post)?;

@@ -14,9 +14,9 @@ of_list-requires-2 c = (list_near c.requires.1, c.requires.1.within)
 pub loop-v-init : goal.loop-v-init
 loop-v-init c = merged_first _ _ _ _ _ _ c.of_list.ensures c.of_list-2.ensures c.requires.1
 
-pub returns-in_err-v : goal.returns-in_err-v
-returns-in_err-v c = let p = err_from_is_err_and c.from_residual.result c.from_residual.ensures.1 in
-    rw p.1 (merged_over c.loop-v.invariant c.in_err-v.ensures)
+pub returns-in_err-merge_next : goal.returns-in_err-merge_next
+returns-in_err-merge_next c = let p = err_from_is_err_and c.from_residual.result c.from_residual.ensures.1 in
+    rw p.1 (merged_over c.loop-v.invariant c.in_err-merge_next.ensures)
 
 pub returns-in_err-append_rest : goal.returns-in_err-append_rest
 returns-in_err-append_rest c = let p = err_from_is_err_and c.from_residual-in_err-append_rest.result c.from_residual-in_err-append_rest.ensures.1 in
