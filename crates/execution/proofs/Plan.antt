@@ -9,7 +9,19 @@ use Rattle.format.specs.Order.{plan_from}
 use Rattle.statemask.specs.Statemask.{MoveRules, Executed, execute}
 use Rattle.statemask.proofs.Plan.{execute_stop, execute_go}
 use Rattle.stepping.specs.Stepping.{StepExecuted}
-use Rattle.execution.specs.Execution.{Executes}
+use Rattle.execution.specs.Execution.{Executable, Executes}
+
+-- what is left of an executable plan behind its first step is executable
+pub executable_next : (l o : List ℕ) (n at : ℕ) → Executable l o n at → 0 < n → Executable l o (n - 1) (at + step_size)
+executable_next l o n at c some =
+    record {
+      end = let h = c.end in omega arith;
+      within = let h = c.within in omega arith;
+      steppable = λ i h.
+          let on : at + step_size * suc i ≡ at + step_size + step_size * i = omega arith in
+          let l : suc i < n = omega arith in
+          rw on at (c.steppable (suc i) l);
+    }
 
 plan_more : (o : List ℕ) (n at : ℕ) → 0 < n → plan_from o n at ≡ step_at o at ∷ plan_from o (n - 1) (at + step_size)
 unfolding plan_from
