@@ -54,7 +54,8 @@ pub fn records(
     let mut at = from;
     let mut total: usize = 0;
     let mut noticed = Noticed::default();
-    for _ in 0..n {
+    // A count of two bytes: what is held from a record to the next is counted in bytes (docs/ARCHITECTURE.md).
+    for _ in 0..n as u16 {
         let w = observe_from(s, at, short, h, observed, noticed)?;
         let head = Head::read(s, at);
         total += head.steps as usize;
